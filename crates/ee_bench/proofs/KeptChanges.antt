@@ -13,26 +13,28 @@ use Rattle.ee_pages.specs.Legal.{IsLegal}
 use Rattle.ee_pages.specs.Meaning as meaning
 use Rattle.ee_pages.specs.Meaning.{Change, Map, map_after, changed_by}
 use Rattle.ee_pages.specs.Sets.{live_of}
-use Rattle.ee_core.proofs.Public.{forget-at, forget-other, put-at, put-other, cut_map, cut_making, legal_on, lists_are_there_lem, state_in_on, changed_by-append, goes}
+use Rattle.ee_core.proofs.Public.{forget-at, forget-other, put-at, put-other, cut_clearing, cut_map, cut_making, still_none, legal_on, lists_are_there_lem, state_in_on, changed_by-append, goes}
 use Rattle.ee_core.specs.Calls.{IsCutClean}
 use Rattle.ee_core.specs.Changes.{IsCutChange, IsCutMaking}
+use Rattle.ee_core.specs.Emptying.{IsCutClear}
 use Rattle.ee_core.specs.Points.{Point, closed_point, with_power_on}
 use Rattle.ee_core.specs.Finished.{IsStore}
 use Rattle.ee_core.specs.Openings.{IsCutOpening, Opens}
 use Rattle.ee_core.specs.Puts.{HasAll, IsEachOnce, puts_of}
-use Rattle.ee_core.specs.Runs.{Call, Wrote, WroteAll, Forgot, DidRead, Cleaned as DidClean, Follows, changes_of_call, is_cut}
+use Rattle.ee_core.specs.Runs.{Call, Wrote, WroteAll, Forgot, DidRead, Cleared as DidClear, Cleaned as DidClean, Follows, changes_of_call, is_cut}
 use Rattle.ee_core.specs.State.{State, state_of}
 use Rattle.ee_core.specs.declared.change.Put as listed
 use Rattle.ee_core.specs.declared.opening.OpenFault.TheVariants as opening
+use Rattle.ee_core.specs.declared.variables.ClearFault.TheVariants as clear
 use Rattle.ee_core.specs.declared.variables.ForgetFault.TheVariants as forget
 use Rattle.ee_core.specs.declared.variables.WriteAllFault.TheVariants as all
 use Rattle.ee_core.specs.declared.variables.WriteFault.TheVariants as write
-use Rattle.ee_bench.specs.Events.{AreTurns, Happens, Idles, IsCalled, IsLookedFor, IsTurn, Reopens, Turn, WasDone, call_of_event, tells_of_a_cut, serves_after}
+use Rattle.ee_bench.specs.Events.{AreTurns, Happens, Idles, IsCalled, IsEmptied, IsLookedFor, IsTurn, Reopens, Turn, WasDone, call_of_event, tells_of_a_cut, serves_after}
 use Rattle.ee_bench.specs.Outcome.{AreValuesFrom, IsValueIn, WasKept, is_scan_fault, kept_by, kept_changes}
 use Rattle.ee_bench.specs.declared.event.Answer.{Answer}
-use Rattle.ee_bench.specs.declared.event.Answer.TheVariants.{Cleaned, Done, NotForgotten, NotOpened, NotWritten, Off, Opened, Refused, Value}
+use Rattle.ee_bench.specs.declared.event.Answer.TheVariants.{Cleaned, Cleared, Done, NotCleared, NotForgotten, NotOpened, NotWritten, Off, Opened, Refused, Value}
 use Rattle.ee_bench.specs.declared.event.Event.{Event}
-use Rattle.ee_bench.specs.declared.event.Event.TheVariants.{Clean, Forget, Get, Put, PutAll, Reopen}
+use Rattle.ee_bench.specs.declared.event.Event.TheVariants.{Clean, Clear, Forget, Get, Put, PutAll, Reopen}
 
 -- ---- a change that met a cut
 
@@ -73,6 +75,20 @@ puts_found old new puts (inl same) there = same ∙ sym (puts_again puts old (su
 puts_lost : (old new : Map) (puts : List listed.Put) → IsEachOnce puts → (new ≡ old) ⊎ (new ≡ changed_by (puts_of puts) old) → (HasAll puts new → ⊥) → new ≡ old
 puts_lost old new puts once (inl same) lost = same
 puts_lost old new puts once (inr done) lost = absurd (lost (subst (HasAll puts) (sym done) (lists_are_there_lem puts old once)))
+
+-- a map in which nothing has a value is as it is with each address forgotten
+clear_kept : (held : Bool) (old new : Device) → IsCutClear old new → (held ≡ true → IsEmptied (state_of new).map) → (IsEmptied (state_of new).map → held ≡ true)
+    → (state_of new).map ≡ changed_by (kept_by Clear (NotCleared clear.Cut) (Some held)) (state_of old).map
+clear_kept true old new cut emptied found = elim (cut_clearing old new cut) [
+  | inr cleared ↦ cleared.0
+  | inl same ↦
+      let none = emptied refl in
+      same ∙ fun_ext (λ (address : ℕ). ap (λ (map : Map). map address) (sym same) ∙ none address ∙ sym (still_none 1 65534 (state_of old).map address (ap (λ (map : Map). map address) (sym same) ∙ none address)))
+]
+clear_kept false old new cut emptied found = elim (cut_clearing old new cut) [
+  | inl same ↦ same
+  | inr cleared ↦ (let wrong = found cleared.1 in absurd (cc wrong))
+]
 
 -- ---- one turn
 
@@ -134,6 +150,10 @@ puts_done puts held old new called there found =
     let kept = puts_kept puts held old new called.1.0 called.1.1 there found in
     search (rules, cut, kept)
 
+clear_done : (held : Bool) (old new : Device) → IsOn old × IsCutClear old new × IsStore new → (held ≡ true → IsEmptied (state_of new).map) → (IsEmptied (state_of new).map → held ≡ true)
+    → Does true Clear (NotCleared clear.Cut) (Some held) old new
+clear_done held old new called emptied found = search (rules, clear_kept)
+
 clean_cut : (found : Option Bool) (old new : Device) → IsOn old × IsCutClean old new × IsStore new → found ≡ None → Does true Clean (Refused write.Cut) found old new
 clean_cut found old new called looked = search rules
 
@@ -175,6 +195,15 @@ get_turn : (address : ℕ) (answer : Answer) (found : Option Bool) (old new : De
     → IsLookedFor (Get address) answer found new → Does true (Get address) answer found old new
 get_turn address (Value value) found old new called looked = whole (DidRead address (Ok value)) (Get address) (Value value) found old new refl called looked refl refl refl called.1.0.1
 get_turn address answer found old new called looked = absurd called
+
+clear_turn : (answer : Answer) (found : Option Bool) (old new : Device) → IsCalled (call_of_event Clear answer) old new → IsLookedFor Clear answer found new → Does true Clear answer found old new
+clear_turn (Cleared true) found old new called looked = whole (DidClear (Ok true)) Clear (Cleared true) found old new refl called looked refl refl refl tt
+clear_turn (Cleared false) found old new called looked = whole (DidClear (Ok false)) Clear (Cleared false) found old new refl called looked refl refl refl tt
+clear_turn (NotCleared clear.Off) found old new called looked = whole (DidClear (Err clear.Off)) Clear (NotCleared clear.Off) found old new refl called looked refl refl refl tt
+clear_turn (NotCleared clear.Spent) found old new called looked = whole (DidClear (Err clear.Spent)) Clear (NotCleared clear.Spent) found old new refl called looked refl refl refl tt
+clear_turn (NotCleared clear.Cut) None old new called looked = absurd looked
+clear_turn (NotCleared clear.Cut) (Some held) old new called looked = clear_done held old new called looked.0 looked.1
+clear_turn answer found old new called looked = absurd called
 
 clean_turn : (answer : Answer) (found : Option Bool) (old new : Device) → IsCalled (call_of_event Clean answer) old new → IsLookedFor Clean answer found new → Does true Clean answer found old new
 clean_turn (Cleaned erased) found old new called looked = whole (DidClean (Ok erased)) Clean (Cleaned erased) found old new refl called looked refl refl refl tt
@@ -221,11 +250,13 @@ does true (Put address value) answer found old new happens looked = put_turn add
 does true (PutAll puts) answer found old new happens looked = put_all_turn puts answer found old new happens looked
 does true (Forget address) answer found old new happens looked = forget_turn address answer found old new happens looked
 does true (Get address) answer found old new happens looked = get_turn address answer found old new happens looked
+does true Clear answer found old new happens looked = clear_turn answer found old new happens looked
 does true Clean answer found old new happens looked = clean_turn answer found old new happens looked
 does false (Put address value) Off found old new same looked = off_turn (Put address value) Off found old new same looked tt refl
 does false (PutAll puts) Off found old new same looked = off_turn (PutAll puts) Off found old new same looked tt refl
 does false (Forget address) Off found old new same looked = off_turn (Forget address) Off found old new same looked tt refl
 does false (Get address) Off found old new same looked = off_turn (Get address) Off found old new same looked tt refl
+does false Clear Off found old new same looked = off_turn Clear Off found old new same looked tt refl
 does false Clean Off found old new same looked = off_turn Clean Off found old new same looked tt refl
 does false event answer found old new idles looked = absurd idles
 

@@ -1,3 +1,4 @@
+mod EmptiedMaps
 mod TurnByTurn
 mod ListedValues
 mod KeptChanges

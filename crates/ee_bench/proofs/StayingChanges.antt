@@ -8,13 +8,14 @@ use Rattle.ee_pages.specs.Legal.{IsLegal}
 use Rattle.ee_pages.specs.Meaning as meaning
 use Rattle.ee_pages.specs.Meaning.{Change, Map, map_after, changed_by}
 use Rattle.ee_pages.specs.Pending.{address_of}
-use Rattle.ee_core.proofs.Public.{forget-other, put-at, put-other, changed_by-append, changed_by-other, lists_are_there_lem, made, names-puts, apart}
+use Rattle.ee_core.proofs.Public.{forget-other, put-at, put-other, changed_by-append, changed_by-other, forgotten_has, lists_are_there_lem, made, names-puts, apart}
 use Rattle.ee_core.specs.Calls.{WritesAll}
 use Rattle.ee_core.specs.Points.{Point}
 use Rattle.ee_core.specs.Changes.{HasChange}
 use Rattle.ee_core.specs.Puts.{HasAll, is_put, puts_of}
 use Rattle.ee_core.specs.State.{State, state_of}
 use Rattle.ee_core.specs.declared.change.Put as listed
+use Rattle.ee_core.specs.declared.variables.ClearFault.TheVariants as clear
 use Rattle.ee_core.specs.declared.variables.WriteAllFault.TheVariants as all
 use Rattle.ee_core.specs.declared.variables.Written.{Written}
 use Rattle.ee_core.specs.declared.variables.Written.TheVariants.{Appended, Moved}
@@ -22,9 +23,9 @@ use Rattle.ee_bench.proofs.KeptChanges.{does_turn, no_answered_change_is_lost_le
 use Rattle.ee_bench.specs.Events.{AreTurns, Happens, IsLookedFor, IsTurn, Turn}
 use Rattle.ee_bench.specs.Outcome.{event_asks_change_of, kept_by, kept_changes}
 use Rattle.ee_bench.specs.declared.event.Answer.{Answer}
-use Rattle.ee_bench.specs.declared.event.Answer.TheVariants.{Done, NotForgotten, NotWritten, Refused}
+use Rattle.ee_bench.specs.declared.event.Answer.TheVariants.{Cleared, Done, NotCleared, NotForgotten, NotWritten, Refused}
 use Rattle.ee_bench.specs.declared.event.Event.{Event}
-use Rattle.ee_bench.specs.declared.event.Event.TheVariants.{Forget, Put, PutAll}
+use Rattle.ee_bench.specs.declared.event.Event.TheVariants.{Clear, Forget, Put, PutAll}
 
 -- ---- a change that was kept is there
 
@@ -69,6 +70,11 @@ there true (PutAll puts) (Done written) found change old new happens looked same
 there false (PutAll puts) (Done written) found change old new happens looked same kept = absurd happens
 there serving (PutAll puts) (NotWritten all.Cut) (Some true) change old new happens looked same kept = one_of_all puts.now (state_of new).map change (looked.0 refl) kept
 there serving (PutAll puts) (NotWritten fault) (Some true) change old new happens looked same kept = absurd cc
+there true Clear (Cleared true) found change old new happens looked same kept =
+    forgotten_has 1 65534 change (state_of new).map kept (λ address. ap (λ (state : State). state.map address) happens.1.state_is)
+there false Clear (Cleared true) found change old new happens looked same kept = absurd happens
+there serving Clear (NotCleared clear.Cut) (Some true) change old new happens looked same kept = forgotten_has 1 65534 change (state_of new).map kept (looked.0 refl)
+there serving Clear (NotCleared fault) (Some true) change old new happens looked same kept = absurd cc
 there serving event answer found change old new happens looked same kept = none_kept change (state_of new).map kept
 
 -- ---- it stays
@@ -85,6 +91,8 @@ elsewhere address (PutAll puts) (Done written) found map other = others_put addr
 elsewhere address (PutAll puts) (NotWritten fault) (Some true) map other = others_put address puts.now map other
 elsewhere address (Forget named) (Done written) found map other = forget-other map named address (apart named address other)
 elsewhere address (Forget named) (NotForgotten fault) (Some true) map other = forget-other map named address (apart named address other)
+elsewhere address Clear (Cleared true) found map other = absurd (cc other)
+elsewhere address Clear (NotCleared fault) (Some true) map other = absurd (cc other)
 elsewhere address event answer found map other = refl
 
 stays : (address : ℕ) (turns : List Turn) (map : Map) → All (λ (one : Turn). event_asks_change_of address one.event ≡ false) turns → changed_by (kept_changes turns) map address ≡ map address

@@ -1,21 +1,23 @@
 -- What happens when events drive a store through power cuts and openings: a run of turns, one for each event.
-use Rattle.std.specs.Prelude.{◌≡◌, ◌↔◌, ◌+◌, ◌&&◌, Bool, true, false, not, IsTrue, Option, Some, None, Ok, Err, List, [], ◌∷◌, map, min}
+use Rattle.std.specs.Prelude.{◌≡◌, ◌↔◌, ℕ, ◌+◌, ◌&&◌, Bool, true, false, not, IsTrue, Option, Some, None, Ok, Err, List, [], ◌∷◌, map, min}
 use Rattle.std.specs.List.{count_by, filter_map}
 use Rattle.ee_flash.specs.Device.{Device, IsOn, all_ones}
+use Rattle.ee_pages.specs.Meaning.{Map}
 use Rattle.ee_core.specs.Finished.{IsStore}
 use Rattle.ee_core.specs.Openings.{OpenFails, Opens}
 use Rattle.ee_core.specs.Points.{Point, closed_point, with_power_on}
 use Rattle.ee_core.specs.Puts.{HasAll}
-use Rattle.ee_core.specs.Runs.{Call, Wrote, WroteAll, Forgot, DidRead, Cleaned as DidClean, Follows}
+use Rattle.ee_core.specs.Runs.{Call, Wrote, WroteAll, Forgot, DidRead, Cleared as DidClear, Cleaned as DidClean, Follows}
 use Rattle.ee_core.specs.State.{state_of}
+use Rattle.ee_core.specs.declared.variables.ClearFault.TheVariants as clear
 use Rattle.ee_core.specs.declared.opening.OpenFault.TheVariants as opening
 use Rattle.ee_core.specs.declared.variables.ForgetFault.TheVariants as forget
 use Rattle.ee_core.specs.declared.variables.WriteAllFault.TheVariants as all
 use Rattle.ee_core.specs.declared.variables.WriteFault.TheVariants as write
 use Rattle.ee_bench.specs.declared.event.Answer.{Answer}
-use Rattle.ee_bench.specs.declared.event.Answer.TheVariants.{Cleaned, Done, NotForgotten, NotOpened, NotWritten, Off, Opened, Refused, Value}
+use Rattle.ee_bench.specs.declared.event.Answer.TheVariants.{Cleaned, Cleared, Done, NotCleared, NotForgotten, NotOpened, NotWritten, Off, Opened, Refused, Value}
 use Rattle.ee_bench.specs.declared.event.Event.{Event}
-use Rattle.ee_bench.specs.declared.event.Event.TheVariants.{Clean, Forget, Get, Put, PutAll, Reopen}
+use Rattle.ee_bench.specs.declared.event.Event.TheVariants.{Clean, Clear, Forget, Get, Put, PutAll, Reopen}
 
 -- An event with its answer, and whether the image right after it has the change, if power was cut in one.
 pub record Turn : Type 0 where
@@ -34,6 +36,8 @@ call_of_event (PutAll puts) (NotWritten fault) = Some (WroteAll puts.now (Err fa
 call_of_event (Forget address) (Done written) = Some (Forgot address (Ok written))
 call_of_event (Forget address) (NotForgotten fault) = Some (Forgot address (Err fault))
 call_of_event (Get address) (Value value) = Some (DidRead address (Ok value))
+call_of_event Clear (Cleared some) = Some (DidClear (Ok some))
+call_of_event Clear (NotCleared fault) = Some (DidClear (Err fault))
 call_of_event Clean (Cleaned erased) = Some (DidClean (Ok erased))
 call_of_event Clean (Refused fault) = Some (DidClean (Err fault))
 call_of_event event answer = None
@@ -66,6 +70,7 @@ abbrev pub tells_of_a_cut : Answer → Bool
 tells_of_a_cut (Refused write.Cut) = true
 tells_of_a_cut (NotWritten all.Cut) = true
 tells_of_a_cut (NotForgotten forget.Cut) = true
+tells_of_a_cut (NotCleared clear.Cut) = true
 tells_of_a_cut (NotOpened opening.Cut) = true
 tells_of_a_cut answer = false
 
@@ -75,8 +80,13 @@ serves_after serving Opened = true
 serves_after serving (NotOpened fault) = false
 serves_after serving answer = serving && not (tells_of_a_cut answer)
 
+-- no address has a value in this map
+abbrev pub IsEmptied : Map → Type 0
+IsEmptied map = (address : ℕ) → map address ≡ None
+
 -- What is looked for: after a cut in a put whether the address has that value, after one in a list whether it has all its
--- values, after one in a forgetting whether the address has none, and after nothing else.
+-- values, after one in a forgetting whether the address has none, after one in a clear whether no address has one, and
+-- after nothing else.
 abbrev pub IsLookedFor : Event → Answer → Option Bool → Device → Type 0
 IsLookedFor (Put address value) (Refused write.Cut) (Some held) new = IsTrue held ↔ ((state_of new).map address ≡ Some value)
 IsLookedFor (Put address value) (Refused write.Cut) None new = ⊥
@@ -84,6 +94,8 @@ IsLookedFor (PutAll puts) (NotWritten all.Cut) (Some held) new = IsTrue held ↔
 IsLookedFor (PutAll puts) (NotWritten all.Cut) None new = ⊥
 IsLookedFor (Forget address) (NotForgotten forget.Cut) (Some held) new = IsTrue held ↔ ((state_of new).map address ≡ None)
 IsLookedFor (Forget address) (NotForgotten forget.Cut) None new = ⊥
+IsLookedFor Clear (NotCleared clear.Cut) (Some held) new = IsTrue held ↔ IsEmptied (state_of new).map
+IsLookedFor Clear (NotCleared clear.Cut) None new = ⊥
 IsLookedFor event answer found new = found ≡ None
 
 -- one turn, from a point to the next

@@ -9,16 +9,17 @@ use Rattle.ee_pages.specs.Meaning.{Change, Map, changed_by}
 use Rattle.ee_pages.specs.Pending.{address_of}
 use Rattle.ee_core.specs.Points.{Point}
 use Rattle.ee_core.specs.Changes.{HasChange}
-use Rattle.ee_core.specs.Puts.{is_put, puts_of}
+use Rattle.ee_core.specs.Puts.{each_forgotten, is_put, puts_of}
 use Rattle.ee_core.specs.State.{state_of}
 use Rattle.ee_core.specs.declared.opening.OpenFault.TheVariants.{Scan}
 use Rattle.ee_bench.specs.Events.{AreTold, AreTurns, Turn, WasDone}
 use Rattle.ee_bench.specs.declared.event.Answer.{Answer}
-use Rattle.ee_bench.specs.declared.event.Answer.TheVariants.{Done, NotForgotten, NotOpened, NotWritten, Refused, Value}
+use Rattle.ee_bench.specs.declared.event.Answer.TheVariants.{Cleared, Done, NotCleared, NotForgotten, NotOpened, NotWritten, Refused, Value}
 use Rattle.ee_bench.specs.declared.event.Event.{Event}
-use Rattle.ee_bench.specs.declared.event.Event.TheVariants.{Forget, Get, Put, PutAll}
+use Rattle.ee_bench.specs.declared.event.Event.TheVariants.{Clear, Forget, Get, Put, PutAll}
 
--- the changes that an event kept: its own, if it was done, or found after a cut; those of a list all, or none
+-- the changes that an event kept: its own, if it was done, or found after a cut; those of a list all, or none; a clear
+-- forgets each address
 abbrev pub kept_by : Event → Answer → Option Bool → List Change
 kept_by (Put address value) (Done written) found = meaning.Put address value ∷ []
 kept_by (Put address value) (Refused fault) (Some true) = meaning.Put address value ∷ []
@@ -26,6 +27,8 @@ kept_by (PutAll puts) (Done written) found = puts_of puts.now
 kept_by (PutAll puts) (NotWritten fault) (Some true) = puts_of puts.now
 kept_by (Forget address) (Done written) found = meaning.Forget address ∷ []
 kept_by (Forget address) (NotForgotten fault) (Some true) = meaning.Forget address ∷ []
+kept_by Clear (Cleared true) found = each_forgotten
+kept_by Clear (NotCleared fault) (Some true) = each_forgotten
 kept_by event answer found = []
 
 -- the changes that were kept, in their order
@@ -68,11 +71,12 @@ abbrev pub NoAnsweredChangeIsLost : Type 0
 NoAnsweredChangeIsLost =
     (turns : List Turn) (old new : Point) → AreTurns turns old new → IsLegal old.device → WasKept turns old.device new.device
 
--- the event asks for a change of the address
+-- the event asks for a change of the address; a clear does of each
 abbrev pub event_asks_change_of : ℕ → Event → Bool
 event_asks_change_of address (Put named value) = named == address
 event_asks_change_of address (PutAll puts) = is_put puts.now address
 event_asks_change_of address (Forget named) = named == address
+event_asks_change_of address Clear = true
 event_asks_change_of address event = false
 
 -- A change that was kept stays, whatever is cut later, however often, in calls and in openings: as long as no further

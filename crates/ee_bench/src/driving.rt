@@ -6,14 +6,16 @@ ghost use Rattle.ee_core.specs.Finished.{IsStore};
 ghost use Rattle.ee_core.specs.Puts.{HasAll};
 ghost use Rattle.ee_core.specs.State.{state_of};
 ghost use Rattle.ee_bench.specs.Bench.{point_of_bench, turn_of};
-ghost use Rattle.ee_bench.specs.Events.{IsTurn};
+ghost use Rattle.ee_bench.specs.Events.{IsEmptied, IsTurn};
 ghost use Rattle.ee_bench.specs.Outcome.{Drives};
 
 use crate::event::{Answer, Driven, Event};
 use ee_codec::Address;
-use ee_core::{ForgetFault, Off, Put, Store, Variables, WriteAllFault, WriteFault, open};
+use ee_core::{
+    ClearFault, ForgetFault, Off, Put, Store, Variables, WriteAllFault, WriteFault, open,
+};
 use ee_flash::Flash;
-use ee_pages::{latest, scan};
+use ee_pages::{latest, next_live, scan};
 use std::alloc::{AllocError, Allocator};
 
 /// What is noted of an event.
@@ -90,6 +92,7 @@ impl<F: Flash + Drop> Bench<F> {
                 Event::PutAll(puts) => put_all(store, puts),
                 Event::Forget { address } => forget(store, address),
                 Event::Get { address } => get(store, address),
+                Event::Clear => clear(store),
                 Event::Clean => clean(store),
                 Event::Reopen => reopen(store.into_flash()),
             },
@@ -162,6 +165,24 @@ fn get<F: Flash + Drop>(store: Store<F>, address: Address) -> (Bench<F>, Note)
     (Bench::of(store), Note::of(answer))
 }
 
+fn clear<F: Flash + Drop>(store: Store<F>) -> (Bench<F>, Note)
+    ensures { IsTurn (turn_of Event.Clear result.1)
+        (open_point store) (point_of_bench F.device result.0) }
+{
+    let mut store = store;
+    match store.clear() {
+        Ok(some) => (Bench::of(store), Note::of(Answer::Cleared(some))),
+        Err(ClearFault::Off) => (Bench::of(store), Note::of(Answer::Off)),
+        Err(ClearFault::Cut) => {
+            let flash = store.into_flash();
+            let found = is_emptied(&flash);
+            let note = Note::looked(Answer::NotCleared(ClearFault::Cut), found);
+            (Bench::Bare(flash), note)
+        }
+        Err(fault) => (Bench::of(store), Note::of(Answer::NotCleared(fault))),
+    }
+}
+
 fn clean<F: Flash + Drop>(store: Store<F>) -> (Bench<F>, Note)
     ensures { IsTurn (turn_of Event.Clean result.1)
         (open_point store) (point_of_bench F.device result.0) }
@@ -196,6 +217,17 @@ fn value_in<F: Flash>(flash: &F, address: Address) -> Option<u32>
     match scan(flash) {
         Ok(layout) => latest(flash, &layout, address),
         Err(_) => None,
+    }
+}
+
+/// Whether the image gives no address a value, whether power is on or off.
+fn is_emptied<F: Flash>(flash: &F) -> bool
+    requires { IsLegal (F.device flash.now) }
+    ensures { IsTrue result ↔ IsEmptied (state_of (F.device flash.now)).map }
+{
+    match scan(flash) {
+        Ok(layout) => next_live(flash, &layout, None).is_none(),
+        Err(_) => false,
     }
 }
 

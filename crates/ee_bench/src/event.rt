@@ -1,6 +1,6 @@
 //! What a store at the bench is asked, what it answers, and what a list of events leaves.
 use ee_codec::Address;
-use ee_core::{ForgetFault, OpenFault, Put, WriteAllFault, WriteFault, Written};
+use ee_core::{ClearFault, ForgetFault, OpenFault, Put, WriteAllFault, WriteFault, Written};
 use ee_flash::Flash;
 use std::alloc::{Allocator, Global};
 
@@ -17,6 +17,8 @@ pub enum Event<'a> {
     Forget { address: Address },
     /// The value of the address is asked.
     Get { address: Address },
+    /// No address is to have a value.
+    Clear,
     /// A clean step is asked.
     Clean,
     /// The device is given back, if a store is open; power is turned on, and the store is opened.
@@ -32,6 +34,8 @@ pub enum Answer {
     Done(Written),
     /// The value that the address has, if it has one.
     Value(Option<u32>),
+    /// Whether the clear found a slot used, and emptied the store.
+    Cleared(bool),
     /// Whether the clean step found a page to erase, and erased it.
     Cleaned(bool),
     /// A store is open.
@@ -42,6 +46,8 @@ pub enum Answer {
     NotWritten(WriteAllFault),
     /// Why a forgetting is not done; never `Off`.
     NotForgotten(ForgetFault),
+    /// Why a clear is not done; never `Off`.
+    NotCleared(ClearFault),
     /// Why no store is open.
     NotOpened(OpenFault),
     /// No store is open, or its device is off. Nothing changed.
@@ -57,8 +63,8 @@ pub struct Driven<F: Flash + Drop, A: Allocator = Global> {
     pub flash: F,
     /// The answers, one for each event.
     pub log: Vec<Answer, A>,
-    /// Whether the image right after the event had its change, for each put, each list and each
-    /// forgetting in which power was cut, in their order: the address has that value, each address of
-    /// the list has its value, or the address has none.
+    /// Whether the image right after the event had its change, for each put, each list, each
+    /// forgetting and each clear in which power was cut, in their order: the address has that value,
+    /// each address of the list has its value, the address has none, or no address has one.
     pub kept: Vec<bool, A>,
 }

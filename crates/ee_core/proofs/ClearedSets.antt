@@ -6,33 +6,32 @@ use Rattle.ee_flash.specs.Device.{Device, IsFormed, page_at}
 use Rattle.ee_flash.specs.Power.{GoesOn}
 use Rattle.ee_flash.specs.Size.{Size}
 use Rattle.ee_flash.specs.Step.{IsPartlyErased}
-use Rattle.ee_pages.specs.Laws.{KeepsLiveSet}
+use Rattle.ee_pages.specs.Laws.{KeepsSide}
 use Rattle.ee_pages.specs.Page.{is_blank}
 use Rattle.ee_pages.specs.Sets.{first_page, other, set_of}
 use Rattle.ee_pages.specs.declared.side.Side.{Side}
-use Rattle.ee_pages.proofs.Public.{length-set_of}
+use Rattle.ee_pages.proofs.Public.{keeps_side_both, length-set_of}
 use Rattle.ee_core.specs.Cuts.{ErasesPartly}
-use Rattle.ee_core.specs.Parts.{IsSameBut, IsSameSet}
+use Rattle.ee_core.specs.Parts.{IsSameBut}
 use Rattle.ee_core.specs.State.{Wears, not_blank_from, not_blank_in}
 use Rattle.ee_core.proofs.AfterCalls.{goes_on_both}
 use Rattle.ee_core.proofs.Cuts.{erases_partly}
 use Rattle.ee_core.proofs.ErasedPages.{all_wear, wears_next, wears_to}
 use Rattle.ee_core.proofs.FormatFacts.{BlanksPage}
-use Rattle.ee_core.proofs.MovingFacts.{all_blank, keeps_both}
+use Rattle.ee_core.proofs.MovingFacts.{all_blank}
 use Rattle.ee_core.proofs.PendingCounts.{page_there}
 
 -- what that leaves, up to a page
-pub record ClearedTo (old now : Device) (side : Side) (generation first page : ℕ) : Type 0 where
-  pub keeps : KeepsLiveSet old now side generation
+pub record ClearedTo (old now : Device) (side : Side) (first page : ℕ) : Type 0 where
+  pub keeps : KeepsSide old now side
   pub blank : (k : ℕ) → first ≤ k → k < page → is_blank (page_at now k) ≡ true
   pub rest : (k : ℕ) → (k < first) ⊎ (page ≤ k) → page_at now k ≡ page_at old k
   pub wear : Wears (not_blank_from first (take (page - first) (set_of (other side) old))) old now
-  pub same : IsSameSet side old now
   pub goes : GoesOn old now
 
-module _ (side : Side) (generation : ℕ) (old : Device) (first pages : ℕ) (formed : IsFormed old) (first_is : first ≡ first_page old.size (other side)) (pages_is : pages ≡ old.size.pages) where
+module _ (side : Side) (old : Device) (first pages : ℕ) (formed : IsFormed old) (first_is : first ≡ first_page old.size (other side)) (pages_is : pages ≡ old.size.pages) where
   -- the whole set
-  pub all_cleared : (new : Device) (page : ℕ) → IsFormed new → page ≡ first + pages → ClearedTo old new side generation first page → All (λ words. is_blank words ≡ true) (set_of (other side) new) × Wears (not_blank_in (other side) old) old new
+  pub all_cleared : (new : Device) (page : ℕ) → IsFormed new → page ≡ first + pages → ClearedTo old new side first page → All (λ words. is_blank words ≡ true) (set_of (other side) new) × Wears (not_blank_in (other side) old) old new
   all_cleared new page new_formed end all =
       let start = ap (λ (size : Size). first_page size (other side)) all.keeps.same_size in let counted = ap (λ (size : Size). size.pages) all.keeps.same_size in
       let long : page - first ≡ length (set_of (other side) old) = omega (arith, length-set_of (other side) old formed, pages_is, end) in (
@@ -40,7 +39,7 @@ module _ (side : Side) (generation : ℕ) (old : Device) (first pages : ℕ) (fo
         subst (λ n. Wears (not_blank_from n (set_of (other side) old)) old new) first_is (all_wear (set_of (other side) old) first (page - first) old new long all.wear),
       )
 
-  module _ (mid : Device) (page : ℕ) (from : first ≤ page) (below : page < first + pages) (so_far : ClearedTo old mid side generation first page) where
+  module _ (mid : Device) (page : ℕ) (from : first ≤ page) (below : page < first + pages) (so_far : ClearedTo old mid side first page) where
     at : first + (page - first) ≡ page
     at = omega (arith, from)
 
@@ -51,11 +50,11 @@ module _ (side : Side) (generation : ℕ) (old : Device) (first pages : ℕ) (fo
     there = page_there (other side) old formed first first_is page from (omega (arith, below, pages_is)) ∙ sym (so_far.rest page (inr (omega arith)))
 
     -- one page more
-    pub cleared_next : (new : Device) → KeepsLiveSet mid new side generation → IsSameSet side mid new → BlanksPage mid new page → ClearedTo old new side generation first (page + 1)
-    cleared_next new keeps same step =
+    pub cleared_next : (new : Device) → KeepsSide mid new side → BlanksPage mid new page → ClearedTo old new side first (page + 1)
+    cleared_next new keeps step =
         let next : page - first + 1 ≡ page + 1 - first = omega (arith, from) in
         record {
-          keeps = keeps_both old mid new side generation so_far.keeps keeps;
+          keeps = keeps_side_both old mid new side so_far.keeps keeps;
           blank = λ k low high. elim (cases_eq k page) [
             | inl here ↦ ap (λ n. is_blank (page_at new n)) here ∙ step.blank
             | inr away ↦ ap is_blank (step.others k away) ∙ so_far.blank k low (omega (arith, away, high))
@@ -65,7 +64,6 @@ module _ (side : Side) (generation : ℕ) (old : Device) (first pages : ℕ) (fo
             | inr high ↦ step.others k (λ e. omega (arith, e, high)) ∙ so_far.rest k (inr (omega (arith, high)))
           ];
           wear = subst (λ n. Wears (not_blank_from first (take n (set_of (other side) old))) old new) next (wears_next (set_of (other side) old) first (page - first) page old mid new at within there so_far.wear step.wear);
-          same = same ∙ so_far.same;
           goes = goes_on_both old mid new so_far.goes step.power;
         }
 

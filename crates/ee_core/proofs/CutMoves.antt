@@ -10,6 +10,7 @@ use Rattle.ee_flash.specs.declared.word.Word.{Word}
 use Rattle.ee_flash.specs.declared.word.Word.TheVariants.{Erased}
 use Rattle.ee_pages.specs.Legal.{slots_before}
 use Rattle.ee_pages.specs.Sets.{first_page, other, page_of_slot, place_of_slot}
+use Rattle.ee_pages.specs.declared.find.Layout.{Layout}
 use Rattle.ee_pages.specs.declared.side.Side.{Side}
 use Rattle.ee_pages.specs.declared.side.Side.TheVariants.{First, Second}
 use Rattle.ee_pages.specs.Laws.{IsPageOf}
@@ -20,7 +21,7 @@ use Rattle.ee_core.specs.Openings.{FormatsPartly, not_blank_pages}
 use Rattle.ee_core.specs.State.{Wears}
 use Rattle.ee_pages.specs.declared.state.Mark.TheVariants.{Active, Receive}
 use Rattle.ee_core.proofs.Cuts.{IsOnTheWay, drawn_between, mark_drawn_partly, put_apart_partly, put_partly}
-use Rattle.ee_core.proofs.Drawings.{drawn_both, page_of_its_set, put_apart, with_mark}
+use Rattle.ee_core.proofs.Drawings.{drawn_both, put_apart, with_mark}
 use Rattle.ee_core.proofs.FilledSets.{near, one_word_more, opens_further}
 use Rattle.ee_core.specs.Transfers.{OpensForSlot}
 use Rattle.ee_core.proofs.MovedSets.{all_marked, blank_drawn, committed, first_opened, opens_blank, same_retired}
@@ -81,7 +82,6 @@ committed_way size generation words page at =
 -- is part of what it is filled with in the end
 pub partly_longer : (old new : Device) (side : Side) (generation count : ℕ) (more rest : List Word) → IsFormed new → AddsPartly old new side generation count more → AddsPartly old new side generation count (more ++ rest)
 partly_longer old new side generation count more rest formed adds = record {
-  live_pages = adds.live_pages;
   new_pages = λ words long holds.
       let all = words ++ more in let some : 0 < new.size.words - 4 = omega (arith, formed.within_limits.some_words) in
       let last = page_of_slot new.size (length all - 1) in let later = page_of_slot new.size (length (all ++ rest) - 1) in
@@ -93,9 +93,8 @@ partly_longer old new side generation count more rest formed adds = record {
 }
 
 -- more words, and then some in part
-pub adds_then : (old mid new : Device) (side : Side) (generation count : ℕ) (more further : List Word) → mid.size ≡ old.size → new.size ≡ mid.size → AddsWords old mid side generation count more → AddsPartly mid new side generation (count + length more) further → AddsPartly old new side generation count (more ++ further)
-adds_then old mid new side generation count more further first_sizes second_sizes first second = record {
-  live_pages = drawn_both side old mid new first_sizes second_sizes first.live_pages second.live_pages;
+pub adds_then : (old mid new : Device) (side : Side) (generation count : ℕ) (more further : List Word) → AddsWords old mid side generation count more → AddsPartly mid new side generation (count + length more) further → AddsPartly old new side generation count (more ++ further)
+adds_then old mid new side generation count more further first second = record {
   new_pages = λ words long holds.
       subst (λ (all : List Word). FillsPartly new (other side) generation all) (append_assoc words more further)
       (second.new_pages (words ++ more) (length-append words more ∙ ap (λ n. n + length more) long) (first.new_pages words long holds));
@@ -104,10 +103,9 @@ adds_then old mid new side generation count more further first_sizes second_size
 -- ---- one word more
 
 -- cut in the receive word of its page
-pub receive_partly : (old new : Device) (side : Side) (generation count : ℕ) (word : Word) → IsFormed old → new.size ≡ old.size → page_of_slot old.size count < old.size.pages → IsDrawn side new (picture_of side old)
+pub receive_partly : (old new : Device) (side : Side) (generation count : ℕ) (word : Word) → IsFormed old → new.size ≡ old.size → page_of_slot old.size count < old.size.pages
     → SetsPartly (first_page old.size (other side) + page_of_slot old.size count) (Receive generation) old new → AddsPartly old new side generation count (word ∷ [])
-receive_partly old new side generation count word formed sizes h live sets = record {
-  live_pages = live;
+receive_partly old new side generation count word formed sizes h sets = record {
   new_pages = λ words long holds.
       let k = page_of_slot old.size count in let last = page_of_slot old.size (count - 1) in let all = words ++ (word ∷ []) in
       let some : 0 < old.size.words - 4 = omega (arith, formed.within_limits.some_words) in
@@ -219,15 +217,16 @@ format_cut_then start old mid new wear formed mid_formed first_sizes second_size
 -- ---- a transfer
 
 -- the word behind the receive word of its page
-pub stage_partly : (old mid new : Device) (side : Side) (generation count : ℕ) (word : Word) → OpensForSlot old mid side generation count → IsFormed mid → new.size ≡ mid.size → page_of_slot mid.size count < mid.size.pages → place_of_slot mid.size count < mid.size.words
-    → PutsPartly (first_page mid.size (other side) + page_of_slot mid.size count) (place_of_slot mid.size count) word mid new → AddsPartly old new side generation count (word ∷ [])
-stage_partly old mid new side generation count word first formed sizes h inside puts = record {
-  live_pages = drawn_both side old mid new first.sizes sizes first.live_pages (put_apart_partly side mid new _ _ word sizes (page_of_its_set mid.size (other side) (page_of_slot mid.size count) h) puts);
+pub stage_partly : (old mid new : Device) (layout : Layout) (count : ℕ) (word : Word) → OpensForSlot old mid layout count → IsFormed mid → new.size ≡ mid.size → page_of_slot mid.size count < mid.size.pages → place_of_slot mid.size count < mid.size.words
+    → PutsPartly (first_page mid.size (other layout.side) + page_of_slot mid.size count) (place_of_slot mid.size count) word mid new → AddsPartly old new layout.side (layout.generation + 1) count (word ∷ [])
+stage_partly old mid new layout count word first formed sizes h inside puts = record {
   new_pages = λ words long holds.
-      let before : IsDrawn (other side) old (opened_set old.size generation (page_of_slot old.size (count - 1)) words) = subst (λ n. IsDrawn (other side) old (opened_set old.size generation (page_of_slot old.size (n - 1)) words)) long holds in
-      let open_now : IsDrawn (other side) mid (opened_set mid.size generation (page_of_slot mid.size count) words) =
-      subst (λ (size : Size). IsDrawn (other side) mid (opened_set size generation (page_of_slot size count) words)) (sym first.sizes) (first.opens words long before) in
-      word_partly mid new side generation count word formed sizes h inside puts words long open_now;
+      let side = other layout.side in
+      let generation = layout.generation + 1 in
+      let before : IsDrawn side old (opened_set old.size generation (page_of_slot old.size (count - 1)) words) = subst (λ n. IsDrawn side old (opened_set old.size generation (page_of_slot old.size (n - 1)) words)) long holds in
+      let open_now : IsDrawn side mid (opened_set mid.size generation (page_of_slot mid.size count) words) =
+      subst (λ (size : Size). IsDrawn side mid (opened_set size generation (page_of_slot size count) words)) (sym first.keeps.same_size) (first.opens words long before) in
+      word_partly mid new layout.side generation count word formed sizes h inside puts words long open_now;
 }
 
 -- the elements up to an address come first

@@ -120,9 +120,6 @@ put_there page at value old new p k n formed h inside page_is at_is value_is don
 pub same_size_of : (page at value : ℕ) (old new : Device) → new ≡ with_word_programmed page at value old → new.size ≡ old.size
 same_size_of page at value old new done = ap (λ (device : Device). device.size) done
 
-pub page_of_its_set : (size : Size) (side : Side) (k : ℕ) → k < size.pages → IsPageOf size side (first_page size side + k)
-page_of_its_set size side k h = record { from = omega arith; below = omega arith }
-
 -- and marking sets its mark
 pub sets_mark : (page : ℕ) (mark : Mark) (old new : Device) → IsFormed old → page < page_count old.size → (is_marked old page mark ≡ true → new ≡ old) → (is_marked old page mark ≡ false → new ≡ device_after (marking page mark) old) → SetsMark page mark old new
 sets_mark page mark old new formed h present done =

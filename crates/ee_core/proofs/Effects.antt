@@ -2,11 +2,13 @@
 use Rattle.std.proofs.Common.{◌≡◌, Bool, true, false, Ok, Err, List, [], ◌∷◌, refl}
 use Rattle.ee_flash.specs.Device.{Device}
 use Rattle.ee_pages.specs.Meaning.{Change, Put, Forget}
+use Rattle.ee_core.proofs.Emptying.{clear_moves}
 use Rattle.ee_core.specs.Calls.{ErasesOne}
 use Rattle.ee_core.specs.Changes.{Appends, Moves}
-use Rattle.ee_core.specs.Puts.{puts_of}
+use Rattle.ee_core.specs.Puts.{each_forgotten, puts_of}
 use Rattle.ee_core.specs.declared.variables.WriteAllFault.TheVariants as all
-use Rattle.ee_core.specs.Runs.{Call, Wrote, WroteAll, Forgot, Cleaned, DidRead, Follows, changes_of_call, is_cut, is_transfer}
+use Rattle.ee_core.specs.Runs.{Call, Wrote, WroteAll, Forgot, Cleared, Cleaned, DidRead, Follows, changes_of_call, is_cut, is_transfer}
+use Rattle.ee_core.specs.declared.variables.ClearFault.TheVariants as clear
 use Rattle.ee_core.specs.declared.variables.ForgetFault.TheVariants as forget
 use Rattle.ee_core.specs.declared.variables.WriteFault.TheVariants as write
 use Rattle.ee_core.specs.declared.variables.Written.TheVariants.{Appended, Moved}
@@ -40,6 +42,11 @@ by_effect holds (Forgot address (Err forget.Off)) old new whole done nothing app
 by_effect holds (Forgot address (Err forget.Absent)) old new whole done nothing appends moves erases = nothing done.2
 by_effect holds (Forgot address (Err forget.Spent)) old new whole done nothing appends moves erases = nothing done.3
 by_effect holds (Forgot address (Err forget.Cut)) old new whole done nothing appends moves erases = absurd cc
+by_effect holds (Cleared (Ok true)) old new whole done nothing appends moves erases = moves each_forgotten (clear_moves old new done)
+by_effect holds (Cleared (Ok false)) old new whole done nothing appends moves erases = nothing done.2
+by_effect holds (Cleared (Err clear.Off)) old new whole done nothing appends moves erases = nothing done.1
+by_effect holds (Cleared (Err clear.Spent)) old new whole done nothing appends moves erases = nothing done.3
+by_effect holds (Cleared (Err clear.Cut)) old new whole done nothing appends moves erases = absurd cc
 by_effect holds (Cleaned (Ok true)) old new whole done nothing appends moves erases = erases refl done
 by_effect holds (Cleaned (Ok false)) old new whole done nothing appends moves erases = nothing done.2
 by_effect holds (Cleaned (Err write.Off)) old new whole done nothing appends moves erases = nothing done.1

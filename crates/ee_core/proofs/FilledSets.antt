@@ -13,8 +13,9 @@ use Rattle.ee_pages.specs.Legal.{slots_before}
 use Rattle.ee_pages.specs.Sets.{first_page, other, page_of_slot, place_of_slot}
 use Rattle.ee_pages.specs.declared.side.Side.{Side}
 use Rattle.ee_pages.specs.declared.state.Mark.TheVariants.{Receive}
-use Rattle.ee_pages.proofs.Public.{split_by}
-use Rattle.ee_core.proofs.Drawings.{drawn_as, drawn_both, drawn_same, mark_drawn, put_drawn, with_mark, with_word-elsewhere, with_word-there}
+use Rattle.ee_pages.proofs.Public.{keeps_side_same, split_by}
+use Rattle.ee_pages.specs.declared.find.Layout.{Layout}
+use Rattle.ee_core.proofs.Drawings.{drawn_as, drawn_same, mark_drawn, put_drawn, with_mark, with_word-elsewhere, with_word-there}
 use Rattle.ee_core.proofs.OpenedPages.{next_place, same_place}
 use Rattle.ee_core.specs.Parts.{AddsWords, Holds, PutsWord, SetsMark, number_written, opened_set}
 use Rattle.ee_core.specs.Picture.{IsDrawn, picture_with_word}
@@ -107,31 +108,39 @@ slot_holds side old new generation last count words word long sizes puts drawn =
     (λ page at _ within. one_word_more old.size generation last count words word page at long (omega (arith, ap (λ (size : Size). size.words) sizes)))
 
 -- more words after some
-pub adds_both : (old mid new : Device) (side : Side) (generation count : ℕ) (more further : List Word) → mid.size ≡ old.size → new.size ≡ mid.size → AddsWords old mid side generation count more → AddsWords mid new side generation (count + length more) further → AddsWords old new side generation count (more ++ further)
-adds_both old mid new side generation count more further first_sizes second_sizes first second = record {
-  live_pages = drawn_both side old mid new first_sizes second_sizes first.live_pages second.live_pages;
+pub adds_both : (old mid new : Device) (side : Side) (generation count : ℕ) (more further : List Word) → AddsWords old mid side generation count more → AddsWords mid new side generation (count + length more) further → AddsWords old new side generation count (more ++ further)
+adds_both old mid new side generation count more further first second = record {
   new_pages = λ words long holds.
       subst (λ (all : List Word). Holds new (other side) generation all) (append_assoc words more further)
       (second.new_pages (words ++ more) (length-append words more ∙ ap (λ n. n + length more) long) (first.new_pages words long holds));
 }
 
 -- the page of the first free slot may be open
-pub open_already : (device : Device) (side : Side) (generation count : ℕ) → IsFilling device (other side) generation count → count % (device.size.words - 4) ≢ 0 → OpensForSlot device device side generation count
-open_already device side generation count filling inside = search (rules, drawn_same, same_place)
+pub open_already : (device : Device) (layout : Layout) (count : ℕ) → IsFilling device (other layout.side) (layout.generation + 1) count → count % (device.size.words - 4) ≢ 0 → OpensForSlot device device layout count
+open_already device layout count filling inside =
+    let some : 0 < device.size.words - 4 = omega (arith, filling.formed.within_limits.some_words) in
+    record {
+      keeps = keeps_side_same device layout.side filling.formed;
+      filling = filling;
+      same_slots = refl;
+      opens = λ words _ drawn. subst (λ last. IsDrawn (other layout.side) device (opened_set device.size (layout.generation + 1) last words)) (sym (same_place count (device.size.words - 4) some (inr inside))) drawn;
+      wear = refl;
+    }
 
 -- and then a word stands in it
-pub stages : (old mid new : Device) (side : Side) (generation count : ℕ) (change : Change) → OpensForSlot old mid side generation count → PutsInSlot mid new side generation count change → AddsWords old new side generation count (Held (number_written change) ∷ [])
-stages old mid new side generation count change first second = record {
-  live_pages = drawn_both side old mid new first.sizes second.sizes first.live_pages second.live_pages;
+pub stages : (old mid new : Device) (layout : Layout) (count : ℕ) (change : Change) → OpensForSlot old mid layout count → PutsInSlot mid new layout count change → AddsWords old new layout.side (layout.generation + 1) count (Held (number_written change) ∷ [])
+stages old mid new layout count change first second = record {
   new_pages = λ words long holds.
+      let side = other layout.side in
+      let generation = layout.generation + 1 in
       let word = Held (number_written change) in
-      let before : IsDrawn (other side) old (opened_set old.size generation (page_of_slot old.size (count - 1)) words) = subst (λ n. IsDrawn (other side) old (opened_set old.size generation (page_of_slot old.size (n - 1)) words)) long holds in
-      let open_now : IsDrawn (other side) mid (opened_set mid.size generation (page_of_slot mid.size count) words) =
-      subst (λ (size : Size). IsDrawn (other side) mid (opened_set size generation (page_of_slot size count) words)) (sym first.sizes) (first.opens words long before) in
+      let before : IsDrawn side old (opened_set old.size generation (page_of_slot old.size (count - 1)) words) = subst (λ n. IsDrawn side old (opened_set old.size generation (page_of_slot old.size (n - 1)) words)) long holds in
+      let open_now : IsDrawn side mid (opened_set mid.size generation (page_of_slot mid.size count) words) =
+      subst (λ (size : Size). IsDrawn side mid (opened_set size generation (page_of_slot size count) words)) (sym first.keeps.same_size) (first.opens words long before) in
       let last : count ≡ length (words ++ (word ∷ [])) - 1 = omega (arith, length-append words (word ∷ []), long) in
-      let there : IsDrawn (other side) new (opened_set mid.size generation (page_of_slot mid.size (length (words ++ (word ∷ [])) - 1)) (words ++ (word ∷ []))) =
-      subst (λ n. IsDrawn (other side) new (opened_set mid.size generation (page_of_slot mid.size n) (words ++ (word ∷ [])))) last (second.puts words long open_now) in
-      subst (λ (size : Size). IsDrawn (other side) new (opened_set size generation (page_of_slot size (length (words ++ (word ∷ [])) - 1)) (words ++ (word ∷ [])))) (sym second.sizes) there;
+      let there : IsDrawn side new (opened_set mid.size generation (page_of_slot mid.size (length (words ++ (word ∷ [])) - 1)) (words ++ (word ∷ []))) =
+      subst (λ n. IsDrawn side new (opened_set mid.size generation (page_of_slot mid.size n) (words ++ (word ∷ [])))) last (second.puts words long open_now) in
+      subst (λ (size : Size). IsDrawn side new (opened_set size generation (page_of_slot size (length (words ++ (word ∷ [])) - 1)) (words ++ (word ∷ [])))) (sym second.keeps.same_size) there;
 }
 
 pub adds_none : (device : Device) (side : Side) (generation count : ℕ) → AddsWords device device side generation count []

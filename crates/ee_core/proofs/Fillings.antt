@@ -24,16 +24,17 @@ use Rattle.ee_core.proofs.CopiedMaps.{at_first, at_last, changed_by-append, chan
 use Rattle.ee_core.proofs.CopiedWords.{all_words, copied_word, no_words, others, passed_word}
 use Rattle.ee_core.proofs.CutMoves.{adds_then, elements_front, partly_longer}
 use Rattle.ee_core.proofs.FilledSets.{adds_both, adds_none}
-use Rattle.ee_core.proofs.MovingFacts.{keeps_both, keeps_same}
+use Rattle.ee_pages.proofs.Public.{keeps_side_both, keeps_side_same}
+use Rattle.ee_core.proofs.MovingFacts.{side_map}
 use Rattle.ee_core.proofs.ShownStates.{moved_words_are_live_lem}
 
 -- some words, and then more
 pub both_filled : (old mid new : Device) (layout : Layout) (count slot written : ℕ) (words more : List Word) (held map : Map) → Filled old mid layout count words held slot → Filled mid new layout slot more map written → Filled old new layout count (words ++ more) map written
 both_filled old mid new layout count slot written words more held map first second = record {
-  keeps = keeps_both old mid new layout.side layout.generation first.keeps second.keeps;
+  keeps = keeps_side_both old mid new layout.side first.keeps second.keeps;
   filling = second.filling;
   map_is = second.map_is;
-  adds = adds_both old mid new layout.side (layout.generation + 1) count words more first.keeps.same_size second.keeps.same_size first.adds
+  adds = adds_both old mid new layout.side (layout.generation + 1) count words more first.adds
       (subst (λ n. AddsWords mid new layout.side (layout.generation + 1) n more) first.as_many second.adds);
   as_many = omega (arith, first.as_many, second.as_many, length-append words more);
   wear = second.wear ∙ first.wear;
@@ -42,8 +43,8 @@ both_filled old mid new layout count slot written words more held map first seco
 -- or more in part
 pub then_partly : (old mid new : Device) (layout : Layout) (count slot : ℕ) (words more : List Word) (held : Map) → Filled old mid layout count words held slot → FilledPartly mid new layout slot more → FilledPartly old new layout count (words ++ more)
 then_partly old mid new layout count slot words more held first second = record {
-  keeps = keeps_both old mid new layout.side layout.generation first.keeps second.keeps;
-  begun = adds_then old mid new layout.side (layout.generation + 1) count words more first.keeps.same_size second.keeps.same_size first.adds
+  keeps = keeps_side_both old mid new layout.side first.keeps second.keeps;
+  begun = adds_then old mid new layout.side (layout.generation + 1) count words more first.adds
       (subst (λ n. AddsPartly mid new layout.side (layout.generation + 1) n more) first.as_many second.begun);
   wear = second.wear ∙ first.wear;
 }
@@ -66,7 +67,7 @@ module _ (old : Device) (layout : Layout) (place : Place) (changes : List Change
 
   pub none_filled : IsOpenAt old layout place → ((address : ℕ) → names changes address ≡ false → start address ≡ None) → FilledTo 0 old place.slot
   none_filled at only = record {
-    keeps = keeps_same old layout at.found;
+    keeps = keeps_side_same old layout.side at.filling.formed;
     filling = at.filling;
     map_is = at_first start map (names changes) (meaning-zero (slots_of (set_of layout.side old))) only;
     adds = subst (λ (words : List Word). AddsWords old old layout.side (layout.generation + 1) place.slot words) (sym (no_words map changes)) (adds_none old layout.side (layout.generation + 1) place.slot);
@@ -166,7 +167,7 @@ module _ (old : Device) (layout : Layout) (puts : List listed.Put) where
   FilledBy count now slot = Filled old now layout 0 (words_to puts count) (map_of_first puts count) slot
 
   pub none_put : IsNewlyOpened old layout → FilledBy 0 old 0
-  none_put opened = search (rules, keeps_same, adds_none)
+  none_put opened = search (rules, keeps_side_same, adds_none)
 
   module _ (count : ℕ) (put : listed.Put) (mid new : Device) (slot : ℕ) (within : count < length puts) (is : put ≡ get_or puts count put) (filled : FilledBy count mid slot) where
     abbrev put_word : List Word
@@ -259,12 +260,12 @@ module _ (changes : List Change) (old mid new : Device) (layout : Layout) (slot 
   started = map_in (other layout.side) mid
 
   words_are : put_words changes ++ elements_of (others now changes) ≡ moved_words changes before
-  words_are = ap (moved_words changes) (fun_ext first.keeps.same_map)
+  words_are = ap (moved_words changes) (fun_ext (side_map old mid layout.side first.keeps))
 
   map_is : (address : ℕ) → replaced_map started (names changes) now address ≡ changed_by changes before address
   map_is address =
       then_all started now changes first.map_is address
-      ∙ ap (λ (map : Map). changed_by changes map address) (fun_ext first.keeps.same_map)
+      ∙ ap (λ (map : Map). changed_by changes map address) (fun_ext (side_map old mid layout.side first.keeps))
 
   -- the set has nothing else yet
   pub only_these : (address : ℕ) → names changes address ≡ false → started address ≡ None

@@ -17,6 +17,7 @@ mod KeptMarks
 mod Appending
 mod OpenedPages
 mod CopiedMaps
+mod Nothing
 mod Courses
 mod MovingFacts
 mod Fillings
@@ -24,6 +25,7 @@ mod Listed
 mod Several
 mod OtherSteps
 mod Making
+mod Emptying
 mod Effects
 mod Running
 mod Drawings
@@ -41,5 +43,8 @@ mod Startable
 mod Cuts
 mod CutMarks
 mod CutMoves
+mod MapMoves
 mod ClearedSets
+mod RescuedMaps
+mod RescueCuts
 pub mod Public

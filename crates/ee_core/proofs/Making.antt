@@ -23,6 +23,7 @@ use Rattle.ee_pages.specs.declared.find.Layout.{Layout}
 use Rattle.ee_pages.specs.declared.side.Side.{Side}
 use Rattle.ee_pages.specs.declared.side.Side.TheVariants.{First}
 use Rattle.ee_pages.proofs.Public.{live_commits, change_counts, full_set_has_no_blank_page, live_within_fill, length-set_of, length-slots}
+use Rattle.ee_core.specs.Appending.{MayTakeSlot}
 use Rattle.ee_core.specs.Changes.{Appends, HaveNoGeneration, IsAccepted, IsCutAppend, IsCutChange, IsCutMaking, IsCutMove, IsFull, Moves, NeedsTransfer, Proceeds, greatest_generation, pages_left}
 use Rattle.ee_core.specs.Shown.{ShowsAppended, ShowsCutAppend, ShowsCutMove, ShowsMoved, is_left}
 use Rattle.ee_core.specs.Cuts.{ErasesPartly, IsDrawnPartly, MovesPartly}
@@ -116,16 +117,13 @@ module _ (old new : Device) (side : Side) (generation : ℕ) (live : IsLive old 
   pub appends : (change : Change) → Proceeds old (change ∷ []) → GoesOn old new → fill_of (slots_of (set_of side old)) < capacity old → TakesSlot old new side generation (map_after change (meaning (slots_of (set_of side old)))) → IsSameSet (other side) old new → new.wear ≡ old.wear → ShowsAppended old change new side → Appends old change new
   appends change proceeds goes_on free takes same wear shows = search (rules, fill_was, state_is, state_appended, pending_stays)
 
-  cut_append : (change : Change) → IsSameSet (other side) old new
-      → KeepsLiveSet old new side generation ⊎ TakesSlot old new side generation (meaning (slots_of (set_of side old))) ⊎ TakesSlot old new side generation (map_after change (meaning (slots_of (set_of side old))))
-      → IsCutAppend (state_of old) change (state_of new)
+  cut_append : (change : Change) → IsSameSet (other side) old new → MayTakeSlot old new side generation change → IsCutAppend (state_of old) change (state_of new)
   cut_append change same (inl keeps) = inl (state_same keeps same)
   cut_append change same (inr (inl torn)) = inr (inl (state_spoiled torn same))
   cut_append change same (inr (inr whole)) = inr (inr (state_appended change whole same))
 
   pub cut_in_append : (change : Change) → Proceeds old (change ∷ []) → IsCut old new → fill_of (slots_of (set_of side old)) < capacity old → IsSameSet (other side) old new
-      → KeepsLiveSet old new side generation ⊎ TakesSlot old new side generation (meaning (slots_of (set_of side old))) ⊎ TakesSlot old new side generation (map_after change (meaning (slots_of (set_of side old))))
-      → new.wear ≡ old.wear → ShowsCutAppend old change new side → IsCutChange old change new
+      → MayTakeSlot old new side generation change → new.wear ≡ old.wear → ShowsCutAppend old change new side → IsCutChange old change new
   cut_in_append change proceeds cut free same left wear shows = record {
     free_words = λ _. (side, generation, live.live, shows);
     used_words = λ all. absurd (omega (arith, fill_was));
@@ -266,10 +264,10 @@ marked_store device side generation live marked = search rules
 pub store_marked : (device : Device) (side : Side) (generation : ℕ) → IsStore device → IsOn device → IsLive device side generation → IsMarked device side
 store_marked device side generation store on live = store.finished on side generation live.live
 
-pub live_after_append : (old new : Device) (side : Side) (generation : ℕ) (torn whole : Map) → KeepsLiveSet old new side generation ⊎ TakesSlot old new side generation torn ⊎ TakesSlot old new side generation whole → IsLive new side generation
-live_after_append old new side generation torn whole (inl keeps) = keeps.live
-live_after_append old new side generation torn whole (inr (inl takes)) = takes.live
-live_after_append old new side generation torn whole (inr (inr takes)) = takes.live
+pub live_after_append : (old new : Device) (side : Side) (generation : ℕ) (change : Change) → MayTakeSlot old new side generation change → IsLive new side generation
+live_after_append old new side generation change (inl keeps) = keeps.live
+live_after_append old new side generation change (inr (inl takes)) = takes.live
+live_after_append old new side generation change (inr (inr takes)) = takes.live
 
 pub store_after_move : (old new : Device) (side : Side) (generation : ℕ) (changes : List Change) → IsOff new → KeepsLiveSet old new side generation ⊎ HasMoved old new side generation changes → IsStore new
 store_after_move old new side generation changes off (inl keeps) = off_store new side generation keeps.live off

@@ -121,13 +121,6 @@ same_page_drawn side old new page old_formed formed sizes drawn h =
     ext_get_or Erased (page_at new (first_page new.size side + page)) (page_at old (first_page old.size side + page)) (omega (arith, long, long_before, widths)) (λ at within.
     drawn page at h (omega (arith, within, long)))
 
-pub same_set_drawn : (side : Side) (old new : Device) → IsFormed old → IsFormed new → new.size ≡ old.size → IsDrawn side new (picture_of side old) → set_of side new ≡ set_of side old
-same_set_drawn side old new old_formed formed sizes drawn =
-    let pages = ap (λ (size : Size). size.pages) sizes in let long = length-set_of side new formed in
-    ext_get_or [] (set_of side new) (set_of side old) (omega (arith, long, length-set_of side old old_formed, pages)) (λ page within.
-    let h : page < new.size.pages = omega (arith, within, long) in
-    page_of_set side new page h ∙ same_page_drawn side old new page old_formed formed sizes drawn h ∙ sym (page_of_set side old page (omega (arith, h, pages))))
-
 -- and so the same marks are set in it
 pub same_retired : (side : Side) (old mid : Device) → IsFormed old → IsFormed mid → mid.size ≡ old.size → IsDrawn side mid (picture_of side old)
     → (page at : ℕ) → page < mid.size.pages → at < mid.size.words → retired_pages (is_used side mid) (picture_of side mid) page at ≡ retired_pages (is_used side old) (picture_of side old) page at

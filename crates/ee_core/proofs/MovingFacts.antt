@@ -1,20 +1,20 @@
 -- What calls in the other set leave together.
-use Rattle.std.proofs.Common.{rules, ◌≡◌, ◌≤◌, ◌<◌, ◌-◌, ◌/◌, ℕ, ◌+◌, true, List, [], refl, sym, subst, ap, ◌∙◌, arith}
+use Rattle.std.proofs.Common.{rules, ◌≡◌, ◌⊎◌, inl, inr, ◌≤◌, ◌<◌, ◌-◌, ◌/◌, ℕ, ◌+◌, true, List, [], refl, sym, subst, ap, ◌∙◌, arith}
 use Rattle.std.specs.List.{All}
 use Rattle.std.proofs.lemmas.List.Elements.{All-from_get_or}
-use Rattle.std.proofs.Math.Path.{fun_ext}
+use Rattle.std.proofs.Math.Nat.{zero-div}
 use Rattle.std.proofs.lemmas.Nat.{mul-le}
 use Rattle.ee_flash.specs.Device.{Device, IsFormed, page_at}
 use Rattle.ee_flash.specs.Size.{slot_count}
-use Rattle.ee_pages.specs.Filling.{IsCommitted, IsFilling}
-use Rattle.ee_pages.specs.Laws.{KeepsLiveSet}
+use Rattle.ee_pages.specs.Laws.{KeepsLiveSet, KeepsSide}
 use Rattle.ee_pages.specs.Layout.{IsLayout}
+use Rattle.ee_pages.specs.Legal.{IsLive}
 use Rattle.ee_pages.specs.Meaning.{Change, changed_by, live_in, meaning}
 use Rattle.ee_pages.specs.Page.{is_blank}
-use Rattle.ee_pages.specs.Sets.{first_page, other, pending_of, set_of, slots_of}
+use Rattle.ee_pages.specs.Sets.{first_page, other, page_of_slot, set_of, slots_of}
 use Rattle.ee_pages.specs.declared.find.Layout.{Layout}
 use Rattle.ee_pages.specs.declared.side.Side.{Side}
-use Rattle.ee_pages.proofs.Public.{length-set_of, other_twice}
+use Rattle.ee_pages.proofs.Public.{kept_side_is_live, length-set_of, other_twice}
 use Rattle.ee_core.specs.Parts.{HasMoved, Stays}
 use Rattle.ee_core.proofs.PendingPages.{as_many_not_blank}
 use Rattle.ee_core.proofs.SetPages.{page_of_set}
@@ -28,6 +28,9 @@ keeps_both first second third side generation one two = search rules
 pub layout_kept : (old new : Device) (layout : Layout) → IsLayout old layout → KeepsLiveSet old new layout.side layout.generation → IsLayout new layout
 layout_kept old new layout found keeps = search rules
 
+pub side_map : (old new : Device) (side : Side) → KeepsSide old new side → (address : ℕ) → meaning (slots_of (set_of side new)) address ≡ meaning (slots_of (set_of side old)) address
+side_map old new side keeps address = ap (λ slots. meaning slots address) keeps.same_slots
+
 pub few_slots : (device : Device) → IsFormed device → slot_count device.size ≤ 32512
 few_slots device formed =
     let few : device.size.words - 4 ≤ 508 = omega (arith, formed.within_limits.few_words) in
@@ -38,10 +41,6 @@ all_blank side device formed each = All-from_get_or (λ page. is_blank page ≡ 
     let within : k < device.size.pages = omega (arith, length-set_of side device formed) in
     ap is_blank (page_of_set side device k within) ∙ each (first_page device.size side + k) (omega arith) (omega arith))
 
--- the set that was filled is live, and of the other as many pages are not blank as before
-pub has_moved : (old opened filled new : Device) (side : Side) (generation count : ℕ) (changes : List Change) → KeepsLiveSet old opened side generation → KeepsLiveSet opened filled side generation → pending_of (set_of side filled) ≡ pending_of (set_of side old) → IsFilling filled (other side) (generation + 1) count → ((address : ℕ) → meaning (slots_of (set_of (other side) filled)) address ≡ changed_by changes (meaning (slots_of (set_of side opened))) address) → count ≡ live_in (changed_by changes (meaning (slots_of (set_of side opened)))) → set_of side new ≡ set_of side filled → IsCommitted filled new (other side) (generation + 1) → HasMoved old new side generation changes
-has_moved old opened filled new side generation count changes first second as_used filling map each_once same committed = search (rules, keeps_both, fun_ext)
-
 pub moved_stays : (old moved new : Device) (side : Side) (generation : ℕ) (changes : List Change) → HasMoved old moved side generation changes → Stays moved new (other side) (generation + 1) → HasMoved old new side generation changes
 moved_stays old moved new side generation changes has stays = search (rules, as_many_not_blank, other_twice)
 
@@ -51,3 +50,16 @@ pub layout_moved : (old new : Device) (layout : Layout) (changes : List Change) 
 layout_moved old new layout changes side count first last words moved side_is count_is first_is words_is last_is =
     let found : IsLayout new record { side = other layout.side; generation = layout.generation + 1; fill = count; current = first + last / (words - 4) } = record { live = moved.live; fill = count_is ∙ sym moved.fill_is; current = rw (first_is, words_is, last_is) refl } in
     subst (λ (set : Side). IsLayout new record { side = set; generation = layout.generation + 1; fill = count; current = first + last / (words - 4) }) (sym side_is) found
+
+-- and of one to which nothing moved
+pub layout_emptied : (old new : Device) (layout : Layout) (changes : List Change) (side : Side) (first : ℕ) → HasMoved old new layout.side layout.generation changes → side ≡ other layout.side → 0 ≡ live_in (changed_by changes (meaning (slots_of (set_of layout.side old))))
+    → first ≡ first_page new.size (other layout.side) → IsLayout new record { side = side; generation = layout.generation + 1; fill = 0; current = first }
+layout_emptied old new layout changes side first moved side_is none first_is =
+    let at_first : page_of_slot new.size (0 - 1) ≡ 0 = zero-div (new.size.words - 4) in
+    let found : IsLayout new record { side = other layout.side; generation = layout.generation + 1; fill = 0; current = first } = record { live = moved.live; fill = none ∙ sym moved.fill_is; current = omega (arith, first_is, at_first) } in
+    subst (λ (set : Side). IsLayout new record { side = set; generation = layout.generation + 1; fill = 0; current = first }) (sym side_is) found
+
+-- where the set that is left was live, it is so still, or the map has moved
+pub live_or_moved : (old new : Device) (side : Side) (generation : ℕ) (changes : List Change) → IsLive old side generation → KeepsSide old new side ⊎ HasMoved old new side generation changes → KeepsLiveSet old new side generation ⊎ HasMoved old new side generation changes
+live_or_moved old new side generation changes live (inl keeps) = inl (kept_side_is_live old new side generation live keeps)
+live_or_moved old new side generation changes live (inr moved) = inr moved

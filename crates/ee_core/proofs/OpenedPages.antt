@@ -1,15 +1,15 @@
 -- The page of the first free slot, and what marks it.
-use Rattle.std.proofs.Common.{◌≡◌, ◌≢◌, ◌⊎◌, inl, inr, ℕ, ◌+◌, ◌-◌, ◌*◌, ◌<◌, ◌/◌, ◌%◌, true, refl, sym, subst, ap, ◌∙◌, arith}
-use Rattle.std.proofs.Math.Nat.{div-add-mod, div-mul-le_self}
-use Rattle.std.proofs.lemmas.Bool.{cases_lt}
-use Rattle.std.proofs.lemmas.Nat.{div-mul-add}
+use Rattle.std.proofs.Common.{◌≡◌, ◌≢◌, ◌⊎◌, inl, inr, ℕ, ◌+◌, ◌-◌, ◌*◌, ◌<◌, ◌≤◌, ◌/◌, ◌%◌, true, refl, sym, subst, ap, ◌∙◌, arith}
+use Rattle.std.proofs.Math.Nat.{div-add-mod, div-mul-le_self, lt-div-mul-add}
+use Rattle.std.proofs.lemmas.Bool.{cases_eq, cases_lt}
+use Rattle.std.proofs.lemmas.Nat.{div-mul-add, mod-mul-add}
 use Rattle.ee_flash.specs.Device.{Device, IsFormed}
 use Rattle.ee_flash.specs.Size.{Size, slot_count}
 use Rattle.ee_pages.specs.Laws.{IsPageOf}
 use Rattle.ee_pages.specs.Layout.{IsLayout}
 use Rattle.ee_pages.specs.Page.{is_marked}
 use Rattle.ee_pages.specs.Pushing.{IsMarkBehind}
-use Rattle.ee_pages.specs.Sets.{first_page, other, page_of_slot}
+use Rattle.ee_pages.specs.Sets.{first_page, other, page_of_slot, place_of_slot}
 use Rattle.ee_pages.specs.declared.find.Layout.{Layout}
 use Rattle.ee_pages.specs.declared.state.Mark.TheVariants.{Active, Valid}
 use Rattle.ee_pages.proofs.Public.{page_in_range, slot_below}
@@ -56,6 +56,71 @@ module _ (old : Device) (layout : Layout) (found : IsLayout old layout) (free : 
 
   pub last_is : page_of_slot old.size (layout.fill - 1) ≡ last_used old layout.side
   last_is = ap (λ n. page_of_slot old.size (n - 1)) found.fill
+
+  -- the first free slot stands in the page in use, unless this is full
+  pub stays_in : (page : ℕ) → page ≡ first_page old.size layout.side + page_of_slot old.size layout.fill → page ≡ layout.current → (layout.fill ≡ 0) ⊎ (layout.fill % (words - 4) ≢ 0)
+  stays_in page page_is same = elim (cases_lt 0 layout.fill) [
+    | inr none ↦ inl (omega arith)
+    | inl some ↦ elim (cases_eq (layout.fill % (words - 4)) 0) [
+      | inr inside ↦ inr inside
+      | inl whole ↦
+          let next = next_place layout.fill (old.size.words - 4) some_slots some (subst (λ n. layout.fill % (n - 4) ≡ 0) words_is whole) in
+          absurd (omega (arith, next, found.current, page_is, same))
+    ]
+  ]
+
+  pub turns : (page : ℕ) → page ≡ first_page old.size layout.side + page_of_slot old.size layout.fill → page ≢ layout.current → (0 < layout.fill) × (layout.fill % (words - 4) ≡ 0)
+  turns page page_is other = elim (cases_lt 0 layout.fill) [
+    | inr none ↦
+        let same = same_place layout.fill (old.size.words - 4) some_slots (inl (omega arith)) in
+        absurd (other (omega (arith, same, found.current, page_is)))
+    | inl some ↦ elim (cases_eq (layout.fill % (words - 4)) 0) [
+      | inl whole ↦ (some, whole)
+      | inr inside ↦
+          let same = same_place layout.fill (old.size.words - 4) some_slots (inr (subst (λ n. layout.fill % (n - 4) ≢ 0) words_is inside)) in
+          absurd (other (omega (arith, same, found.current, page_is)))
+    ]
+  ]
+
+  -- the first free slot, by the slots of the page in use that are used
+  used_slots : layout.fill - (layout.current - first_page old.size layout.side) * (words - 4) ≡ layout.fill - page_of_slot old.size (layout.fill - 1) * (old.size.words - 4)
+  used_slots =
+      let back : layout.current - first_page old.size layout.side ≡ page_of_slot old.size (layout.fill - 1) = omega (arith, found.current) in
+      rw (back, words_is) refl
+
+  row_of : (p used : ℕ) → layout.fill ≡ p * (old.size.words - 4) + used → used < old.size.words - 4 → (page_of_slot old.size layout.fill ≡ p) × (place_of_slot old.size layout.fill ≡ 4 + used)
+  row_of p used e below = (
+    ap (λ n. n / (old.size.words - 4)) e ∙ div-mul-add p (old.size.words - 4) used below,
+    ap (λ n. 4 + n % (old.size.words - 4)) e ∙ ap (λ n. 4 + n) (mod-mul-add p (old.size.words - 4) used below),
+  )
+
+  full_row : (p row : ℕ) → p * row + row ≡ (p + 1) * row + 0
+  full_row p row = omega arith
+
+  rows : page_of_slot old.size (layout.fill - 1) * (old.size.words - 4) ≤ layout.fill - 1
+  rows = div-mul-le_self (layout.fill - 1) (old.size.words - 4)
+
+  below_row : layout.fill - 1 < page_of_slot old.size (layout.fill - 1) * (old.size.words - 4) + (old.size.words - 4)
+  below_row = lt-div-mul-add {a = layout.fill - 1} {b = old.size.words - 4} some_slots
+
+  pub free_within : (used : ℕ) → used ≡ layout.fill - (layout.current - first_page old.size layout.side) * (words - 4) → used ≢ words - 4 → (layout.current ≡ first_page old.size layout.side + page_of_slot old.size layout.fill) × (4 + used ≡ place_of_slot old.size layout.fill)
+  free_within used used_is other =
+      let p = page_of_slot old.size (layout.fill - 1) in let row = old.size.words - 4 in
+      let is = used_is ∙ used_slots in
+      let split : layout.fill ≡ p * row + used = omega (arith, is, rows) in
+      let not_full : used ≢ row = subst (λ n. used ≢ n - 4) words_is other in
+      let less : used < row = omega (arith, split, below_row, not_full) in
+      let at = row_of p used split less in
+      (omega (arith, found.current, at.0), sym at.1)
+
+  pub free_behind : (used : ℕ) → used ≡ layout.fill - (layout.current - first_page old.size layout.side) * (words - 4) → used ≡ words - 4 → (layout.current + 1 ≡ first_page old.size layout.side + page_of_slot old.size layout.fill) × (4 ≡ place_of_slot old.size layout.fill)
+  free_behind used used_is full =
+      let p = page_of_slot old.size (layout.fill - 1) in let row = old.size.words - 4 in
+      let is = used_is ∙ used_slots in
+      let all : used ≡ row = full ∙ ap (λ n. n - 4) words_is in
+      let whole : layout.fill ≡ p * row + row = omega (arith, is, rows, all) in let split : layout.fill ≡ (p + 1) * row + 0 = whole ∙ full_row p row in
+      let at = row_of (p + 1) 0 split some_slots in
+      (omega (arith, found.current, at.0), omega (arith, at.1))
 
   -- the marks of a page that is in use already
   pub ready_already : (layout.fill ≡ 0) ⊎ (layout.fill % (words - 4) ≢ 0) → IsLiveMarked old layout.side → IsReady old layout.side layout.fill

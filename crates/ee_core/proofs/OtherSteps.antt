@@ -12,8 +12,8 @@ use Rattle.ee_flash.specs.Size.{page_count, slot_count}
 use Rattle.ee_flash.specs.Step.{Program, IsCutIn, IsUntouched, MayFollow, device_after}
 use Rattle.ee_flash.specs.declared.word.Word.TheVariants.{Erased, Held}
 use Rattle.ee_pages.specs.Filling.{IsCommitted, IsFilling}
-use Rattle.ee_pages.specs.Laws.{IsPageOf, KeepsLiveSet}
-use Rattle.ee_pages.specs.Legal.{IsLive}
+use Rattle.ee_pages.specs.Laws.{IsPageOf, KeepsSide}
+use Rattle.ee_core.specs.Parts.{IsOlder}
 use Rattle.ee_pages.specs.Meaning.{Change, SpellsChange, map_after, meaning}
 use Rattle.ee_pages.specs.Page.{is_blank, is_marked, is_written, marking, number_of_mark}
 use Rattle.ee_pages.specs.Pushing.{slot_step}
@@ -22,7 +22,7 @@ use Rattle.ee_pages.specs.declared.side.Side.{Side}
 use Rattle.ee_pages.specs.declared.side.Side.TheVariants.{First, Second}
 use Rattle.ee_pages.specs.declared.state.Mark.{Mark}
 use Rattle.ee_pages.specs.declared.state.Mark.TheVariants.{Active, Receive}
-use Rattle.ee_pages.proofs.Public.{blank_word, erased_word, fill-front, slots_behind, other_set_keeps_live, length-set_of, page_in_range, place_in_range, slot_at, commit_commits, whole_commit_commits, opens_page, opens_set, stages_change, first_word, word-in_set, first_in_set}
+use Rattle.ee_pages.proofs.Public.{blank_word, erased_word, fill-front, slots_behind, other_set_keeps_side, keeps_side_same, length-set_of, page_in_range, place_in_range, slot_at, commits_over, whole_commits_over, opens_page, opens_set, stages_change, first_word, word-in_set, first_in_set}
 use Rattle.ee_core.proofs.Marks.{place_below}
 
 in_device : (side : Side) (device : Device) (page : ℕ) → page < device.size.pages → first_page device.size side + page < page_count device.size
@@ -45,12 +45,12 @@ free_slot device side generation count filling free =
     ∙ sym (slot_at side device count filling.formed free)
     ∙ erased_word _ erased
 
-module _ (old new : Device) (side : Side) (generation count number : ℕ) (live : IsLive old side generation) (filling : IsFilling old (other side) (generation + 1) count) (free : count < slot_count old.size) (below : number < all_ones) (follows : MayFollow (slot_step old.size (other side) count number) old new) where
+module _ (old new : Device) (side : Side) (generation count number : ℕ) (filling : IsFilling old (other side) (generation + 1) count) (free : count < slot_count old.size) (below : number < all_ones) (follows : MayFollow (slot_step old.size (other side) count number) old new) where
   pub slot_taken : IsStep (slot_step old.size (other side) count number) old new
   slot_taken = search (rules, in_device, page_in_range, place_in_range, free_slot)
 
-  pub slot_keeps : KeepsLiveSet old new side generation
-  slot_keeps = (other_set_keeps_live _ old new side generation live slot_taken (in_set (other side) old _ (page_in_range old count free)) ((λ here e. omega arith), (λ here e. absurd (omega arith)))).0
+  pub slot_keeps : KeepsSide old new side
+  slot_keeps = (other_set_keeps_side _ old new side slot_taken (in_set (other side) old _ (page_in_range old count free)) ((λ here e. omega arith), (λ here e. absurd (omega arith))))
 
 pub receive_below : (generation : ℕ) → IsGeneration generation → number_of_mark (Receive generation) < all_ones
 receive_below generation proper = omega (arith, proper.1)
@@ -67,11 +67,11 @@ unmarked : {T E Q : Type 0} (b : Bool) (result : Result T E) (x : T) (e : E) →
 unmarked true result x e is present = let no : Err e ≡ Ok x = sym is ∙ (present refl).0 in cc no
 unmarked false result x e is present = refl
 
-same_kept : (old new : Device) (side : Side) (generation : ℕ) → IsLive old side generation → new ≡ old → KeepsLiveSet old new side generation
-same_kept old new side generation live same = rw same (record { live = live; same_size = refl; same_slots = refl; same_fill = refl; same_map = λ address. refl })
+same_kept : (old new : Device) (side : Side) → IsFormed old → new ≡ old → KeepsSide old new side
+same_kept old new side formed same = rw same (keeps_side_same old side formed)
 
 -- the receive word of a further page
-module _ (old new : Device) (side : Side) (generation count : ℕ) (live : IsLive old side generation) (filling : IsFilling old (other side) (generation + 1) count) (free : count < slot_count old.size) (proper : IsGeneration (generation + 1)) where
+module _ (old new : Device) (side : Side) (generation count : ℕ) (filling : IsFilling old (other side) (generation + 1) count) (free : count < slot_count old.size) (proper : IsGeneration (generation + 1)) where
   abbrev word : Mark
   word = Receive (generation + 1)
 
@@ -79,24 +79,24 @@ module _ (old new : Device) (side : Side) (generation count : ℕ) (live : IsLiv
   here = first_page old.size (other side) + page_of_slot old.size count
 
   receive_taken : is_marked old here word ≡ false → MayFollow (marking here word) old new → IsStep (marking here word) old new
-  receive_taken erased follows = mark_taken old new here word live.formed (in_device (other side) old _ (page_in_range old count free)) (receive_below (generation + 1) proper) erased follows
+  receive_taken erased follows = mark_taken old new here word filling.formed (in_device (other side) old _ (page_in_range old count free)) (receive_below (generation + 1) proper) erased follows
 
-  receive_keeps : is_marked old here word ≡ false → MayFollow (marking here word) old new → KeepsLiveSet old new side generation
+  receive_keeps : is_marked old here word ≡ false → MayFollow (marking here word) old new → KeepsSide old new side
   receive_keeps erased follows =
-      let uncommitted : word_at old (first_page old.size (other side)) 1 ≡ Erased = sym (first_word (other side) old 1 live.formed) ∙ filling.uncommitted in
-      (other_set_keeps_live _ old new side generation live (receive_taken erased follows) (in_set (other side) old _ (page_in_range old count free)) ((λ at e. absurd (cc e)), (λ at e. uncommitted))).0
+      let uncommitted : word_at old (first_page old.size (other side)) 1 ≡ Erased = sym (first_word (other side) old 1 filling.formed) ∙ filling.uncommitted in
+      (other_set_keeps_side _ old new side (receive_taken erased follows) (in_set (other side) old _ (page_in_range old count free)) ((λ at e. absurd (cc e)), (λ at e. uncommitted)))
 
-  pub receive_cut : {T E : Type 0} (result : Result T E) (x : T) (e : E) → result ≡ Err e → (page : ℕ) → page ≡ here → (is_marked old page word ≡ true → (result ≡ Ok x) × (new ≡ old)) → (IsCutIn (marking page word) old new ⊎ IsUntouched old new) → KeepsLiveSet old new side generation
-  receive_cut result x e failed page is = subst (λ (n : ℕ). (is_marked old n word ≡ true → (result ≡ Ok x) × (new ≡ old)) → (IsCutIn (marking n word) old new ⊎ IsUntouched old new) → KeepsLiveSet old new side generation) (sym is) (λ present cut. receive_keeps (unmarked _ result x e failed present) (inr cut))
+  pub receive_cut : {T E : Type 0} (result : Result T E) (x : T) (e : E) → result ≡ Err e → (page : ℕ) → page ≡ here → (is_marked old page word ≡ true → (result ≡ Ok x) × (new ≡ old)) → (IsCutIn (marking page word) old new ⊎ IsUntouched old new) → KeepsSide old new side
+  receive_cut result x e failed page is = subst (λ (n : ℕ). (is_marked old n word ≡ true → (result ≡ Ok x) × (new ≡ old)) → (IsCutIn (marking n word) old new ⊎ IsUntouched old new) → KeepsSide old new side) (sym is) (λ present cut. receive_keeps (unmarked _ result x e failed present) (inr cut))
 
   abbrev Received : Type 0
-  Received = KeepsLiveSet old new side generation × IsFilling new (other side) (generation + 1) count × (slots_of (set_of (other side) new) ≡ slots_of (set_of (other side) old))
+  Received = KeepsSide old new side × IsFilling new (other side) (generation + 1) count × (slots_of (set_of (other side) new) ≡ slots_of (set_of (other side) old))
 
   received : (is_marked old here word ≡ true → new ≡ old) → (is_marked old here word ≡ false → IsOn old) → (is_marked old here word ≡ false → new ≡ device_after (marking here word) old) → Received
   received present on done = elim (cases_Bool (is_marked old here word)) [
     | inl marked ↦
         let same = present marked in
-        (same_kept old new side generation live same, rw same filling, ap (λ (device : Device). slots_of (set_of (other side) device)) same)
+        (same_kept old new side filling.formed same, rw same filling, ap (λ (device : Device). slots_of (set_of (other side) device)) same)
     | inr erased ↦
         let follows : MayFollow (marking here word) old new = inl (record { was_on = on erased; done = done erased }) in
         let taken = receive_taken erased follows in
@@ -108,14 +108,14 @@ module _ (old new : Device) (side : Side) (generation count : ℕ) (live : IsLiv
   receive_done page is = subst (λ (n : ℕ). (is_marked old n word ≡ true → new ≡ old) → (is_marked old n word ≡ false → IsOn old) → (is_marked old n word ≡ false → new ≡ device_after (marking n word) old) → Received) (sym is) received
 
 -- a change in the first free slot
-module _ (old new : Device) (side : Side) (generation count number : ℕ) (live : IsLive old side generation) (filling : IsFilling old (other side) (generation + 1) count) (free : count < slot_count old.size) (below : number < all_ones) where
+module _ (old new : Device) (side : Side) (generation count number : ℕ) (filling : IsFilling old (other side) (generation + 1) count) (free : count < slot_count old.size) (below : number < all_ones) where
   abbrev slot_page : ℕ
   slot_page = first_page old.size (other side) + page_of_slot old.size count
 
-  pub put_cut : (page at : ℕ) → page ≡ slot_page → at ≡ place_of_slot old.size count → MayFollow (Program page at number) old new → KeepsLiveSet old new side generation
+  pub put_cut : (page at : ℕ) → page ≡ slot_page → at ≡ place_of_slot old.size count → MayFollow (Program page at number) old new → KeepsSide old new side
   put_cut page at page_is at_is follows =
       let here : MayFollow (Program slot_page (place_of_slot old.size count) number) old new = subst (λ (n : ℕ). MayFollow (Program n (place_of_slot old.size count) number) old new) page_is (subst (λ (k : ℕ). MayFollow (Program page k number) old new) at_is follows) in
-      slot_keeps old new side generation count number live filling free below here
+      slot_keeps old new side generation count number filling free below here
 
   abbrev Staged : Change → Type 0
   Staged change =
@@ -124,7 +124,7 @@ module _ (old new : Device) (side : Side) (generation count number : ℕ) (live 
       × ((address : ℕ) → meaning (slots_of (set_of (other side) new)) address ≡ map_after change (meaning (slots_of (set_of (other side) old))) address)
 
   put_whole : (change : Change) → SpellsChange number change → MayFollow (slot_step old.size (other side) count number) old new → new ≡ device_after (slot_step old.size (other side) count number) old → Staged change
-  put_whole change spells follows done = stages_change change number old new (other side) (generation + 1) count filling free spells (slot_taken old new side generation count number live filling free below follows) done
+  put_whole change spells follows done = stages_change change number old new (other side) (generation + 1) count filling free spells (slot_taken old new side generation count number filling free below follows) done
 
   pub put_done : (change : Change) (page at : ℕ) → page ≡ slot_page → at ≡ place_of_slot old.size count → SpellsChange number change → IsOn old → new ≡ device_after (Program page at number) old → Staged change
   put_done change page at page_is at_is spells on done =
@@ -132,7 +132,7 @@ module _ (old new : Device) (side : Side) (generation count number : ℕ) (live 
       put_whole change spells (inl (record { was_on = on; done = here })) here
 
 -- the receive word that opens the set
-module _ (old new : Device) (side : Side) (generation : ℕ) (live : IsLive old side generation) (proper : IsGeneration (generation + 1)) (blank : All (λ page. is_blank page ≡ true) (set_of (other side) old)) where
+module _ (old new : Device) (side : Side) (generation : ℕ) (formed : IsFormed old) (proper : IsGeneration (generation + 1)) (blank : All (λ page. is_blank page ≡ true) (set_of (other side) old)) where
   abbrev opening : Mark
   opening = Receive (generation + 1)
 
@@ -141,19 +141,19 @@ module _ (old new : Device) (side : Side) (generation : ℕ) (live : IsLive old 
 
   first_erased : (at : ℕ) → word_at old first at ≡ Erased
   first_erased at =
-      let some : 0 < length (set_of (other side) old) = omega (arith, length-set_of (other side) old live.formed, live.formed.within_limits.some_pages) in
-      sym (first_word (other side) old at live.formed) ∙ blank_word _ at (All-get_or (λ page. is_blank page ≡ true) (set_of (other side) old) 0 [] some blank)
+      let some : 0 < length (set_of (other side) old) = omega (arith, length-set_of (other side) old formed, formed.within_limits.some_pages) in
+      sym (first_word (other side) old at formed) ∙ blank_word _ at (All-get_or (λ page. is_blank page ≡ true) (set_of (other side) old) 0 [] some blank)
 
   pub opening_unmarked : (page : ℕ) → page ≡ first → is_marked old page opening ≡ false
   opening_unmarked page is = ap (λ (n : ℕ). is_marked old n opening) is ∙ ap is_written (first_erased 0)
 
   opening_taken : MayFollow (marking first opening) old new → IsStep (marking first opening) old new
-  opening_taken follows = mark_taken old new first opening live.formed (first_in_device (other side) old live.formed) (receive_below (generation + 1) proper) (opening_unmarked first refl) follows
+  opening_taken follows = mark_taken old new first opening formed (first_in_device (other side) old formed) (receive_below (generation + 1) proper) (opening_unmarked first refl) follows
 
-  pub opening_keeps : (page : ℕ) → page ≡ first → MayFollow (marking page opening) old new → KeepsLiveSet old new side generation
+  pub opening_keeps : (page : ℕ) → page ≡ first → MayFollow (marking page opening) old new → KeepsSide old new side
   opening_keeps page is follows =
       let here : MayFollow (marking first opening) old new = subst (λ (n : ℕ). MayFollow (marking n opening) old new) is follows in
-      (other_set_keeps_live _ old new side generation live (opening_taken here) (first_in_set (other side) old live.formed) ((λ at e. absurd (cc e)), (λ at e. first_erased 1))).0
+      (other_set_keeps_side _ old new side (opening_taken here) (first_in_set (other side) old formed) ((λ at e. absurd (cc e)), (λ at e. first_erased 1)))
 
   pub opening_done : (page : ℕ) → page ≡ first → IsOn old → new ≡ device_after (marking page opening) old → IsFilling new (other side) (generation + 1) 0 × ((address : ℕ) → meaning (slots_of (set_of (other side) new)) address ≡ None)
   opening_done page is on done =
@@ -161,21 +161,21 @@ module _ (old new : Device) (side : Side) (generation : ℕ) (live : IsLive old 
       opens_set old new (other side) (generation + 1) proper blank (opening_taken (inl (record { was_on = on; done = here }))) here
 
 -- the mark that commits the set
-module _ (old new : Device) (side : Side) (generation count : ℕ) (live : IsLive old side generation) (proper : IsGeneration (generation + 1)) (filling : IsFilling old (other side) (generation + 1) count) where
+module _ (old new : Device) (side : Side) (generation count : ℕ) (older : IsOlder old side (generation + 1)) (proper : IsGeneration (generation + 1)) (filling : IsFilling old (other side) (generation + 1) count) where
   abbrev front_page : ℕ
   front_page = first_page old.size (other side)
 
   pub active_unmarked : (page : ℕ) → page ≡ front_page → is_marked old page Active ≡ false
-  active_unmarked page is = ap (λ (n : ℕ). is_marked old n Active) is ∙ ap is_written (sym (first_word (other side) old 1 live.formed) ∙ filling.uncommitted)
+  active_unmarked page is = ap (λ (n : ℕ). is_marked old n Active) is ∙ ap is_written (sym (first_word (other side) old 1 filling.formed) ∙ filling.uncommitted)
 
   active_taken : MayFollow (marking front_page Active) old new → IsStep (marking front_page Active) old new
-  active_taken follows = mark_taken old new front_page Active live.formed (first_in_device (other side) old live.formed) active_below (active_unmarked front_page refl) follows
+  active_taken follows = mark_taken old new front_page Active filling.formed (first_in_device (other side) old filling.formed) active_below (active_unmarked front_page refl) follows
 
-  pub active_commits : (page : ℕ) → page ≡ front_page → MayFollow (marking page Active) old new → (set_of side new ≡ set_of side old) × (KeepsLiveSet old new side generation ⊎ IsCommitted old new (other side) (generation + 1))
+  pub active_commits : (page : ℕ) → page ≡ front_page → MayFollow (marking page Active) old new → (set_of side new ≡ set_of side old) × (KeepsSide old new side ⊎ IsCommitted old new (other side) (generation + 1))
   active_commits page is follows =
-      commit_commits old new side generation count live filling proper (active_taken (subst (λ (n : ℕ). MayFollow (marking n Active) old new) is follows))
+      commits_over old new side generation count older filling proper (active_taken (subst (λ (n : ℕ). MayFollow (marking n Active) old new) is follows))
 
   pub active_done : (page : ℕ) → page ≡ front_page → IsOn old → new ≡ device_after (marking page Active) old → IsCommitted old new (other side) (generation + 1)
   active_done page is on done =
       let here : new ≡ device_after (marking front_page Active) old = done ∙ ap (λ (n : ℕ). device_after (marking n Active) old) is in
-      whole_commit_commits old new side generation count live filling proper (active_taken (inl (record { was_on = on; done = here }))) here
+      whole_commits_over old new side generation count older filling proper (active_taken (inl (record { was_on = on; done = here }))) here

@@ -15,7 +15,7 @@ use Rattle.ee_core.proofs.PendingPages.{length-pending_pages}
 use Rattle.ee_core.proofs.Wears.{no_wear, total_rises, wears_rise}
 use Rattle.ee_core.specs.Calls.{ErasesOne}
 use Rattle.ee_core.specs.Changes.{Appends, Moves, NeedsTransfer, pages_left}
-use Rattle.ee_core.specs.Runs.{Call, Wrote, WroteAll, Forgot, Cleaned, DidRead, AreAnsweredFrom, Follows, IsAnsweredBy, IsRun, changes_of_call, is_cut, is_single, is_transfer, transfers, IsWholeRun}
+use Rattle.ee_core.specs.Runs.{Call, Wrote, WroteAll, Forgot, Cleared, Cleaned, DidRead, AreAnsweredFrom, Follows, IsAnsweredBy, IsRun, changes_of_call, is_cut, is_single, is_transfer, transfers, IsWholeRun}
 use Rattle.ee_core.specs.State.{CountsWear, State, capacity, pending_pages, state_of}
 
 -- ---- one call
@@ -112,6 +112,7 @@ single_changes (WroteAll (first ∷ second ∷ more) (Ok written)) single = absu
 single_changes (WroteAll puts (Err fault)) single = omega arith
 single_changes (Forgot address (Ok written)) single = omega arith
 single_changes (Forgot address (Err fault)) single = omega arith
+single_changes (Cleared answer) single = absurd (cc single)
 single_changes (Cleaned answer) single = omega arith
 single_changes (DidRead address answer) single = omega arith
 
@@ -119,6 +120,7 @@ answered : (call : Call) (old new : Device) → Follows call old new → IsAnswe
 answered (Wrote address value answer) old new done = tt
 answered (WroteAll puts answer) old new done = tt
 answered (Forgot address answer) old new done = tt
+answered (Cleared answer) old new done = tt
 answered (Cleaned answer) old new done = tt
 answered (DidRead address (Ok value)) old new done = done.0.1
 answered (DidRead address (Err off)) old new done = tt

@@ -1,5 +1,5 @@
 -- What each call of a store answers, and what it leaves: one relation for each, by cases on the answer. Every store keeps
--- them.
+-- them. That of a clear stands in Emptying.
 use Rattle.std.specs.Prelude.{◌≡◌, ◌≢◌, ◌<◌, ◌⊎◌, ℕ, ◌-◌, Option, Some, None, Result, Ok, Err, Bool, true, false, List, [], ◌∷◌}
 use Rattle.ee_flash.specs.Device.{Device, IsOff, IsOn, page_at}
 use Rattle.ee_flash.specs.Power.{GoesOn, IsCut}

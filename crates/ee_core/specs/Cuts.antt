@@ -58,9 +58,8 @@ abbrev pub FillsPartly : Device → Side → ℕ → List Word → Type 0
 FillsPartly device side generation words =
     IsDrawnPartly side device blank (opened_set device.size generation (page_of_slot device.size (length words - 1)) words)
 
--- power was cut in adding words to the other set, which held so many: the live set is as before
+-- power was cut in adding words to the other set, which held so many
 pub record AddsPartly (old new : Device) (side : Side) (generation count : ℕ) (more : List Word) : Type 0 where
-  pub live_pages : IsDrawn side new (picture_of side old)
   pub new_pages : (words : List Word) → length words ≡ count → Holds old (other side) generation words → FillsPartly new (other side) generation (words ++ more)
 
 -- in setting a mark

@@ -4,13 +4,17 @@ pub mod Picture
 pub mod Finished
 pub mod Shown
 pub mod Changes
+pub mod Emptying
 pub mod Calls
 pub mod Openings
+pub mod Rescues
 pub mod Points
 pub mod Parts
 pub mod Cuts
+pub mod Appending
 pub mod Transfers
 pub mod Course
 pub mod Runs
 pub mod PageStates
 pub mod Starts
+pub mod Lookups

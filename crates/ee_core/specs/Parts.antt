@@ -1,20 +1,21 @@
 -- What the parts of a call leave: a call is one after another of them.
-use Rattle.std.specs.Prelude.{◌≡◌, ◌≢◌, ◌<◌, ◌⊎◌, ℕ, ◌+◌, ◌-◌, ◌==◌, ◌&&◌, nat_le, nat_lt, if◌then◌else◌, Bool, true, Some, None, List, ◌++◌, length, slice_index_or}
+use Rattle.std.specs.Prelude.{◌≡◌, ◌≢◌, ◌<◌, ◌⊎◌, ℕ, ◌+◌, ◌-◌, ◌==◌, ◌&&◌, nat_le, nat_lt, if◌then◌else◌, Bool, true, Some, None, Result, Ok, Err, List, [], ◌∷◌, ◌++◌, length, slice_index_or}
 use Rattle.ee_codec.specs.Words.{element, forgetting}
-use Rattle.ee_flash.specs.Device.{Device, page_at, word_at}
+use Rattle.ee_flash.specs.Device.{Device, IsOn, page_at, word_at}
 use Rattle.ee_flash.specs.Size.{Size}
+use Rattle.ee_flash.specs.Step.{IsPartlyErased}
 use Rattle.ee_flash.specs.declared.word.Word.{Word}
 use Rattle.ee_flash.specs.declared.word.Word.TheVariants.{Erased}
-use Rattle.ee_pages.specs.Laws.{KeepsLiveSet}
+use Rattle.ee_pages.specs.Laws.{KeepsLiveSet, KeepsSide}
 use Rattle.ee_pages.specs.Legal.{IsLive, slots_before}
 use Rattle.ee_pages.specs.Meaning.{Change, Map, Put, Forget, changed_by, live_in, meaning}
-use Rattle.ee_pages.specs.Page.{is_marked, place_of_mark}
-use Rattle.ee_pages.specs.Sets.{fill_of, first_page, other, page_of_slot, pending_of, place_of_slot, set_of, slots_of}
+use Rattle.ee_pages.specs.Page.{is_blank, is_marked, place_of_mark}
+use Rattle.ee_pages.specs.Sets.{committed_generation, fill_of, first_page, other, page_of_slot, pending_of, place_of_slot, set_of, slots_of}
 use Rattle.ee_pages.specs.declared.side.Side.{Side}
 use Rattle.ee_pages.specs.declared.state.Mark.{Mark}
 use Rattle.ee_pages.specs.declared.state.Mark.TheVariants.{Active, Receive, Valid}
-use Rattle.ee_core.specs.Picture.{IsDrawn, Picture, mark_where, marked_word, picture_of}
-use Rattle.ee_core.specs.State.{not_blank_in}
+use Rattle.ee_core.specs.Picture.{IsDrawn, Picture, mark_where, marked_word}
+use Rattle.ee_core.specs.State.{Wears, not_blank_in}
 use Rattle.ee_core.specs.declared.change.Change as declared
 use Rattle.ee_core.specs.declared.change.Change.TheVariants as kinds
 use Rattle.ee_core.specs.declared.copying.Place.{Place}
@@ -38,6 +39,10 @@ ForgetsHeld map (kinds.Forget address value) = map address ≡ Some value
 abbrev pub map_in : Side → Device → Map
 map_in side device = meaning (slots_of (set_of side device))
 
+-- the set is committed with a generation below this one, if at all
+abbrev pub IsOlder : Device → Side → ℕ → Type 0
+IsOlder device side generation = (committed : ℕ) → committed_generation (set_of side device) ≡ Some committed → committed < generation
+
 -- the live set, the pages of the other set that are not blank and all wear are as before
 pub record Stays (old new : Device) (side : Side) (generation : ℕ) : Type 0 where
   pub keeps : KeepsLiveSet old new side generation
@@ -55,6 +60,28 @@ IsSameBut changed old new = (page : ℕ) → page ≢ changed → page_at new pa
 -- the pages of a set are as before
 abbrev pub IsSameSet : Side → Device → Device → Type 0
 IsSameSet side old new = set_of side new ≡ set_of side old
+
+-- this page of the other set, which was not blank, was erased, once, and nothing else changed
+pub record PageErased (old new : Device) (side : Side) (page : ℕ) : Type 0 where
+  pub keeps : KeepsSide old new side
+  pub others : IsSameBut page old new
+  pub blank : is_blank (page_at new page) ≡ true
+  pub one_less : pending_of (set_of (other side) new) + 1 ≡ pending_of (set_of (other side) old)
+  pub wear : Wears (page ∷ []) old new
+
+-- or power was cut in it: each of its words is as before, erased or torn, and so the page waits still, or doesn't
+pub record PageErasedPartly (old new : Device) (side : Side) (page : ℕ) : Type 0 where
+  pub keeps : KeepsSide old new side
+  pub others : IsSameBut page old new
+  pub partly : IsPartlyErased (page_at old page) (page_at new page)
+  pub cut : (pending_of (set_of (other side) new) ≡ pending_of (set_of (other side) old))
+      ⊎ (pending_of (set_of (other side) new) + 1 ≡ pending_of (set_of (other side) old))
+  pub wear : IsOn old → Wears (page ∷ []) old new
+
+-- the erase ends so
+abbrev pub ErasesPage : {T E : Type 0} → Result T E → Device → Device → Side → ℕ → Type 0
+ErasesPage (Ok done) old new side page = PageErased old new side page
+ErasesPage (Err cut) old new side page = PageErasedPartly old new side page
 
 -- the page of this slot is marked as the one that is used, and those before it as used up
 pub record IsReady (device : Device) (side : Side) (slot : ℕ) : Type 0 where
@@ -104,9 +131,8 @@ abbrev pub Holds : Device → Side → ℕ → List Word → Type 0
 Holds device side generation words =
     IsDrawn side device (opened_set device.size generation (page_of_slot device.size (length words - 1)) words)
 
--- the live set is as before, and the other set, which held so many words, holds some more
+-- the other set, which held so many words, holds some more
 pub record AddsWords (old new : Device) (side : Side) (generation count : ℕ) (more : List Word) : Type 0 where
-  pub live_pages : IsDrawn side new (picture_of side old)
   pub new_pages : (words : List Word) → length words ≡ count → Holds old (other side) generation words → Holds new (other side) generation (words ++ more)
 
 -- the set holds these words, and the mark that commits it

@@ -1,5 +1,5 @@
 -- Values that are put at once, or addresses that are forgotten: the changes that one transfer carries.
-use Rattle.std.specs.Prelude.{◌≡◌, ◌<◌, ◌⊎◌, ℕ, ◌==◌, Bool, true, false, Option, Some, None, List, [], ◌∷◌, slice_get, take}
+use Rattle.std.specs.Prelude.{◌≡◌, ◌<◌, ◌⊎◌, ℕ, ◌+◌, ◌==◌, Bool, true, false, Option, Some, None, List, [], ◌∷◌, slice_get, take, zero, suc}
 use Rattle.std.specs.List.{list_any}
 use Rattle.ee_codec.specs.Words.{IsAddress}
 use Rattle.ee_pages.specs.Meaning.{Change, Map, Put, Forget, changed_by}
@@ -20,6 +20,15 @@ forgets_of (put ∷ puts) = Forget put.address ∷ forgets_of puts
 abbrev pub carried : List listed.Put → Bool → List Change
 carried puts true = forgets_of puts
 carried puts false = puts_of puts
+
+-- the forgettings of so many addresses from this one on, by rising address
+unfoldable pub forgets_from : ℕ → ℕ → List Change
+forgets_from address zero = []
+forgets_from address (suc more) = Forget address ∷ forgets_from (address + 1) more
+
+-- the forgetting of each address
+abbrev pub each_forgotten : List Change
+each_forgotten = forgets_from 1 65534
 
 -- whether one of the changes is of this address
 abbrev pub names : List Change → ℕ → Bool

@@ -13,9 +13,12 @@ use Rattle.ee_pages.specs.Page.{is_blank}
 use Rattle.ee_pages.specs.Sets.{live_of, other}
 use Rattle.ee_pages.specs.declared.side.Side.{Side}
 use Rattle.ee_core.specs.Calls.{Cleans, Forgets, IsPending, Reads, Writes, WritesAll}
-use Rattle.ee_core.specs.Puts.{puts_of}
+use Rattle.ee_core.specs.Emptying.{Clears}
+use Rattle.ee_core.specs.Puts.{each_forgotten, puts_of}
 use Rattle.ee_core.specs.State.{CountsWear, state_of}
 use Rattle.ee_core.specs.declared.change.Put as listed
+use Rattle.ee_core.specs.declared.variables.ClearFault.{ClearFault}
+use Rattle.ee_core.specs.declared.variables.ClearFault.TheVariants as clear
 use Rattle.ee_core.specs.declared.variables.ForgetFault.{ForgetFault}
 use Rattle.ee_core.specs.declared.variables.ForgetFault.TheVariants as forget
 use Rattle.ee_core.specs.declared.variables.Off.{Off}
@@ -26,11 +29,12 @@ use Rattle.ee_core.specs.declared.variables.WriteFault.TheVariants as write
 use Rattle.ee_core.specs.declared.variables.Written.{Written}
 use Rattle.ee_core.specs.declared.variables.Written.TheVariants.{Moved}
 
--- a call with its answer: a write, a write of a list, a forgetting, a clean step, a read
+-- a call with its answer: a write, a write of a list, a forgetting, a clear, a clean step, a read
 pub data Call : Type 0 where
   Wrote : (address value : ℕ) (answer : Result Written WriteFault) → Call
   WroteAll : (puts : List listed.Put) (answer : Result Written WriteAllFault) → Call
   Forgot : (address : ℕ) (answer : Result Written ForgetFault) → Call
+  Cleared : (answer : Result Bool ClearFault) → Call
   Cleaned : (answer : Result Bool WriteFault) → Call
   DidRead : (address : ℕ) (answer : Result (Option ℕ) Off) → Call
 
@@ -39,6 +43,7 @@ abbrev pub Follows : Call → Device → Device → Type 0
 Follows (Wrote address value answer) old new = Writes old address value answer new
 Follows (WroteAll puts answer) old new = WritesAll old puts answer new
 Follows (Forgot address answer) old new = Forgets old address answer new
+Follows (Cleared answer) old new = Clears old answer new
 Follows (Cleaned answer) old new = Cleans old answer new
 Follows (DidRead address answer) old new = Reads old address answer × (new ≡ old)
 
@@ -52,6 +57,7 @@ abbrev pub is_transfer : Call → Bool
 is_transfer (Wrote address value (Ok Moved)) = true
 is_transfer (WroteAll puts (Ok Moved)) = true
 is_transfer (Forgot address (Ok Moved)) = true
+is_transfer (Cleared (Ok true)) = true
 is_transfer call = false
 
 -- how many calls did
@@ -63,6 +69,7 @@ abbrev pub is_cut : Call → Bool
 is_cut (Wrote address value (Err write.Cut)) = true
 is_cut (WroteAll puts (Err all.Cut)) = true
 is_cut (Forgot address (Err forget.Cut)) = true
+is_cut (Cleared (Err clear.Cut)) = true
 is_cut (Cleaned (Err write.Cut)) = true
 is_cut call = false
 
@@ -71,11 +78,13 @@ pub record IsWholeRun (calls : List Call) (old new : Device) : Type 0 where
   pub run : IsRun calls old new
   pub without_cuts : All (λ call. is_cut call ≡ false) calls
 
--- the changes that the call made: those that were asked for, if the answer is that they were stored
+-- the changes that the call made: those that were asked for, if the answer is that they were stored; a clear forgets each
+-- address
 abbrev pub changes_of_call : Call → List Change
 changes_of_call (Wrote address value (Ok written)) = Put address value ∷ []
 changes_of_call (WroteAll puts (Ok written)) = puts_of puts
 changes_of_call (Forgot address (Ok written)) = Forget address ∷ []
+changes_of_call (Cleared (Ok true)) = each_forgotten
 changes_of_call call = []
 
 -- a read that has an answer has the value in this map
@@ -95,6 +104,7 @@ RunsGoOn = (calls : List Call) (old new : Device) → IsWholeRun calls old new �
 -- whether the call asks for one change at the most
 abbrev pub is_single : Call → Bool
 is_single (WroteAll (first ∷ second ∷ more) answer) = false
+is_single (Cleared answer) = false
 is_single call = true
 
 -- All wear, and the pages that wait to be erased, are together more by the pages of a set for each transfer, and by none for
@@ -104,7 +114,7 @@ EachTransferErasesASet =
     (calls : List Call) (old new : Device) → IsWholeRun calls old new → All (λ call. is_single call ≡ true) calls → CountsWear new
     → total_wear_of new + (state_of new).pending ≡ total_wear_of old + (state_of old).pending + transfers calls * old.size.pages
 
--- With lists of several, each of which moves the map whether the set that it leaves is full or not, they are no more.
+-- With lists of several and clears, which move the map whether the set that it leaves is full or not, they are no more.
 abbrev pub NoTransferErasesMore : Type 0
 NoTransferErasesMore =
     (calls : List Call) (old new : Device) → IsWholeRun calls old new → CountsWear new

@@ -1,15 +1,21 @@
 -- The call to make whenever a device is switched on: it opens a store, and makes the first one.
-use Rattle.std.specs.Prelude.{◌≡◌, ◌≢◌, ◌≤◌, ◌⊎◌, ℕ, Some, None, zero, suc}
-use Rattle.ee_flash.specs.Device.{Device, word_at}
+use Rattle.std.specs.Prelude.{◌≡◌, ◌≢◌, ◌≤◌, ◌⊎◌, ℕ, true, Some, None, Result, Ok, Err, zero, suc}
+use Rattle.std.specs.List.{All}
+use Rattle.ee_flash.specs.Device.{Device, IsOn, word_at}
 use Rattle.ee_flash.specs.Size.{header_words}
 use Rattle.ee_flash.specs.declared.word.Word.TheVariants.{Held}
-use Rattle.ee_pages.specs.Layout.{IsScanFault, IsUnformatted}
+use Rattle.ee_pages.specs.Layout.{IsLayout, IsScanFault, IsUnformatted}
 use Rattle.ee_pages.specs.Legal.{IsLegal}
+use Rattle.ee_pages.specs.Page.{is_blank}
 use Rattle.ee_pages.specs.Sets.{committed_generation, set_of}
+use Rattle.ee_pages.specs.declared.find.Layout.{Layout}
 use Rattle.ee_pages.specs.declared.side.Side.{Side}
+use Rattle.ee_pages.specs.declared.side.Side.TheVariants.{First}
+use Rattle.ee_core.specs.Cuts.{ErasesPartly}
+use Rattle.ee_core.specs.Finished.{IsMarked}
 use Rattle.ee_core.specs.Points.{with_power_on}
-use Rattle.ee_core.specs.Openings.{IsCutFormat, IsCutOpening, IsFormatted, Opens}
-use Rattle.ee_core.specs.State.{formatted_state, state_of}
+use Rattle.ee_core.specs.Openings.{FormatsPartly, IsCutFormat, IsCutOpening, IsFormatted, Opens, not_blank_pages}
+use Rattle.ee_core.specs.State.{Wears, formatted_state, state_of}
 use Rattle.ee_core.specs.declared.opening.OpenFault.{OpenFault}
 use Rattle.ee_core.specs.declared.opening.OpenFault.TheVariants.{Scan, Cut}
 
@@ -47,6 +53,43 @@ pub record IsCutStart (old new : Device) : Type 0 where
 abbrev pub StartFails : Device → OpenFault → Device → Type 0
 StartFails old (Scan fault) new = (¬ IsStartable old) × IsScanFault old fault × (new ≡ old)
 StartFails old Cut new = IsCutStart old new ⊎ IsCutOpening old new
+
+-- ---- the format that both make
+
+-- each page that was not blank was erased, once, and no other; a device that can be started stays one
+pub record AllErased (old new : Device) : Type 0 where
+  pub blank : All (λ page. is_blank page ≡ true) new.image
+  pub startable : IsStartable old → IsStartable new
+  pub wear : Wears (not_blank_pages old) old new
+
+-- or power was cut in one of these erases
+pub record AllErasedPartly (old new : Device) : Type 0 where
+  pub partly : IsOn old → ErasesPartly 0 old.image old new
+  pub startable : IsStartable old → IsStartable new
+
+-- they end so
+abbrev pub ErasesAll : {T E : Type 0} → Result T E → Device → Device → Type 0
+ErasesAll (Ok done) old new = AllErased old new
+ErasesAll (Err cut) old new = AllErasedPartly old new
+
+-- the device is formatted, and this is its layout
+pub record FormatWritten (old new : Device) (layout : Layout) : Type 0 where
+  pub layout_is : IsLayout new layout
+  pub first : layout.side ≡ First
+  pub marked : IsMarked new First
+  pub formatted : IsFormatted old new
+
+-- or power was cut on the way: a device that could be started can be still, or was
+pub record FormatWrittenPartly (old new : Device) : Type 0 where
+  pub words : IsOn old → ErasesPartly 0 old.image old new ⊎ FormatsPartly old new
+  pub starting : IsOn old → IsStartable old → IsStarting new
+
+-- the format ends so
+abbrev pub WritesFormat : {E : Type 0} → Result Layout E → Device → Device → Type 0
+WritesFormat (Ok layout) old new = FormatWritten old new layout
+WritesFormat (Err cut) old new = FormatWrittenPartly old new
+
+-- ---- starts, one after another
 
 -- so many starts, one after another, in each of which power was cut and then came back
 abbrev pub AreCutStarts : ℕ → Device → Device → Type 0

@@ -2,6 +2,7 @@
 ghost use Rattle.std.specs.Prelude.{◌≡◌, ◌<◌, [], ◌∷◌};
 ghost use Rattle.ee_flash.specs.Device.{all_ones};
 ghost use Rattle.ee_pages.specs.Meaning.{SpellsChange};
+ghost use Rattle.ee_core.specs.Lookups.{change_of};
 ghost use Rattle.ee_core.specs.Parts.{meant, number_written};
 ghost use Rattle.ee_core.specs.Puts.{carried};
 
@@ -31,7 +32,8 @@ pub enum Change {
 impl Change {
     /// What a transfer carries for it: its address with the value, and whether it forgets.
     pub(crate) fn entry(self) -> (Put, bool)
-        ensures { carried (result.0 ∷ []) result.1 ≡ meant self ∷ [] }
+        ensures carries { carried (result.0 ∷ []) result.1 ≡ meant self ∷ [] }
+        ensures made { change_of result.0 result.1 ≡ self }
     {
         match self {
             Change::Put { address, value } => (Put { address, value }, false),

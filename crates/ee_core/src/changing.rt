@@ -1,38 +1,49 @@
 //! The making of changes that nothing refuses: one is appended where a slot is free, and else they are
 //! made with a transfer.
-ghost use Rattle.std.specs.Prelude.{◌≡◌, ◌<◌, ◌+◌, [], ◌∷◌, OnErr, OnOk, length};
+ghost use Rattle.std.specs.Prelude.{◌≡◌, ◌<◌, ℕ, [], ◌∷◌, None, OnErr, OnOk};
 ghost use Rattle.ee_codec.specs.Words.{IsAddress};
 ghost use Rattle.ee_flash.specs.Device.{IsOn};
 ghost use Rattle.ee_flash.specs.Size.{slot_count};
 ghost use Rattle.ee_pages.specs.Layout.{IsLayout};
-ghost use Rattle.ee_pages.specs.Meaning.{SpellsChange, map_after};
 ghost use Rattle.ee_pages.specs.Pending.{address_of};
-ghost use Rattle.ee_pages.specs.Pushing.{TakesSlot};
-ghost use Rattle.ee_pages.specs.Sets.{other as other_of, set_of, slots_of};
+ghost use Rattle.ee_pages.specs.Sets.{set_of, slots_of};
+ghost use Rattle.ee_core.specs.Appending.{ChangeWritten};
 ghost use Rattle.ee_core.specs.Changes.{Appends, IsCutChange, IsCutMaking, Moves, NeedsTransfer, Proceeds};
+ghost use Rattle.ee_core.specs.Emptying.{Empties, IsCutClear, MayClear};
 ghost use Rattle.ee_core.specs.Finished.{IsMarked, IsStore};
-ghost use Rattle.ee_core.specs.Parts.{ForgetsHeld, HasMoved, map_in, meant, number_written};
-ghost use Rattle.ee_core.specs.Picture.{IsDrawn, filled_set, moved_words, picture_of, with_change};
+ghost use Rattle.ee_core.specs.Lookups.{HasRoomToMake, IsReadyToMake, slots_by};
+ghost use Rattle.ee_core.specs.Parts.{ForgetsHeld, map_in, meant};
+ghost use Rattle.ee_core.specs.Picture.{moved_words};
 ghost use Rattle.ee_core.specs.Puts.{AreApart, carried};
 ghost use Rattle.ee_core.specs.State.{capacity, state_of};
+ghost use Rattle.ee_core.specs.Transfers.{SetMoved};
 
 use crate::change::{Change, Put};
-use crate::copying::Cursor;
 use crate::live_cursor::LiveCursor;
-use crate::moving::transfer;
+use crate::lookup::{Lookup, NoMemory};
+use crate::moving::{transfer, transfer_by_slots, transfer_nothing};
 use crate::variables::Written;
 use crate::writing::append;
 use ee_flash::{Cut, Flash};
 use ee_pages::Layout;
 
 /// Makes a change to which no refusal applies: in a free slot if there is one, else with a transfer.
-/// The layout follows.
-pub(crate) fn make_change<F: Flash>(
+/// The layout and the look-up follow. It stands in both of its callers, so that a write takes fewer
+/// instructions in firmware.
+#[inline(always)]
+pub(crate) fn make_change<F: Flash, L: Lookup>(
     flash: &mut F,
     layout: &mut Layout,
+    lookup: &mut L,
     change: Change,
 ) -> Result<Written, Cut>
     requires layout { IsLayout (F.device flash.old) layout.old }
+    requires ready { let slots = slots_by layout.old (F.device flash.old) in
+        layout.old.fill < slot_count (F.device flash.old).size
+        → IsReadyToMake (L.fits lookup.old slots) (L.is_ready lookup.old slots) change }
+    requires room { let slots = slots_by layout.old (F.device flash.old) in
+        layout.old.fill ≡ slot_count (F.device flash.old).size
+        → HasRoomToMake (L.fits lookup.old slots) (L.has_room lookup.old slots) change }
     requires marked { IsMarked (F.device flash.old) layout.old.side }
     requires address { IsAddress (address_of (meant change)) }
     requires proceeds { Proceeds (F.device flash.old) (meant change ∷ []) }
@@ -45,15 +56,47 @@ pub(crate) fn make_change<F: Flash>(
         (IsCutChange (F.device flash.old) (meant change) (F.device flash.new)) }
     ensures store { IsStore (F.device flash.new) }
     ensures layout { IsOn (F.device flash.new) → IsLayout (F.device flash.new) layout.new }
+    ensures fits { IsOn (F.device flash.new)
+        → L.fits lookup.new (slots_by layout.new (F.device flash.new)) }
 {
     if layout.fill < flash.shape().slots() {
-        append_change(flash, layout, change)?;
-        Ok(Written::Appended)
+        match lookup.append(flash, layout, change) {
+            Ok(()) => Ok(Written::Appended),
+            Err(cut) => Err(cut),
+        }
     } else {
         let (put, forgets) = change.entry();
-        move_unindexed(flash, layout, &[put], forgets)?;
-        Ok(Written::Moved)
+        match lookup.transfer(flash, layout, &[put], forgets) {
+            Ok(()) => Ok(Written::Moved),
+            Err(cut) => Err(cut),
+        }
     }
+}
+
+/// Makes a look-up ready for a value in the first free slot or, where none is free, makes room for it in a transfer. An
+/// `Err`, which only a new address meets, leaves it as it was.
+#[inline(always)]
+pub(crate) fn prepare<F: Flash, L: Lookup>(
+    flash: &F,
+    layout: &Layout,
+    lookup: &mut L,
+    put: Put,
+) -> Result<(), NoMemory>
+    requires layout { IsLayout (F.device flash.now) layout.now }
+    requires fits { L.fits lookup.old (slots_by layout.now (F.device flash.now)) }
+    ensures ready { OnOk result (layout.now.fill < slot_count (F.device flash.now).size
+        → L.is_ready lookup.new (slots_by layout.now (F.device flash.now)) put.address) }
+    ensures room { OnOk result (layout.now.fill ≡ slot_count (F.device flash.now).size
+        → L.has_room lookup.new (slots_by layout.now (F.device flash.now)) (put ∷ [])) }
+    ensures memory { OnErr result L.takes_memory }
+    ensures new { OnErr result ((state_of (F.device flash.now)).map put.address ≡ None) }
+    ensures fits { OnErr result
+        (L.fits lookup.new (slots_by layout.now (F.device flash.now))) }
+{
+    if layout.fill == flash.shape().slots() {
+        return lookup.make_room(flash, layout, &[put]);
+    }
+    lookup.make_ready(flash, layout, put)
 }
 
 /// Makes a change to which no refusal applies in the first free slot. The layout follows.
@@ -70,17 +113,8 @@ pub fn append_change<F: Flash>(
     requires free { layout.old.fill < slot_count (F.device flash.old).size }
     ensures appended { OnOk result
         (Appends (F.device flash.old) (meant change) (F.device flash.new)) }
-    ensures takes { OnOk result (
-        TakesSlot (F.device flash.old) (F.device flash.new) layout.old.side layout.old.generation
-        (map_after (meant change)
-        (map_in layout.old.side (F.device flash.old)))) }
-    ensures spells { OnOk result (SpellsChange (number_written change) (meant change)) }
-    ensures drawn { OnOk result
-        (IsDrawn layout.old.side (F.device flash.new)
-        (with_change (F.device flash.old).size layout.old.fill (number_written change)
-        (picture_of layout.old.side (F.device flash.old)))) }
-    ensures found { OnOk result (IsLayout (F.device flash.new) layout.new) }
-    ensures same_set { OnOk result (layout.new.side ≡ layout.old.side) }
+    ensures written { OnOk result
+        (ChangeWritten (F.device flash.old) (F.device flash.new) layout.old layout.new change) }
     ensures cut { OnErr result
         (IsCutChange (F.device flash.old) (meant change) (F.device flash.new)) }
     ensures store { IsStore (F.device flash.new) }
@@ -110,8 +144,7 @@ pub(crate) fn move_unindexed<F: Flash>(
     ensures store { IsStore (F.device flash.new) }
     ensures layout { IsOn (F.device flash.new) → IsLayout (F.device flash.new) layout.new }
 {
-    let mut cursor = Cursor::new(flash, layout);
-    move_changes(flash, layout, puts, forgets, &mut cursor)?;
+    transfer_by_slots(flash, layout, puts, forgets)?;
     Ok(())
 }
 
@@ -134,22 +167,30 @@ pub fn move_changes<F: Flash, C: LiveCursor>(
     requires over { C.goes_over cursor.old (slots_of (set_of layout.old.side (F.device flash.old))) }
     ensures moved { OnOk result
         (Moves (F.device flash.old) (carried puts.now forgets) (F.device flash.new)) }
-    ensures has_moved { OnOk result
-        (HasMoved (F.device flash.old) (F.device flash.new) layout.old.side layout.old.generation
-        (carried puts.now forgets)) }
-    ensures found { OnOk result (IsLayout (F.device flash.new) layout.new) }
-    ensures other_set { OnOk result (layout.new.side ≡ other_of layout.old.side) }
-    ensures as_many { OnOk result (layout.new.fill ≡ length
+    ensures set_moved { OnOk result
+        (SetMoved (F.device flash.old) (F.device flash.new) layout.old layout.new
+        (carried puts.now forgets)
         (moved_words (carried puts.now forgets) (map_in layout.old.side (F.device flash.old)))) }
-    ensures new_pages { OnOk result
-        (IsDrawn (other_of layout.old.side) (F.device flash.new)
-        (filled_set (F.device flash.old).size (layout.old.generation + 1)
-        (moved_words (carried puts.now forgets) (map_in layout.old.side (F.device flash.old))))) }
     ensures cut { OnErr result
         (IsCutMaking (F.device flash.old) (carried puts.now forgets) (F.device flash.new)) }
     ensures store { IsStore (F.device flash.new) }
     ensures layout { IsOn (F.device flash.new) → IsLayout (F.device flash.new) layout.new }
 {
     transfer(flash, layout, puts, forgets, cursor)?;
+    Ok(())
+}
+
+/// Makes a clear to which no refusal applies. The layout follows.
+pub(crate) fn empty<F: Flash>(flash: &mut F, layout: &mut Layout) -> Result<(), Cut>
+    requires layout { IsLayout (F.device flash.old) layout.old }
+    requires may { MayClear (F.device flash.old) }
+    ensures emptied { OnOk result (Empties (F.device flash.old) (F.device flash.new)) }
+    ensures nothing { OnOk result
+        ((address : ℕ) → map_in layout.new.side (F.device flash.new) address ≡ None) }
+    ensures cut { OnErr result (IsCutClear (F.device flash.old) (F.device flash.new)) }
+    ensures store { IsStore (F.device flash.new) }
+    ensures layout { IsOn (F.device flash.new) → IsLayout (F.device flash.new) layout.new }
+{
+    transfer_nothing(flash, layout)?;
     Ok(())
 }

@@ -1,17 +1,14 @@
 //! The set that isn't live: how many of its pages wait to be erased, and the erasing of one.
-ghost use Rattle.std.specs.Prelude.{◌≡◌, ◌<◌, ◌≤◌, ◌⊎◌, ℕ, ◌+◌, [], ◌∷◌, IfNone, IfSome, OnErr, OnOk, false, true};
+ghost use Rattle.std.specs.Prelude.{◌≡◌, ◌<◌, ◌≤◌, ◌⊎◌, ℕ, ◌+◌, IfNone, IfSome, OnErr, OnOk, false, true};
 ghost use Rattle.ee_flash.specs.Device.{IsOn, page_at};
 ghost use Rattle.ee_flash.specs.Power.{Ends};
-ghost use Rattle.ee_flash.specs.Step.{IsPartlyErased};
 ghost use Rattle.ee_pages.specs.Laws.{IsPageOf, KeepsLiveSet};
 ghost use Rattle.ee_pages.specs.Layout.{IsLayout};
-ghost use Rattle.ee_pages.specs.Legal.{IsLive};
 ghost use Rattle.ee_pages.specs.Page.{is_blank};
 ghost use Rattle.ee_pages.specs.Sets.{first_page as first_of, other as other_of, pending_of, set_of};
 ghost use Rattle.ee_core.specs.Calls.{ErasesLowest, KeepsAllButLowest};
 ghost use Rattle.ee_core.specs.Finished.{IsMarked};
-ghost use Rattle.ee_core.specs.Parts.{IsSameBut, IsSameSet};
-ghost use Rattle.ee_core.specs.State.{Wears};
+ghost use Rattle.ee_core.specs.Parts.{ErasesPage};
 
 use ee_flash::{Cut, Flash};
 use ee_pages::{Layout, Side, first_page, is_blank as page_is_blank};
@@ -44,35 +41,15 @@ pub fn clean<F: Flash>(flash: &mut F, layout: &Layout) -> Result<bool, Cut>
     let Some(page) = first_pending(flash, layout.side.other()) else {
         return Ok(false);
     };
-    erase_other(flash, layout.side, layout.generation, page)?;
+    erase_other(flash, layout.side, page)?;
     Ok(true)
 }
 
-/// Erases a page, which is not blank, of the set that is not live.
-pub(crate) fn erase_other<F: Flash>(
-    flash: &mut F,
-    side: Side,
-    generation: u32,
-    page: usize,
-) -> Result<(), Cut>
-    requires live { IsLive (F.device flash.old) side generation }
+/// Erases a page, which is not blank, of the other set, whatever stands in either.
+pub(crate) fn erase_other<F: Flash>(flash: &mut F, side: Side, page: usize) -> Result<(), Cut>
     requires page { IsPageOf (F.device flash.old).size (other_of side) page }
     requires not_blank { is_blank (page_at (F.device flash.old) page) ≡ false }
-    ensures keeps { KeepsLiveSet (F.device flash.old) (F.device flash.new) side generation }
-    ensures same_set { IsSameSet side (F.device flash.old) (F.device flash.new) }
-    ensures others { IsSameBut page (F.device flash.old) (F.device flash.new) }
-    ensures blank { OnOk result (is_blank (page_at (F.device flash.new) page) ≡ true) }
-    ensures partly { OnErr result (IsPartlyErased
-        (page_at (F.device flash.old) page) (page_at (F.device flash.new) page)) }
-    ensures one_less { OnOk result (pending_of (set_of (other_of side) (F.device flash.new)) + 1
-        ≡ pending_of (set_of (other_of side) (F.device flash.old))) }
-    ensures cut { (pending_of (set_of (other_of side) (F.device flash.new))
-        ≡ pending_of (set_of (other_of side) (F.device flash.old)))
-        ⊎ (pending_of (set_of (other_of side) (F.device flash.new)) + 1
-        ≡ pending_of (set_of (other_of side) (F.device flash.old))) }
-    ensures wear { OnOk result (Wears (page ∷ []) (F.device flash.old) (F.device flash.new)) }
-    ensures begun { OnErr result (IsOn (F.device flash.old)
-        → Wears (page ∷ []) (F.device flash.old) (F.device flash.new)) }
+    ensures erases { ErasesPage result (F.device flash.old) (F.device flash.new) side page }
     ensures power { Ends result (F.device flash.old) (F.device flash.new) }
 {
     flash.erase(page)?;

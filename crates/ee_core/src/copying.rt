@@ -4,17 +4,15 @@ ghost use Rattle.ee_codec.specs.Words.{IsAddress, element};
 ghost use Rattle.ee_flash.specs.Power.{Ends};
 ghost use Rattle.ee_flash.specs.Size.{slot_count};
 ghost use Rattle.ee_flash.specs.declared.word.Word.TheVariants.{Held};
-ghost use Rattle.ee_pages.specs.Laws.{KeepsLiveSet};
-ghost use Rattle.ee_pages.specs.Layout.{IsLayout};
+ghost use Rattle.ee_pages.specs.Laws.{KeepsSide};
 ghost use Rattle.ee_pages.specs.Meaning.{Put as MapPut, SpellsChange, changed_by, map_after, live_in};
 ghost use Rattle.ee_pages.specs.LiveOrder.{IsNextLive};
-ghost use Rattle.ee_pages.specs.Sets.{first_page as first_of, other as other_of, page_of_slot, place_of_slot, set_of, slots_of};
+ghost use Rattle.ee_pages.specs.Sets.{other as other_of, set_of, slots_of};
 ghost use Rattle.ee_core.specs.Course.{GoesOver, course_of, last_given};
-ghost use Rattle.ee_core.specs.Cuts.{PutsPartly, SetsPartly};
 ghost use Rattle.ee_core.specs.Parts.{Stands, map_in, meant, number_written, replaced_map};
 ghost use Rattle.ee_core.specs.Picture.{elements_of, map_without, moved_words, put_words};
 ghost use Rattle.ee_core.specs.Puts.{AreApart, carried, names, puts_of};
-ghost use Rattle.ee_core.specs.Transfers.{Fills, IsOpenAt, IsNewlyOpened, OpensForSlot, PutsInSlot};
+ghost use Rattle.ee_core.specs.Transfers.{Fills, IsOpenAt, IsNewlyOpened, ProgramsSlot, ReceivesSlot};
 
 use crate::change::{Change, Put};
 use crate::live_cursor::LiveCursor;
@@ -44,7 +42,6 @@ impl Model for Cursor {
 impl Cursor {
     /// Before the first.
     pub(crate) fn new<F: Flash>(flash: &F, layout: &Layout) -> Cursor
-        requires { IsLayout (F.device flash.now) layout.now }
         ensures first { result.after ≡ 0 }
         ensures over { GoesOver (map_in layout.now.side (F.device flash.now)) result }
     {
@@ -78,7 +75,6 @@ fn next_given<F: Flash>(
     batch: &mut LiveBatch,
     given: &mut usize,
 ) -> Option<(Address, u32)>
-    requires layout { IsLayout (F.device flash.now) layout.now }
     requires over { GoesOver (map_in layout.now.side (F.device flash.now))
         (course_of batch.old.found.items batch.old.through given.old) }
     ensures next { IsNextLive (map_in layout.now.side (F.device flash.now))
@@ -90,9 +86,7 @@ fn next_given<F: Flash>(
         (course_of batch.new.found.items batch.new.through given.new)) }
 {
     'batches: loop {
-        let found = batch.found.as_slice();
-        if *given < found.len() {
-            let live = found[*given];
+        if let Some(live) = batch.found.get(*given) {
             *given += 1;
             return Some(live);
         }
@@ -207,8 +201,7 @@ fn copy_one<F: Flash>(
 ) -> Result<(), Cut>
     requires at { IsOpenAt (F.device flash.old) layout.now place.old }
     requires free { passed ≡ false → place.old.slot < slot_count (F.device flash.old).size }
-    ensures keeps { KeepsLiveSet (F.device flash.old)
-        (F.device flash.new) layout.now.side layout.now.generation }
+    ensures keeps { KeepsSide (F.device flash.old) (F.device flash.new) layout.now.side }
     ensures at { OnOk result (IsOpenAt (F.device flash.new) layout.now place.new) }
     ensures passed { passed ≡ true → (result ≡ Ok tt) × (place.new ≡ place.old)
         × (F.device flash.new ≡ F.device flash.old) }
@@ -260,16 +253,8 @@ fn stage<F: Flash>(
 fn receive<F: Flash>(flash: &mut F, layout: &Layout, place: Place) -> Result<(), Cut>
     requires at { IsOpenAt (F.device flash.old) layout.now place }
     requires free { place.slot < slot_count (F.device flash.old).size }
-    ensures keeps { KeepsLiveSet (F.device flash.old)
-        (F.device flash.new) layout.now.side layout.now.generation }
-    ensures opens { OnOk result
-        (OpensForSlot (F.device flash.old) (F.device flash.new) layout.now.side
-        (layout.now.generation + 1) place.slot) }
-    ensures begun { let old = F.device flash.old in OnErr result
-        (SetsPartly (first_of old.size (other_of layout.now.side)
-        + page_of_slot old.size place.slot) (Mark.Receive (layout.now.generation + 1))
-        old (F.device flash.new)) }
-    ensures wear { (F.device flash.new).wear ≡ (F.device flash.old).wear }
+    ensures receives { ReceivesSlot result (F.device flash.old) (F.device flash.new) layout.now
+        place.slot }
     ensures power { Ends result (F.device flash.old) (F.device flash.new) }
 {
     mark(flash, place.page, Mark::Receive(layout.generation + 1))?;
@@ -280,16 +265,8 @@ fn receive<F: Flash>(flash: &mut F, layout: &Layout, place: Place) -> Result<(),
 fn put_in<F: Flash>(flash: &mut F, layout: &Layout, place: Place, change: Change) -> Result<(), Cut>
     requires at { IsOpenAt (F.device flash.old) layout.now place }
     requires free { place.slot < slot_count (F.device flash.old).size }
-    ensures keeps { KeepsLiveSet (F.device flash.old)
-        (F.device flash.new) layout.now.side layout.now.generation }
-    ensures puts { OnOk result
-        (PutsInSlot (F.device flash.old) (F.device flash.new) layout.now.side
-        (layout.now.generation + 1) place.slot change) }
-    ensures begun { let old = F.device flash.old in OnErr result
-        (PutsPartly (first_of old.size (other_of layout.now.side)
-        + page_of_slot old.size place.slot) (place_of_slot old.size place.slot)
-        (Held (number_written change)) old (F.device flash.new)) }
-    ensures wear { (F.device flash.new).wear ≡ (F.device flash.old).wear }
+    ensures programs { ProgramsSlot result (F.device flash.old) (F.device flash.new) layout.now
+        place.slot change }
     ensures power { Ends result (F.device flash.old) (F.device flash.new) }
 {
     flash.program(place.page, place.at, change.word())?;

@@ -2,6 +2,7 @@
 //! that they leave, and of starts; each the contract of a function that does nothing.
 ghost use Rattle.ee_core.specs.PageStates.{MovedWordsAreLive, PicturesTellImages, StatesAfterAppend, StatesAfterClean, StatesAfterFormat, StatesAfterOpening, StatesAfterTransfer};
 ghost use Rattle.ee_core.specs.Puts.{ListsAreThere};
+ghost use Rattle.ee_core.specs.Rescues.{HeldThroughCuts, OneWordCostsNoMore, WaitingWordCostsNoMore};
 ghost use Rattle.ee_core.specs.Starts.{StartsEnd};
 ghost use Rattle.ee_core.specs.Runs.{CleanRunsEraseSets, EachPageWearsEverySecondTransfer, EachTransferErasesASet, NoPageWearsMore, NoTransferErasesMore, NoPageWearsMuchMore, RunsGoOn, TheStoreIsAMap};
 
@@ -16,7 +17,7 @@ pub fn each_transfer_erases_a_set()
     ensures { EachTransferErasesASet }
 {}
 
-/// With lists of several values too no transfer costs more than the erases of one set.
+/// With lists of several values and clears too no transfer costs more than the erases of one set.
 pub fn no_transfer_erases_more()
     ensures { NoTransferErasesMore }
 {}
@@ -95,4 +96,21 @@ pub fn pictures_tell_images()
 /// A device with no word programmed gets an empty store by `start`, however often power is cut in it.
 pub fn starts_end()
     ensures { StartsEnd }
+{}
+
+/// Where a set is held, a rescue or an opening finds its map behind any cuts of such.
+pub fn held_through_cuts()
+    ensures { HeldThroughCuts }
+{}
+
+/// One word of a live set that went bad costs its own value, and no more, behind any cuts of rescues
+/// and openings too. Of the two words that commit the set it takes that the other set isn't begun, or
+/// is marked whole, and that no cut came.
+pub fn one_word_costs_no_more()
+    ensures { OneWordCostsNoMore }
+{}
+
+/// One word of the set that waits costs nothing, by the same premise on its commit words.
+pub fn waiting_word_costs_no_more()
+    ensures { WaitingWordCostsNoMore }
 {}

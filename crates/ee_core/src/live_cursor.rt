@@ -1,7 +1,6 @@
 //! What a transfer copies by: a way over the live addresses, of which each store has its own.
 ghost use Rattle.std.specs.Prelude.{◌≡◌, IfSome, OnSome};
 ghost use Rattle.ee_codec.specs.Words.{IsAddress};
-ghost use Rattle.ee_pages.specs.Layout.{IsLayout};
 ghost use Rattle.ee_pages.specs.LiveOrder.{IsNextLive};
 ghost use Rattle.ee_pages.specs.Sets.{set_of, slots_of};
 ghost use Rattle.ee_core.specs.Parts.{map_in};
@@ -24,7 +23,6 @@ pub trait LiveCursor {
 
     /// The next live address, with its value. `None` if there is none.
     fn next<F: Flash>(&mut self, flash: &F, layout: &Layout) -> Option<(Address, u32)>
-        requires layout { IsLayout (F.device flash.now) layout.now }
         requires over { goes_over self.old (slots_of (set_of layout.now.side (F.device flash.now))) }
         ensures next { IsNextLive (map_in layout.now.side (F.device flash.now)) (behind self.old)
             result }

@@ -1,4 +1,4 @@
-//! The store without an index: it knows where the live set is and how far it is used, and reads the rest.
+//! The store: it knows where the live set is and how far it is used, and finds values by a look-up.
 ghost use Rattle.std.specs.Bool.{MatchBool};
 ghost use Rattle.std.specs.Prelude.{◌≡◌, ◌≢◌, ◌<◌, ◌≤◌, [], ◌∷◌, length};
 ghost use Rattle.ee_flash.specs.Device.{IsOn};
@@ -6,54 +6,78 @@ ghost use Rattle.ee_pages.specs.Layout.{IsLayout};
 ghost use Rattle.ee_core.specs.Calls.{Writes, WritesAll};
 ghost use Rattle.ee_core.specs.Changes.{IsFull, IsSpent, greatest_generation};
 ghost use Rattle.ee_core.specs.Finished.{IsStore};
+ghost use Rattle.ee_core.specs.Lookups.{slots_by};
 ghost use Rattle.ee_pages.specs.Meaning.{changed_by, live_in};
 ghost use Rattle.ee_core.specs.Puts.{AreApart, puts_of};
 ghost use Rattle.ee_core.specs.State.{capacity, state_of, torn_slots_of};
 
 use crate::change::{Change, Put};
-use crate::changing::{make_change, move_unindexed};
+use crate::changing::{empty, make_change, prepare};
 use crate::cleaning::{clean, count_pending};
-use crate::puts::{first_twice, live_with};
-use crate::variables::{ForgetFault, Off, Variables, WriteAllFault, WriteFault, Written};
+use crate::lookup::{Lookup, Slots};
+use crate::puts::first_twice;
+use crate::variables::{
+    ClearFault, ForgetFault, Off, Variables, WriteAllFault, WriteFault, Written,
+};
 use ee_codec::Address;
 use ee_flash::{Cut, Flash};
-use ee_pages::{Layout, LiveBatch, latest, live_count, next_batch, next_live, torn_slots};
+use ee_pages::{Layout, LiveBatch, torn_slots};
 use std::marker::Model;
 
 /// The greatest generation of a set.
 pub const GREATEST_GENERATION: u32 = 4_294_967_294;
 
 /// Variables in a flash device. It keeps in memory where the live set is and how far it is used, and
-/// reads all else from the flash.
+/// finds values by a look-up: `Slots` keeps nothing, and reads all else from the flash.
 ///
 /// Source: two sets, of which one takes the writes, AN4894; the rest is ours.
 #[derive(Drop)]
-pub struct Store<F: Flash + Drop> {
+pub struct Store<F: Flash + Drop, L: Lookup + Drop = Slots> {
     flash: F,
     layout: Layout,
+    lookup: L,
 }
 
-impl<F: Flash + Drop> Model for Store<F> {
+impl<F: Flash + Drop, L: Lookup + Drop> Model for Store<F, L> {
     ghost use Rattle.ee_flash.specs.Device.{Device, IsOn};
     ghost use Rattle.ee_pages.specs.Layout.{IsLayout};
     ghost use Rattle.ee_core.specs.Finished.{IsStore};
+    ghost use Rattle.ee_core.specs.Lookups.{slots_by};
 
     ghost Value = { Device };
 
     ghost view = { λ store. F.device store.flash };
 
     ghost invariant = { λ store. IsStore (F.device store.flash)
-        × (IsOn (F.device store.flash) → IsLayout (F.device store.flash) store.layout) };
+        × (IsOn (F.device store.flash) → IsLayout (F.device store.flash) store.layout)
+        × (IsOn (F.device store.flash)
+        → L.fits store.lookup (slots_by store.layout (F.device store.flash))) };
 }
 
 impl<F: Flash + Drop> Store<F> {
-    /// A store of this device, of which this is the layout.
+    /// A store of this device, of which this is the layout. It looks through the slots.
     pub(crate) fn of(flash: F, layout: Layout) -> Store<F>
         requires store { IsStore (F.device flash) }
         requires layout { IsLayout (F.device flash) layout }
         ensures { result ≡ F.device flash }
     {
-        Store { flash, layout }
+        Store::with(flash, layout, Slots)
+    }
+}
+
+impl<F: Flash + Drop, L: Lookup + Drop> Store<F, L> {
+    /// A store of this device, of which this is the layout. It finds values by this look-up.
+    pub(crate) fn with(flash: F, layout: Layout, lookup: L) -> Store<F, L>
+        requires store { IsStore (F.device flash) }
+        requires layout { IsLayout (F.device flash) layout }
+        requires fits { L.fits lookup (slots_by layout (F.device flash)) }
+        ensures { result ≡ F.device flash }
+    {
+        Store {
+            flash,
+            layout,
+            lookup,
+        }
     }
 
     /// The device, to be looked at.
@@ -71,13 +95,14 @@ impl<F: Flash + Drop> Store<F> {
         self.flash
     }
 
-    /// The device, as it is, and its layout.
-    pub(crate) fn into_parts(self) -> (F, Layout)
+    /// The device, as it is, its layout and the look-up.
+    pub(crate) fn into_parts(self) -> (F, Layout, L)
         ensures device { F.device result.0 ≡ self }
         ensures store { IsStore self }
         ensures layout { IsOn self → IsLayout self result.1 }
+        ensures fits { IsOn self → L.fits result.2 (slots_by result.1 self) }
     {
-        (self.flash, self.layout)
+        (self.flash, self.layout, self.lookup)
     }
 
     /// How many slots of the live set are torn, 0 to its fill: words in whose step power was cut. It
@@ -94,7 +119,7 @@ impl<F: Flash + Drop> Store<F> {
     /// Writes the one value of a list.
     fn write_one(&mut self, put: Put) -> Result<Written, WriteAllFault>
         ensures writes { WritesAll self.old (put ∷ []) result self.new }
-        ensures no_memory { result ≢ Err WriteAllFault.Memory }
+        ensures memory { result ≡ Err WriteAllFault.Memory → L.takes_memory }
     {
         match self.write(put.address, put.value) {
             Ok(written) => Ok(written),
@@ -111,7 +136,7 @@ impl<F: Flash + Drop> Store<F> {
         requires on { IsOn self.old }
         requires several { 1 < length puts.now }
         ensures writes { WritesAll self.old puts.now result self.new }
-        ensures no_memory { result ≢ Err WriteAllFault.Memory }
+        ensures memory { result ≡ Err WriteAllFault.Memory → L.takes_memory }
     {
         if let Some(place) = first_twice(puts) {
             return Err(WriteAllFault::Twice(place));
@@ -122,7 +147,13 @@ impl<F: Flash + Drop> Store<F> {
         if self.is_last() {
             return Err(WriteAllFault::Spent);
         }
-        match move_unindexed(&mut self.flash, &mut self.layout, puts, false) {
+        let Ok(()) = self.lookup.make_room(&self.flash, &self.layout, puts) else {
+            return Err(WriteAllFault::Memory);
+        };
+        match self
+            .lookup
+            .transfer(&mut self.flash, &mut self.layout, puts, false)
+        {
             Ok(()) => Ok(Written::Moved),
             Err(Cut) => Err(WriteAllFault::Cut),
         }
@@ -137,7 +168,7 @@ impl<F: Flash + Drop> Store<F> {
             MatchBool result (capacity self.now < live) (live ≤ capacity self.now) }
     {
         let slots = self.flash.shape().slots();
-        puts.len() > slots || live_with(&self.flash, &self.layout, puts) > slots
+        puts.len() > slots || self.lookup.live_with(&self.flash, &self.layout, puts) > slots
     }
 
     /// Whether a write or forgetting must be refused since no generation is left for the transfer
@@ -171,14 +202,14 @@ impl<F: Flash + Drop> Store<F> {
         if self.layout.fill < slots {
             return false;
         }
-        match latest(&self.flash, &self.layout, address) {
+        match self.lookup.value_of(&self.flash, &self.layout, address) {
             Some(_) => false,
-            None => live_count(&self.flash, &self.layout) == slots,
+            None => self.lookup.live_count(&self.flash, &self.layout) == slots,
         }
     }
 }
 
-impl<F: Flash + Drop> Variables for Store<F> {
+impl<F: Flash + Drop, L: Lookup + Drop> Variables for Store<F, L> {
     ghost use Rattle.ee_flash.specs.Device.{Device};
 
     ghost device = { λ store. store };
@@ -195,14 +226,14 @@ impl<F: Flash + Drop> Variables for Store<F> {
         if !self.flash.is_on() {
             return Err(Off);
         }
-        Ok(latest(&self.flash, &self.layout, address))
+        Ok(self.lookup.value_of(&self.flash, &self.layout, address))
     }
 
     #[inline(always)]
     fn write(&mut self, address: Address, value: u32) -> Result<Written, WriteFault>
         ensures writes { Writes self.old address value result self.new }
-        // It keeps no index, and never runs out of memory.
-        ensures no_memory { result ≢ Err WriteFault.Memory }
+        // With a look-up that takes no memory it never runs out of it.
+        ensures memory { result ≡ Err WriteFault.Memory → L.takes_memory }
     {
         if !self.flash.is_on() {
             return Err(WriteFault::Off);
@@ -213,9 +244,18 @@ impl<F: Flash + Drop> Variables for Store<F> {
         if self.is_spent() {
             return Err(WriteFault::Spent);
         }
+        let Ok(()) = prepare(
+            &self.flash,
+            &self.layout,
+            &mut self.lookup,
+            Put { address, value },
+        ) else {
+            return Err(WriteFault::Memory);
+        };
         match make_change(
             &mut self.flash,
             &mut self.layout,
+            &mut self.lookup,
             Change::Put { address, value },
         ) {
             Ok(written) => Ok(written),
@@ -225,8 +265,8 @@ impl<F: Flash + Drop> Variables for Store<F> {
 
     fn write_all(&mut self, changes: &[Put]) -> Result<Written, WriteAllFault>
         ensures writes { WritesAll self.old changes.now result self.new }
-        // It keeps no index, and never runs out of memory.
-        ensures no_memory { result ≢ Err WriteAllFault.Memory }
+        // With a look-up that takes no memory it never runs out of it.
+        ensures memory { result ≡ Err WriteAllFault.Memory → L.takes_memory }
     {
         if !self.flash.is_on() {
             return Err(WriteAllFault::Off);
@@ -244,7 +284,7 @@ impl<F: Flash + Drop> Variables for Store<F> {
         if !self.flash.is_on() {
             return Err(ForgetFault::Off);
         }
-        let Some(value) = latest(&self.flash, &self.layout, address) else {
+        let Some(value) = self.lookup.value_of(&self.flash, &self.layout, address) else {
             return Err(ForgetFault::Absent);
         };
         if self.is_spent() {
@@ -253,10 +293,30 @@ impl<F: Flash + Drop> Variables for Store<F> {
         match make_change(
             &mut self.flash,
             &mut self.layout,
+            &mut self.lookup,
             Change::Forget { address, value },
         ) {
             Ok(written) => Ok(written),
             Err(Cut) => Err(ForgetFault::Cut),
+        }
+    }
+
+    fn clear(&mut self) -> Result<bool, ClearFault> {
+        if !self.flash.is_on() {
+            return Err(ClearFault::Off);
+        }
+        if self.layout.fill == 0 {
+            return Ok(false);
+        }
+        if self.is_last() {
+            return Err(ClearFault::Spent);
+        }
+        match empty(&mut self.flash, &mut self.layout) {
+            Ok(()) => {
+                self.lookup.find_nothing();
+                Ok(true)
+            }
+            Err(Cut) => Err(ClearFault::Cut),
         }
     }
 
@@ -283,16 +343,14 @@ impl<F: Flash + Drop> Variables for Store<F> {
     }
 
     fn live_count(&self) -> usize {
-        live_count(&self.flash, &self.layout)
+        self.lookup.live_count(&self.flash, &self.layout)
     }
 
     fn next_live(&self, after: Option<Address>) -> Option<(Address, u32)> {
-        next_live(&self.flash, &self.layout, after)
+        self.lookup.next_live(&self.flash, &self.layout, after)
     }
 
     fn next_batch(&self, after: Option<Address>) -> LiveBatch {
-        let mut batch = LiveBatch::new();
-        next_batch(&self.flash, &self.layout, after, &mut batch);
-        batch
+        self.lookup.next_batch(&self.flash, &self.layout, after)
     }
 }

@@ -7,6 +7,7 @@ ghost use Rattle.ee_flash.specs.Size.{slot_count};
 ghost use Rattle.ee_pages.specs.Meaning.{live_in};
 ghost use Rattle.ee_pages.specs.LiveOrder.{AreLiveThrough, IsNextLive, above_of};
 ghost use Rattle.ee_core.specs.Calls.{Cleans, Forgets, Reads, Writes, WritesAll};
+ghost use Rattle.ee_core.specs.Emptying.{Clears};
 ghost use Rattle.ee_core.specs.Finished.{IsStore};
 ghost use Rattle.ee_core.specs.State.{state_of};
 
@@ -86,6 +87,20 @@ pub enum ForgetFault {
     Cut,
 }
 
+/// Why nothing is cleared, the first cause that applies. All but `Cut` leave the device as it was.
+///
+/// Source: ours.
+#[derive(Clone, Copy, Debug, PartialEq, Eq)]
+pub enum ClearFault {
+    /// The device is off.
+    Off,
+    /// A slot is used, and the generation is the greatest, 4294967294.
+    Spent,
+    /// Power failed in this call. The device is off; each address has its value still, or none has
+    /// one.
+    Cut,
+}
+
 /// Variables of 32 bits, each with an address of 1 to 65534, kept in a flash device.
 ///
 /// Source: variables by virtual address, of which the last element written counts, and a clean-up
@@ -140,6 +155,17 @@ pub trait Variables {
     /// The first `ForgetFault` that applies.
     fn forget(&mut self, address: Address) -> Result<Written, ForgetFault>
         ensures { Forgets (device self.old) address result (device self.new) };
+
+    /// Takes the values of all addresses away at once: after this call, and after a cut in it too, none
+    /// has a value or all have theirs. `false` if no slot is used: then it takes no step. Else the
+    /// other set becomes the live one with nothing in it. The words of the old values stay in the
+    /// flash until their set is erased.
+    ///
+    /// # Errors
+    ///
+    /// The first `ClearFault` that applies.
+    fn clear(&mut self) -> Result<bool, ClearFault>
+        ensures { Clears (device self.old) result (device self.new) };
 
     /// Erases the lowest page of the other set that is not blank. `false` if there is none.
     ///

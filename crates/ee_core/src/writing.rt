@@ -1,17 +1,14 @@
 //! The appending of a change: where its slot begins a further page, two marks come first.
-ghost use Rattle.std.specs.Prelude.{◌≡◌, ◌<◌, ◌⊎◌, ◌+◌, IfOk, OnErr, OnOk};
+ghost use Rattle.std.specs.Prelude.{◌≡◌, ◌<◌, ◌+◌, OnErr, OnOk};
 ghost use Rattle.ee_flash.specs.Power.{Ends};
 ghost use Rattle.ee_flash.specs.Size.{slot_count};
-ghost use Rattle.ee_flash.specs.declared.word.Word.TheVariants.{Held};
-ghost use Rattle.ee_pages.specs.Laws.{KeepsLiveSet};
 ghost use Rattle.ee_pages.specs.Layout.{IsLayout};
-ghost use Rattle.ee_pages.specs.Meaning.{SpellsChange, map_after};
-ghost use Rattle.ee_pages.specs.Pushing.{TakesSlot};
 ghost use Rattle.ee_pages.specs.Sets.{first_page as first_of, other as other_of, page_of_slot, place_of_slot};
-ghost use Rattle.ee_core.specs.Cuts.{IsDrawnPartly, PutsPartly};
+ghost use Rattle.ee_core.specs.Appending.{Pushes, WritesChange};
+ghost use Rattle.ee_core.specs.Cuts.{IsDrawnPartly};
 ghost use Rattle.ee_core.specs.Finished.{IsMarked};
-ghost use Rattle.ee_core.specs.Parts.{IsReady, IsSameSet, KeepsMarks, PutsWord, Stays, map_in, meant, number_written};
-ghost use Rattle.ee_core.specs.Picture.{IsDrawn, marked_to, picture_of, with_change};
+ghost use Rattle.ee_core.specs.Parts.{IsReady, IsSameSet, Stays};
+ghost use Rattle.ee_core.specs.Picture.{IsDrawn, marked_to, picture_of};
 
 use crate::change::Change;
 use crate::marking::mark_live;
@@ -29,48 +26,46 @@ pub(crate) fn append<F: Flash>(
     requires layout { IsLayout (F.device flash.old) layout.old }
     requires marked { IsMarked (F.device flash.old) layout.old.side }
     requires free { layout.old.fill < slot_count (F.device flash.old).size }
-    ensures takes { OnOk result (
-        TakesSlot (F.device flash.old) (F.device flash.new) layout.old.side layout.old.generation
-        (map_after (meant change)
-        (map_in layout.old.side (F.device flash.old)))) }
-    ensures layout { OnOk result (IsLayout (F.device flash.new) layout.new) }
-    ensures same_set { OnOk result (layout.new.side ≡ layout.old.side) }
-    ensures marked { OnOk result (IsMarked (F.device flash.new) layout.old.side) }
-    ensures cut { OnErr result (
-        KeepsLiveSet (F.device flash.old) (F.device flash.new) layout.old.side layout.old.generation
-        ⊎ TakesSlot (F.device flash.old) (F.device flash.new) layout.old.side layout.old.generation
-        (map_in layout.old.side (F.device flash.old))
-        ⊎ TakesSlot (F.device flash.old) (F.device flash.new) layout.old.side layout.old.generation
-        (map_after (meant change)
-        (map_in layout.old.side (F.device flash.old)))) }
-    ensures spells { OnOk result (SpellsChange (number_written change) (meant change)) }
-    ensures drawn { OnOk result
-        (IsDrawn layout.old.side (F.device flash.new)
-        (with_change (F.device flash.old).size layout.old.fill (number_written change)
-        (picture_of layout.old.side (F.device flash.old)))) }
-    ensures begun { OnErr result
-        (IsDrawnPartly layout.old.side (F.device flash.new)
-        (picture_of layout.old.side (F.device flash.old))
-        (with_change (F.device flash.old).size layout.old.fill (number_written change)
-        (picture_of layout.old.side (F.device flash.old)))) }
-    ensures other { IsSameSet (other_of layout.old.side) (F.device flash.old) (F.device flash.new) }
-    ensures wear { (F.device flash.new).wear ≡ (F.device flash.old).wear }
+    // At an error power was cut: the change is there in part, or whole, or not at all.
+    ensures writes { WritesChange result (F.device flash.old) (F.device flash.new)
+        layout.old layout.new change }
     ensures power { Ends result (F.device flash.old) (F.device flash.new) }
 {
-    open_page(flash, layout)?;
-    let page = push(flash, layout, change)?;
+    let (page, at) = free_slot(flash, layout);
+    open_page(flash, layout, page)?;
+    push(flash, layout, page, at, change)?;
     layout.current = page;
     layout.fill += 1;
     Ok(())
 }
 
-/// Marks the page of the first free slot as the one that is used, if it is a further one, and the
-/// page before it as used up.
+/// The page of the first free slot, and the slot's place in it. The layout has the page in use, so that
+/// this takes no division.
 #[inline(always)]
-fn open_page<F: Flash>(flash: &mut F, layout: &Layout) -> Result<(), Cut>
+fn free_slot<F: Flash>(flash: &F, layout: &Layout) -> (usize, usize)
+    requires layout { IsLayout (F.device flash.now) layout.now }
+    requires free { layout.now.fill < slot_count (F.device flash.now).size }
+    ensures page { let size = (F.device flash.now).size in
+        result.0 ≡ first_of size layout.now.side + page_of_slot size layout.now.fill }
+    ensures place { result.1 ≡ place_of_slot (F.device flash.now).size layout.now.fill }
+{
+    let slots = flash.shape().words() - HEADER_WORDS;
+    let used = layout.fill - (layout.current - first_page(flash, layout.side)) * slots;
+    if used == slots {
+        return (layout.current + 1, HEADER_WORDS);
+    }
+    (layout.current, HEADER_WORDS + used)
+}
+
+/// Marks the page of the first free slot, which is this one, as the one that is used, if it is a further
+/// one, and the page before it as used up.
+#[inline(always)]
+fn open_page<F: Flash>(flash: &mut F, layout: &Layout, page: usize) -> Result<(), Cut>
     requires layout { IsLayout (F.device flash.old) layout.now }
     requires marked { IsMarked (F.device flash.old) layout.now.side }
     requires free { layout.now.fill < slot_count (F.device flash.old).size }
+    requires page { let size = (F.device flash.old).size in
+        page ≡ first_of size layout.now.side + page_of_slot size layout.now.fill }
     ensures stays { Stays (F.device flash.old) (F.device flash.new)
         layout.now.side layout.now.generation }
     ensures other { IsSameSet (other_of layout.now.side) (F.device flash.old) (F.device flash.new) }
@@ -86,8 +81,7 @@ fn open_page<F: Flash>(flash: &mut F, layout: &Layout) -> Result<(), Cut>
         (picture_of layout.now.side (F.device flash.old)))) }
     ensures power { Ends result (F.device flash.old) (F.device flash.new) }
 {
-    let slots = flash.shape().words() - HEADER_WORDS;
-    if layout.fill == 0 || layout.fill % slots != 0 {
+    if page == layout.current {
         return Ok(());
     }
     mark_live(flash, layout, layout.current, Mark::Valid)?;
@@ -95,40 +89,24 @@ fn open_page<F: Flash>(flash: &mut F, layout: &Layout) -> Result<(), Cut>
     Ok(())
 }
 
-/// Programs a change into the first free slot of the live set, and gives the page of that slot.
+/// Programs a change into the first free slot of the live set, which stands in this place of this page.
 #[inline(always)]
-fn push<F: Flash>(flash: &mut F, layout: &Layout, change: Change) -> Result<usize, Cut>
+fn push<F: Flash>(
+    flash: &mut F,
+    layout: &Layout,
+    page: usize,
+    at: usize,
+    change: Change,
+) -> Result<(), Cut>
     requires layout { IsLayout (F.device flash.old) layout.now }
     requires free { layout.now.fill < slot_count (F.device flash.old).size }
-    ensures page { let size = (F.device flash.old).size in IfOk result
-        (λ page. page ≡ first_of size layout.now.side + page_of_slot size layout.now.fill) }
-    ensures takes { OnOk result (
-        TakesSlot (F.device flash.old) (F.device flash.new) layout.now.side layout.now.generation
-        (map_after (meant change)
-        (map_in layout.now.side (F.device flash.old)))) }
-    ensures cut { OnErr result (
-        KeepsLiveSet (F.device flash.old) (F.device flash.new) layout.now.side layout.now.generation
-        ⊎ TakesSlot (F.device flash.old) (F.device flash.new) layout.now.side layout.now.generation
-        (map_in layout.now.side (F.device flash.old))
-        ⊎ TakesSlot (F.device flash.old) (F.device flash.new) layout.now.side layout.now.generation
-        (map_after (meant change)
-        (map_in layout.now.side (F.device flash.old)))) }
-    ensures spells { OnOk result (SpellsChange (number_written change) (meant change)) }
-    ensures marks { KeepsMarks (F.device flash.old) (F.device flash.new) }
-    ensures puts { let old = F.device flash.old in OnOk result
-        (PutsWord (first_of old.size layout.now.side + page_of_slot old.size layout.now.fill)
-        (place_of_slot old.size layout.now.fill) (Held (number_written change))
-        old (F.device flash.new)) }
-    ensures begun { let old = F.device flash.old in OnErr result
-        (PutsPartly (first_of old.size layout.now.side + page_of_slot old.size layout.now.fill)
-        (place_of_slot old.size layout.now.fill) (Held (number_written change))
-        old (F.device flash.new)) }
-    ensures other { IsSameSet (other_of layout.now.side) (F.device flash.old) (F.device flash.new) }
-    ensures wear { (F.device flash.new).wear ≡ (F.device flash.old).wear }
+    requires page { let size = (F.device flash.old).size in
+        page ≡ first_of size layout.now.side + page_of_slot size layout.now.fill }
+    requires place { at ≡ place_of_slot (F.device flash.old).size layout.now.fill }
+    // At an error power was cut: the change is there in part, or whole, or not at all.
+    ensures pushes { Pushes result (F.device flash.old) (F.device flash.new) layout.now change }
     ensures power { Ends result (F.device flash.old) (F.device flash.new) }
 {
-    let slots = flash.shape().words() - HEADER_WORDS;
-    let page = first_page(flash, layout.side) + layout.fill / slots;
-    flash.program(page, HEADER_WORDS + layout.fill % slots, change.word())?;
-    Ok(page)
+    flash.program(page, at, change.word())?;
+    Ok(())
 }

@@ -12,6 +12,7 @@ ghost use Rattle.ee_plan.specs.Start.{AreLive, IsStartOf, with_addresses};
 use ee_check::Start;
 use ee_codec::Address;
 use ee_core::Variables;
+use ee_pages::Batch;
 use std::alloc::{AllocError, Allocator};
 use std::collections::BTreeSet;
 
@@ -54,7 +55,7 @@ fn live_addresses<A: Allocator + Copy, V: Variables>(
     let mut after = None;
     'live: loop {
         let batch = store.next_batch(after);
-        push_each(&mut live, batch.found.as_slice())?;
+        push_each(&mut live, &batch.found)?;
         let Some(through) = batch.through else {
             return set_of(alloc, live);
         };
@@ -63,14 +64,13 @@ fn live_addresses<A: Allocator + Copy, V: Variables>(
 }
 
 /// Puts these addresses, which come with values, behind the others.
-fn push_each<A: Allocator>(
-    live: &mut Vec<Address, A>,
-    found: &[(Address, u32)],
-) -> Result<(), AllocError>
-    ensures { OnOk result (live.new.items ≡ with_addresses live.old.items found.now) }
+fn push_each<A: Allocator>(live: &mut Vec<Address, A>, found: &Batch) -> Result<(), AllocError>
+    ensures { OnOk result (live.new.items ≡ with_addresses live.old.items found.now.items) }
 {
-    for pair in found {
-        live.push(pair.0)?;
+    let mut place = 0;
+    'each: while let Some((address, _)) = found.get(place) {
+        live.push(address)?;
+        place += 1;
     }
     Ok(())
 }

@@ -12,6 +12,7 @@ use crate::reading::Reading;
 use crate::schema::Schema;
 use ee_codec::Address;
 use ee_core::Variables;
+use ee_pages::Batch;
 use std::alloc::{AllocError, Allocator};
 use std::collections::BTreeMap;
 
@@ -132,7 +133,7 @@ pub(crate) fn stored_values<A: Allocator + Copy, V: Variables>(
     let mut after = None;
     'stored: loop {
         let batch = store.next_batch(after);
-        insert_each(&mut stored, batch.found.as_slice())?;
+        insert_each(&mut stored, &batch.found)?;
         let Some(through) = batch.through else {
             return Ok(stored);
         };
@@ -143,13 +144,15 @@ pub(crate) fn stored_values<A: Allocator + Copy, V: Variables>(
 /// Inserts these addresses with their values.
 fn insert_each<A: Allocator + Copy>(
     stored: &mut BTreeMap<Address, u32, A>,
-    found: &[(Address, u32)],
+    found: &Batch,
 ) -> Result<(), AllocError>
     ensures { OnOk result
-        (get nat_cmp stored.new ≡ with_found found.now (get nat_cmp stored.old)) }
+        (get nat_cmp stored.new ≡ with_found found.now.items (get nat_cmp stored.old)) }
 {
-    for (address, value) in found {
-        stored.insert(*address, *value)?;
+    let mut place = 0;
+    'each: while let Some((address, value)) = found.get(place) {
+        stored.insert(address, value)?;
+        place += 1;
     }
     Ok(())
 }

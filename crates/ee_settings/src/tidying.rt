@@ -10,6 +10,7 @@ use crate::schema::Schema;
 use crate::settings::Settings;
 use ee_codec::Address;
 use ee_core::{ForgetFault, Variables};
+use ee_pages::Batch;
 use std::alloc::Allocator;
 
 impl<A: Allocator> Schema<A> {
@@ -32,7 +33,7 @@ impl<A: Allocator> Schema<A> {
         let mut after = None;
         'forgetting: loop {
             let batch = store.next_batch(after);
-            forgotten += forget_unnamed(self.settings(), store, batch.found.as_slice())?;
+            forgotten += forget_unnamed(self.settings(), store, &batch.found)?;
             let Some(through) = batch.through else {
                 return Ok(forgotten);
             };
@@ -45,21 +46,23 @@ impl<A: Allocator> Schema<A> {
 fn forget_unnamed<A: Allocator, V: Variables>(
     settings: &Settings<A>,
     store: &mut V,
-    found: &[(Address, u32)],
+    found: &Batch,
 ) -> Result<u64, TidyFault>
     requires on { IsOn (V.device store.old) }
     requires live { (above : ℕ)
-        × AreNextLive (state_of (V.device store.old)).map above found.now }
+        × AreNextLive (state_of (V.device store.old)).map above found.now.items }
     ensures count { IfOk result (λ count.
-        count ≡ length (unnamed_among settings.now found.now)) }
-    ensures forgotten { OnOk result (ForgetsEach (unnamed_among settings.now found.now)
+        count ≡ length (unnamed_among settings.now found.now.items)) }
+    ensures forgotten { OnOk result (ForgetsEach (unnamed_among settings.now found.now.items)
         (V.device store.old) (V.device store.new)) }
-    ensures stopped { IfErr result (λ fault. Stops (unnamed_among settings.now found.now)
+    ensures stopped { IfErr result (λ fault. Stops (unnamed_among settings.now found.now.items)
         (V.device store.old) fault (V.device store.new)) }
 {
     let mut forgotten = 0;
-    for (address, _) in found {
-        forgotten += forget_one(settings, store, *address)?;
+    let mut place = 0;
+    'each: while let Some((address, _)) = found.get(place) {
+        forgotten += forget_one(settings, store, address)?;
+        place += 1;
     }
     Ok(forgotten)
 }

@@ -1,5 +1,6 @@
 use Rattle.std.proofs.Common.{◌≡◌, ◌<◌, refl, subst}
 use Rattle.std.proofs.lemmas.Result.{err_from_is_err_and}
+use Rattle.ee_pages.proofs.Public.{kept_side_is_live}
 use Rattle.ee_pages.specs.Laws.{IsPageOf}
 use Rattle.ee_pages.specs.Sets.{pending_of, set_of}
 use Rattle.ee_pages.specs.declared.side.Side.{Side}
@@ -30,33 +31,41 @@ erase_other-requires-clause-page g c = subst (λ (set : Side). IsPageOf (g.F.Fla
 
 pub returns : goal.returns
 returns g c =
-    let old = g.F.Flash.device c.args.flash.now in let new = g.F.Flash.device c.erase_other.new.flash in let layout = c.args.layout.now in
-    let found = c.in-Some.ensures in let left = c.in_ok-erase_other.ensures in let live = c.requires.layout.live in
+    let old = g.F.Flash.device c.args.flash.now in
+    let new = g.F.Flash.device c.erase_other.new.flash in
+    let layout = c.args.layout.now in
+    let found = c.in-Some.ensures in
+    let left = c.in_ok-erase_other.ensures.erases in
+    let live = c.requires.layout.live in
     record {
-      keeps = left.keeps;
+      keeps = kept_side_is_live old new layout.side layout.generation live left.keeps;
       none = λ is. absurd (not_both_ok _ is refl);
       one = λ is. left.one_less;
-      lowest = λ is. erases_lowest old new layout.side c.other.result layout.generation c.in-Some.page live.live c.other.ensures found.page found.not_blank found.lowest left.others left.wear left.blank live left.keeps;
-      marked = cleaned_marked layout.side c.in-Some.page old new live.formed left.keeps.same_size left.same_set left.others left.blank;
+      lowest = λ is. erases_lowest old new layout.side c.other.result layout.generation c.in-Some.page live.live c.other.ensures found.page found.not_blank found.lowest left.others left.wear left.blank live (kept_side_is_live old new layout.side layout.generation live left.keeps);
+      marked = cleaned_marked layout.side c.in-Some.page old new live.formed left.keeps.same_size left.keeps.same_set left.others left.blank;
       some = tt;
       cut = tt;
       others = tt;
-      power = record { ok = left.power.ok; cut = tt; off = tt };
+      power = record { ok = c.in_ok-erase_other.ensures.power.ok; cut = tt; off = tt };
     }
 
 pub returns-in_err-erase_other : goal.returns-in_err-erase_other
 returns-in_err-erase_other g c =
-    let old = g.F.Flash.device c.args.flash.now in let new = g.F.Flash.device c.erase_other.new.flash in let layout = c.args.layout.now in
-    let found = c.in-Some.ensures in let cut = c.in_err-erase_other.ensures in let failed = c.from_residual.ensures.0 in
+    let old = g.F.Flash.device c.args.flash.now in
+    let new = g.F.Flash.device c.erase_other.new.flash in
+    let layout = c.args.layout.now in
+    let found = c.in-Some.ensures in
+    let cut = c.in_err-erase_other.ensures.erases in
+    let failed = c.from_residual.ensures.0 in
     let is_err = err_from_is_err_and c.from_residual.result c.from_residual.ensures.1 in
     record {
-      keeps = cut.keeps;
+      keeps = kept_side_is_live old new layout.side layout.generation c.requires.layout.live cut.keeps;
       none = λ is. absurd (not_ok is is_err.1);
       one = λ is. absurd (not_ok is is_err.1);
       lowest = λ is. absurd (not_ok is is_err.1);
       marked = λ marked. never_on_ok _ _ failed;
       some = always_on_err c.from_residual.result (subst (λ (set : Side). 0 < pending_of (set_of set old)) c.other.ensures found.some);
       cut = always_on_err c.from_residual.result cut.cut;
-      others = always_on_err c.from_residual.result (λ on. keeps_all_but_lowest old new layout.side c.other.result layout.generation c.in-Some.page c.requires.layout.live.live c.other.ensures found.page found.not_blank found.lowest cut.others (cut.begun on) cut.partly);
-      power = ends_later _ failed (goes_on_same old) cut.power;
+      others = always_on_err c.from_residual.result (λ on. keeps_all_but_lowest old new layout.side c.other.result layout.generation c.in-Some.page c.requires.layout.live.live c.other.ensures found.page found.not_blank found.lowest cut.others (cut.wear on) cut.partly);
+      power = ends_later _ failed (goes_on_same old) c.in_err-erase_other.ensures.power;
     }

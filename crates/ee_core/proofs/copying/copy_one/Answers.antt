@@ -11,7 +11,9 @@ pub returns-clause-keeps : goal.returns-clause-keeps
 returns-clause-keeps g c = search rules fits 100 parts 0
 
 pub returns-clause-at : goal.returns-clause-at
-returns-clause-at g c = search rules fits 100 parts 0
+returns-clause-at g c =
+    let done = c.in_ok-stage.ensures in
+    record { generation = c.requires.at.generation; filling = done.fills.filling; stands = done.stands }
 
 pub returns-clause-fills : goal.returns-clause-fills
 returns-clause-fills g c = search rules fits 100 parts 0

@@ -8,7 +8,6 @@ use Rattle.ee_core.specs.Picture.{elements_of}
 use Rattle.ee_core.specs.Puts.{carried}
 use Rattle.ee_core.proofs.Fillings.{carried_first, carried_names, carried_partly, carried_without, first_partly, only_these, others_carried, others_carried_partly, others_filled, others_fit, others_partly, puts_fit}
 use Rattle.ee_core.proofs.ShownStates.{moved_words_are_live_lem}
-use Rattle.ee_core.proofs.MovingFacts.{layout_kept}
 use Rattle.ee_core.proofs.AfterCalls.{ends_later, goes_on_both, goes_on_same}
 use Rattle.ee_core.proofs.copying.fill_set.Goals as goal
 
@@ -20,7 +19,7 @@ put_all-requires-clause-fits g c =
 pub copy_others-requires-clause-at : goal.copy_others-requires-clause-at
 copy_others-requires-clause-at g c =
     let fills = c.in_ok-first.ensures.fills in
-    record { found = layout_kept _ _ c.args.layout.now c.requires.opened.found fills.keeps; generation = c.requires.opened.generation; filling = fills.filling; stands = c.in_ok-first.ensures.stands }
+    record { generation = c.requires.opened.generation; filling = fills.filling; stands = c.in_ok-first.ensures.stands }
 
 pub copy_others-requires-clause-first : goal.copy_others-requires-clause-first
 copy_others-requires-clause-first g c = c.requires.first

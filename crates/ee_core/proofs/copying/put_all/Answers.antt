@@ -4,7 +4,6 @@ use Rattle.ee_flash.specs.Size.{slot_count}
 use Rattle.ee_flash.proofs.Public.{calls_compose}
 use Rattle.ee_core.proofs.AfterCalls.{goes_on_same}
 use Rattle.ee_core.proofs.Fillings.{FilledBy, all_put, none_put, one_put, one_put_partly, put_room}
-use Rattle.ee_core.proofs.MovingFacts.{layout_kept}
 use Rattle.ee_core.proofs.AfterCalls.{ends_later}
 use Rattle.ee_core.proofs.copying.put_all.Goals as goal
 
@@ -20,7 +19,7 @@ puts-init g c =
 pub stage-requires-clause-at : goal.stage-requires-clause-at
 stage-requires-clause-at g c =
     let filled = c.puts.invariant.filled in
-    record { found = layout_kept (g.F.Flash.device c.args.flash.now) (g.F.Flash.device c.puts.flash) c.args.layout.now c.requires.opened.found filled.keeps; generation = c.requires.opened.generation; filling = filled.filling; stands = c.puts.invariant.stands }
+    record { generation = c.requires.opened.generation; filling = filled.filling; stands = c.puts.invariant.stands }
 
 pub stage-requires-clause-free : goal.stage-requires-clause-free
 stage-requires-clause-free g c =

@@ -1,15 +1,15 @@
 use Rattle.std.proofs.Common.{◌≡◌, ◌+◌, inr, refl, true, arith}
+use Rattle.std.proofs.lemmas.Result.{err_from_is_err_and}
 use Rattle.ee_pages.proofs.Public.{page_in_range}
 use Rattle.ee_pages.specs.Page.{is_marked}
 use Rattle.ee_pages.specs.Sets.{first_page, other as other_of, page_of_slot}
 use Rattle.ee_pages.specs.declared.state.Mark.TheVariants.{Receive}
-use Rattle.ee_core.proofs.Drawings.{page_of_its_set, put_apart, sets_mark_at}
+use Rattle.ee_core.proofs.Drawings.{sets_mark_at}
 use Rattle.ee_core.proofs.FilledSets.{receive_opens}
 use Rattle.ee_core.proofs.SetPages.{page_in_device}
 use Rattle.ee_core.proofs.OtherSteps.{receive_cut, receive_done}
 use Rattle.ee_core.proofs.Cuts.{mark_partly_at}
-use Rattle.ee_core.proofs.Making.{always_on_err}
-use Rattle.ee_core.proofs.AfterCalls.{ends_in_step, goes_on_mark, goes_on_same, mark_keeps_wear, never_on_ok}
+use Rattle.ee_core.proofs.AfterCalls.{ends_in_step, goes_on_mark, goes_on_same, mark_keeps_wear}
 use Rattle.ee_core.proofs.Marks.{one_receive, program_keeps_wear}
 use Rattle.ee_core.proofs.copying.receive.Goals as goal
 
@@ -24,36 +24,41 @@ mark-requires-clause-generation g c = one_receive (c.args.layout.now.generation 
 
 pub returns-in_err-mark : goal.returns-in_err-mark
 returns-in_err-mark g c =
-    let old = g.F.Flash.device c.args.flash.now in let new = g.F.Flash.device c.mark.new.flash in let layout = c.args.layout.now in
-    let side = other_of layout.side in let page = page_of_slot old.size c.args.place.slot in let cut = c.in_err-mark.ensures.cut in let failed = c.from_residual.ensures.0 in
+    let old = g.F.Flash.device c.args.flash.now in
+    let new = g.F.Flash.device c.mark.new.flash in
+    let layout = c.args.layout.now in
+    let side = other_of layout.side in
+    let page = page_of_slot old.size c.args.place.slot in
+    let cut = c.in_err-mark.ensures.cut in
     record {
-      keeps = receive_cut old new layout.side layout.generation c.args.place.slot c.requires.at.found.live c.requires.at.filling c.requires.free c.requires.at.generation _ _ _ refl _ c.requires.at.stands.page c.in_err-mark.ensures.present cut;
-      opens = never_on_ok _ _ failed;
-      begun = always_on_err c.from_residual.result
-          (mark_partly_at _ (first_page old.size side + page) (Receive (layout.generation + 1)) old new c.requires.at.found.live.formed
-          (page_in_device old.size side page (page_in_range old c.args.place.slot c.requires.free)) c.requires.at.stands.page (λ set. (c.mark.ensures.present set).1) cut);
-      wear = program_keeps_wear _ _ _ old new (inr cut);
-      power = ends_in_step _ _ failed (goes_on_same old) cut;
+      receives = rw (err_from_is_err_and c.from_residual.result c.from_residual.ensures.1).1 (record {
+        keeps = receive_cut old new layout.side layout.generation c.args.place.slot c.requires.at.filling c.requires.free c.requires.at.generation _ _ _ refl _ c.requires.at.stands.page c.in_err-mark.ensures.present cut;
+        begun = mark_partly_at _ (first_page old.size side + page) (Receive (layout.generation + 1)) old new c.requires.at.filling.formed
+            (page_in_device old.size side page (page_in_range old c.args.place.slot c.requires.free)) c.requires.at.stands.page (λ set. (c.mark.ensures.present set).1) cut;
+        wear = program_keeps_wear _ _ _ old new (inr cut);
+      });
+      power = ends_in_step _ _ c.from_residual.ensures.0 (goes_on_same old) cut;
     }
 
 pub returns : goal.returns
 returns g c =
-    let old = g.F.Flash.device c.args.flash.now in let new = g.F.Flash.device c.mark.new.flash in let layout = c.args.layout.now in
-    let side = other_of layout.side in let page = page_of_slot old.size c.args.place.slot in let formed = c.requires.at.found.live.formed in
+    let old = g.F.Flash.device c.args.flash.now in
+    let new = g.F.Flash.device c.mark.new.flash in
+    let layout = c.args.layout.now in
+    let side = other_of layout.side in
+    let page = page_of_slot old.size c.args.place.slot in
+    let formed = c.requires.at.filling.formed in
     let in_range = page_in_range old c.args.place.slot c.requires.free in
     let same = λ (set : is_marked old c.args.place.page (Receive (layout.generation + 1)) ≡ true). (c.in_ok-mark.ensures.present set).1 in
-    let received = receive_done old new layout.side layout.generation c.args.place.slot c.requires.at.found.live c.requires.at.filling c.requires.free c.requires.at.generation _ c.requires.at.stands.page same c.in_ok-mark.ensures.on c.in_ok-mark.ensures.done in
+    let received = receive_done old new layout.side layout.generation c.args.place.slot c.requires.at.filling c.requires.free c.requires.at.generation _ c.requires.at.stands.page same c.in_ok-mark.ensures.on c.in_ok-mark.ensures.done in
     let sets = sets_mark_at _ (first_page old.size side + page) (Receive (layout.generation + 1)) old new formed (page_in_device old.size side page in_range) c.requires.at.stands.page same c.in_ok-mark.ensures.done in
     record {
-      keeps = received.0;
-      opens = record {
-        sizes = received.0.same_size;
+      receives = record {
+        keeps = received.0;
         filling = received.1;
         same_slots = received.2;
-        live_pages = put_apart layout.side old new _ _ _ received.0.same_size (page_of_its_set old.size side page in_range) sets;
         opens = λ words long drawn. receive_opens side old new (layout.generation + 1) c.args.place.slot words formed received.0.same_size in_range sets drawn;
+        wear = mark_keeps_wear c.args.place.page (Receive (layout.generation + 1)) old same c.in_ok-mark.ensures.done;
       };
-      begun = tt;
-      wear = mark_keeps_wear c.args.place.page (Receive (layout.generation + 1)) old same c.in_ok-mark.ensures.done;
       power = record { ok = goes_on_mark c.args.place.page (Receive (layout.generation + 1)) old same c.in_ok-mark.ensures.on c.in_ok-mark.ensures.done; cut = tt; off = tt };
     }

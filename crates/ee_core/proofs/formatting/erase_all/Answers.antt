@@ -1,14 +1,14 @@
 use Rattle.std.proofs.Common.{rules, ◌≡◌, ◌≢◌, ◌<◌, ◌+◌, inl, inr, true, false, length, ap, arith, ◌∙◌, sym}
+use Rattle.std.proofs.lemmas.Result.{err_from_is_err_and}
 use Rattle.ee_flash.specs.Device.{IsOn, page_at}
 use Rattle.ee_flash.specs.Size.{page_count}
 use Rattle.ee_pages.specs.Page.{is_blank}
-use Rattle.ee_core.proofs.AfterCalls.{ends_in_step, goes_on_both, never_on_ok}
+use Rattle.ee_core.proofs.AfterCalls.{ends_in_step, goes_on_both}
 use Rattle.ee_core.proofs.FormatFacts.{BlanksPage, all_blank, blank_already, blank_more, blanks_page}
 use Rattle.ee_core.proofs.Startable.{erase_startable}
 use Rattle.ee_core.specs.Starts.{IsStartable}
 use Rattle.ee_core.proofs.ErasedPages.{all_wear, wears_next, wears_to}
 use Rattle.ee_core.proofs.Cuts.{erase_partly, erases_partly}
-use Rattle.ee_core.proofs.Making.{always_on_err}
 use Rattle.ee_pages.proofs.Public.{step_keeps_other_pages}
 use Rattle.ee_flash.specs.Step.{Erase}
 use Rattle.ee_core.specs.Cuts.{ErasesPartly}
@@ -19,10 +19,15 @@ use Rattle.ee_core.proofs.formatting.erase_all.Goals as goal
 
 pub pages-preserved : goal.pages-preserved
 pages-preserved g c =
-    let old = g.F.Flash.device c.args.flash.now in let mid = g.F.Flash.device c.pages.flash in let new = g.F.Flash.device c.if-not-is_blank.flash in
-    let page = c.pages.page in let pages = ap (λ size. size.pages) c.shape.ensures in let same = ap page_count c.pages.invariant.power.same_size in
+    let old = g.F.Flash.device c.args.flash.now in
+    let mid = g.F.Flash.device c.pages.flash in
+    let new = g.F.Flash.device c.if-not-is_blank.flash in
+    let page = c.pages.page in
+    let pages = ap (λ size. size.pages) c.shape.ensures in
+    let same = ap page_count c.pages.invariant.power.same_size in
     let in_range : page < page_count old.size = omega (arith, c.pages-page-end.ensures.value, pages, c.pages-test.true) in
-    let now_in_range : page < page_count mid.size = omega (arith, in_range, same) in let formed = g.met.F.Flash.formed c.args.flash.now in
+    let now_in_range : page < page_count mid.size = omega (arith, in_range, same) in
+    let formed = g.met.F.Flash.formed c.args.flash.now in
     let within : page < length old.image = omega (arith, in_range, formed.image_length) in
     let step : BlanksPage mid new page = elim c.if-not-is_blank.branch [
       | then-not-is_blank+in_ok-erase w ↦
@@ -37,7 +42,8 @@ pages-preserved g c =
           rw w.flash-is (erase_startable page mid _ (g.met.F.Flash.formed c.pages.flash) now_in_range (inl (record { was_on = w.in_ok-erase.ensures.on; done = w.in_ok-erase.ensures.done })))
       | else-not-is_blank w ↦ rw w.flash-is (λ before. before)
     ] in
-    let at : 0 + page ≡ page = omega arith in let same_page = sym (c.pages.invariant.rest page (omega arith)) in
+    let at : 0 + page ≡ page = omega arith in
+    let same_page = sym (c.pages.invariant.rest page (omega arith)) in
     record {
       blank = blank_more page mid new c.pages.invariant.blank step;
       rest = λ k h.
@@ -48,34 +54,41 @@ pages-preserved g c =
       startable = λ before. stays (c.pages.invariant.startable before);
     }
 
-pub returns-clause-blank : goal.returns-clause-blank
-returns-clause-blank g c =
-    let old = g.F.Flash.device c.args.flash.now in let new = g.F.Flash.device c.pages.flash in let pages = ap (λ size. size.pages) c.shape.ensures in
-    let same = ap page_count c.pages.invariant.power.same_size in let formed = g.met.F.Flash.formed c.pages.flash in
-    all_blank new c.pages.page (omega (arith, c.pages-page-end.ensures.value, pages, same, formed.image_length, c.pages-test.false)) c.pages.invariant.blank
-
-pub returns-clause-wear : goal.returns-clause-wear
-returns-clause-wear g c =
-    let old = g.F.Flash.device c.args.flash.now in let new = g.F.Flash.device c.pages.flash in let pages = ap (λ size. size.pages) c.shape.ensures in
+pub returns-clause-erases : goal.returns-clause-erases
+returns-clause-erases g c =
+    let old = g.F.Flash.device c.args.flash.now in
+    let new = g.F.Flash.device c.pages.flash in
+    let pages = ap (λ size. size.pages) c.shape.ensures in
+    let same = ap page_count c.pages.invariant.power.same_size in
     let formed = g.met.F.Flash.formed c.args.flash.now in
+    let new_formed = g.met.F.Flash.formed c.pages.flash in
     let all : c.pages.page ≡ length old.image = omega (arith, c.pages-page-end.ensures.value, pages, formed.image_length, c.pages.auto.page-end, c.pages-test.false) in
-    all_wear old.image 0 c.pages.page old new all c.pages.invariant.wear
+    record {
+      blank = all_blank new c.pages.page (omega (arith, c.pages-page-end.ensures.value, pages, same, new_formed.image_length, c.pages-test.false)) c.pages.invariant.blank;
+      startable = c.pages.invariant.startable;
+      wear = all_wear old.image 0 c.pages.page old new all c.pages.invariant.wear;
+    }
 
 pub pages-init : goal.pages-init
 pages-init g c = search rules fits 100 parts 0
 
 pub returns-in_err-erase : goal.returns-in_err-erase
 returns-in_err-erase g c =
-    let old = g.F.Flash.device c.args.flash.now in let mid = g.F.Flash.device c.pages.flash in let new = g.F.Flash.device c.erase.new.self in
-    let page = c.pages.page in let cut = c.in_err-erase.ensures.cut in let pages = ap (λ size. size.pages) c.shape.ensures in
-    let formed = g.met.F.Flash.formed c.args.flash.now in let mid_formed = g.met.F.Flash.formed c.pages.flash in
+    let old = g.F.Flash.device c.args.flash.now in
+    let mid = g.F.Flash.device c.pages.flash in
+    let new = g.F.Flash.device c.erase.new.self in
+    let page = c.pages.page in
+    let cut = c.in_err-erase.ensures.cut in
+    let pages = ap (λ size. size.pages) c.shape.ensures in
+    let formed = g.met.F.Flash.formed c.args.flash.now in
+    let mid_formed = g.met.F.Flash.formed c.pages.flash in
     let in_range : page < page_count old.size = omega (arith, c.pages-page-end.ensures.value, pages, c.pages-test.true) in
     let now_in_range : page < page_count mid.size = omega (arith, in_range, ap page_count c.pages.invariant.power.same_size) in
     let within : page < length old.image = omega (arith, in_range, formed.image_length) in
     let has_wear : page < length mid.wear = omega (arith, now_in_range, mid_formed.wear_length) in
-    let written : is_blank (page_at mid page) ≡ false = sym c.is_blank.ensures ∙ c.if-not-is_blank.true in let at : 0 + page ≡ page = omega arith in
+    let written : is_blank (page_at mid page) ≡ false = sym c.is_blank.ensures ∙ c.if-not-is_blank.true in
+    let at : 0 + page ≡ page = omega arith in
     let others : IsSameBut page mid new = λ k apart. step_keeps_other_pages (Erase page) mid new k (record { formed = mid_formed; may = now_in_range; follows = inr cut }) apart in
-    let failed = c.from_residual.ensures.0 in
     let partly : IsOn old → ErasesPartly 0 old.image old new = λ on.
     let now = cut_page_wears page mid new has_wear cut (c.pages.invariant.power.same_power ∙ on) in
     let wear = wears_to old.image 0 page page old mid new at within (sym (c.pages.invariant.rest page (omega arith))) c.pages.invariant.wear written now in
@@ -83,9 +96,9 @@ returns-in_err-erase g c =
     (λ k either. elim either [ inl none ↦ absurd (omega (arith, none)) | inr high ↦ c.pages.invariant.rest k high ])
     others (erase_partly page mid new cut) in
     record {
-      blank = never_on_ok _ _ failed;
-      wear = never_on_ok _ _ failed;
-      partly = always_on_err _ partly;
-      startable = λ before. erase_startable page mid new mid_formed now_in_range (inr cut) (c.pages.invariant.startable before);
-      power = ends_in_step (Erase page) _ failed c.pages.invariant.power cut;
+      erases = rw (err_from_is_err_and c.from_residual.result c.from_residual.ensures.1).1 (record {
+        partly = partly;
+        startable = λ before. erase_startable page mid new mid_formed now_in_range (inr cut) (c.pages.invariant.startable before);
+      });
+      power = ends_in_step (Erase page) _ c.from_residual.ensures.0 c.pages.invariant.power cut;
     }

@@ -1,58 +1,62 @@
-use Rattle.std.proofs.Common.{◌≡◌, ◌+◌, ◌∙◌, ap, inl, inr, rules}
+use Rattle.std.proofs.Common.{◌≡◌, ◌+◌, ◌∙◌, ap, inl, inr}
+use Rattle.std.proofs.lemmas.Result.{err_from_is_err_and}
 use Rattle.ee_pages.specs.declared.state.Mark.TheVariants.{Receive}
 use Rattle.ee_pages.specs.Sets.{first_page, other as other_of}
 use Rattle.ee_pages.proofs.Public.{first_in_set}
 use Rattle.ee_core.proofs.Drawings.{sets_mark_at}
 use Rattle.ee_core.proofs.MovedSets.{blank_drawn, opens_blank}
 use Rattle.ee_core.proofs.SetPages.{page_of_device}
-use Rattle.ee_core.proofs.AfterCalls.{ends_in_step, goes_on_programmed, goes_on_same, never_on_ok}
+use Rattle.ee_core.proofs.AfterCalls.{ends_in_step, goes_on_programmed, goes_on_same}
 use Rattle.ee_core.proofs.Marks.{program_keeps_wear}
 use Rattle.ee_core.proofs.OtherSteps.{opening_done, opening_keeps, opening_unmarked}
-use Rattle.ee_core.proofs.Cuts.{mark_partly_at, put_apart_partly}
+use Rattle.ee_core.proofs.Cuts.{mark_partly_at}
 use Rattle.ee_core.proofs.CutMoves.{open_partly}
-use Rattle.ee_core.proofs.Making.{always_on_err}
-use Rattle.ee_core.proofs.MovingFacts.{layout_kept}
 use Rattle.ee_core.specs.Cuts.{SetsPartly}
 use Rattle.ee_core.proofs.moving.open_set.Goals as goal
 
 pub returns-in_err-mark : goal.returns-in_err-mark
 returns-in_err-mark g c =
-    let old = g.F.Flash.device c.args.flash.now in let new = g.F.Flash.device c.mark.new.flash in let layout = c.args.layout.now in
-    let side = other_of layout.side in let formed = c.requires.layout.live.formed in
+    let old = g.F.Flash.device c.args.flash.now in
+    let new = g.F.Flash.device c.mark.new.flash in
+    let layout = c.args.layout.now in
+    let side = other_of layout.side in
+    let formed = g.met.F.Flash.formed c.args.flash.now in
     let page : c.first_page-first.result ≡ first_page old.size side = c.first_page-first.ensures ∙ ap (first_page old.size) c.other.ensures in
     let cut = c.in_err-mark.ensures.cut in
-    let keeps = opening_keeps old new layout.side layout.generation c.requires.layout.live c.requires.generation c.requires.blank _ page (inr cut) in
+    let keeps = opening_keeps old new layout.side layout.generation formed c.requires.generation c.requires.blank _ page (inr cut) in
     let sets : SetsPartly (first_page old.size side) (Receive (layout.generation + 1)) old new =
     mark_partly_at _ (first_page old.size side) (Receive (layout.generation + 1)) old new formed
     (page_of_device old.size side (first_page old.size side) (first_in_set side old formed)) page (λ set. (c.mark.ensures.present set).1) cut in
-    let failed = c.from_residual.ensures.0 in
     record {
-      keeps = keeps;
-      opened = never_on_ok _ _ failed;
-      holds = never_on_ok _ _ failed;
-      live_pages = put_apart_partly layout.side old new (first_page old.size side) _ _ keeps.same_size (first_in_set side old formed) sets;
-      begun = always_on_err c.from_residual.result (λ words. open_partly side old new (layout.generation + 1) words formed keeps.same_size (blank_drawn side old formed c.requires.blank) sets);
-      wear = program_keeps_wear _ _ _ old new (inr cut);
-      power = ends_in_step _ _ failed (goes_on_same old) cut;
+      opens = rw (err_from_is_err_and c.from_residual.result c.from_residual.ensures.1).1 (record {
+        keeps = keeps;
+        begun = λ words. open_partly side old new (layout.generation + 1) words formed keeps.same_size (blank_drawn side old formed c.requires.blank) sets;
+        wear = program_keeps_wear _ _ _ old new (inr cut);
+      });
+      power = ends_in_step _ _ c.from_residual.ensures.0 (goes_on_same old) cut;
     }
 
 pub returns : goal.returns
 returns g c =
-    let old = g.F.Flash.device c.args.flash.now in let new = g.F.Flash.device c.mark.new.flash in let layout = c.args.layout.now in
-    let side = other_of layout.side in let formed = c.requires.layout.live.formed in
+    let old = g.F.Flash.device c.args.flash.now in
+    let new = g.F.Flash.device c.mark.new.flash in
+    let layout = c.args.layout.now in
+    let side = other_of layout.side in
+    let formed = g.met.F.Flash.formed c.args.flash.now in
     let page : c.first_page-first.result ≡ first_page old.size side = c.first_page-first.ensures ∙ ap (first_page old.size) c.other.ensures in
-    let unmarked = opening_unmarked old old layout.side layout.generation c.requires.layout.live c.requires.generation c.requires.blank _ page in
-    let on = c.in_ok-mark.ensures.on unmarked in let done = c.in_ok-mark.ensures.done unmarked in
-    let keeps = opening_keeps old new layout.side layout.generation c.requires.layout.live c.requires.generation c.requires.blank _ page (inl (record { was_on = on; done = done })) in
-    let opened = opening_done old new layout.side layout.generation c.requires.layout.live c.requires.generation c.requires.blank _ page on done in
+    let unmarked = opening_unmarked old old layout.side layout.generation formed c.requires.generation c.requires.blank _ page in
+    let on = c.in_ok-mark.ensures.on unmarked in
+    let done = c.in_ok-mark.ensures.done unmarked in
+    let keeps = opening_keeps old new layout.side layout.generation formed c.requires.generation c.requires.blank _ page (inl (record { was_on = on; done = done })) in
+    let opened = opening_done old new layout.side layout.generation formed c.requires.generation c.requires.blank _ page on done in
     let sets = sets_mark_at _ (first_page old.size side) (Receive (layout.generation + 1)) old new formed
     (page_of_device old.size side (first_page old.size side) (first_in_set side old formed)) page (λ set. (c.in_ok-mark.ensures.present set).1) c.in_ok-mark.ensures.done in
     record {
-      keeps = keeps;
-      opened = record { found = layout_kept old new layout c.requires.layout keeps; generation = c.requires.generation; filling = opened.0; nothing = opened.1 };
-      holds = opens_blank side old new (layout.generation + 1) formed keeps.same_size c.requires.blank sets;
-      live_pages = search rules;
-      begun = tt;
-      wear = ap (λ device. device.wear) done;
+      opens = record {
+        keeps = keeps;
+        opened = record { generation = c.requires.generation; filling = opened.0; nothing = opened.1 };
+        holds = opens_blank side old new (layout.generation + 1) formed keeps.same_size c.requires.blank sets;
+        wear = ap (λ device. device.wear) done;
+      };
       power = record { ok = goes_on_programmed _ _ _ old on done; cut = tt; off = tt };
     }

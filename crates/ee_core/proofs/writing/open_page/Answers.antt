@@ -1,4 +1,4 @@
-use Rattle.std.proofs.Common.{◌≡◌, ◌+◌, ◌-◌, inl, inr, ap, ◌∙◌, ◌<◌, arith, refl, sym, subst}
+use Rattle.std.proofs.Common.{◌≡◌, ◌+◌, ◌-◌, inr, ap, ◌∙◌, ◌<◌, arith, refl, sym, subst}
 use Rattle.ee_flash.specs.Size.{Size}
 use Rattle.ee_pages.proofs.Public.{page_in_range}
 use Rattle.ee_pages.specs.Sets.{first_page, page_of_slot}
@@ -10,21 +10,17 @@ use Rattle.ee_core.proofs.Marks.{same_stays}
 use Rattle.ee_core.proofs.MarkedSets.{opens_next}
 use Rattle.ee_core.specs.Parts.{IsReady, SetsMark}
 use Rattle.ee_core.specs.Picture.{IsDrawn, marked_to, picture_of}
-use Rattle.ee_core.proofs.OpenedPages.{first_other, further, last_is, next_behind, ready_already, ready_now, second_other}
-use Rattle.ee_core.proofs.writing.open_page.Goals.{then-layout-eq0-via-then-layout-eq0, then-layout-eq0-via-else-layout-eq0+then-layout-slots-ne0}
+use Rattle.ee_core.proofs.OpenedPages.{first_other, further, last_is, next_behind, ready_already, ready_now, second_other, stays_in, turns}
 use Rattle.ee_core.proofs.CutMarks.{opens_partly, opens_partly_then}
 use Rattle.ee_core.proofs.Making.{always_on_err}
 use Rattle.ee_core.specs.Cuts.{IsDrawnPartly, SetsPartly}
 use Rattle.ee_core.proofs.writing.open_page.Goals as goal
 
-pub returns-then-layout-eq0 : goal.returns-then-layout-eq0
-returns-then-layout-eq0 g c =
+pub returns-then-page-layout : goal.returns-then-page-layout
+returns-then-page-layout g c =
     let old = g.F.Flash.device c.args.flash.now in let layout = c.args.layout.now in
-    let words = c.words-slots.ensures.value ∙ ap (λ (size : Size). size.words) c.shape.ensures in let marked = c.requires.marked.live in
-    let ready : IsReady old layout.side layout.fill = elim c.then-layout-eq0.branch [
-      | then-layout-eq0-via-then-layout-eq0 w ↦ ready_already old layout c.requires.layout c.requires.free _ words (inl w.if-layout-eq0.true) marked
-      | then-layout-eq0-via-else-layout-eq0+then-layout-slots-ne0 w ↦ ready_already old layout c.requires.layout c.requires.free _ words (inr w.if-layout-slots-ne0.true) marked
-    ] in
+    let within = stays_in old layout c.requires.layout c.requires.free old.size.words refl c.args.page c.requires.page c.if-page-layout.true in
+    let ready : IsReady old layout.side layout.fill = ready_already old layout c.requires.layout c.requires.free old.size.words refl within c.requires.marked.live in
     record {
       stays = same_stays old old layout.side layout.generation c.requires.layout.live refl;
       other = refl;
@@ -36,20 +32,20 @@ returns-then-layout-eq0 g c =
 
 pub mark_live-requires-2-clause-behind : goal.mark_live-requires-2-clause-behind
 mark_live-requires-2-clause-behind g c =
-    let words = c.words-slots.ensures.value ∙ ap (λ (size : Size). size.words) c.shape.ensures in let some : 0 < c.args.layout.now.fill = omega (arith, c.if-layout-eq0.false) in
-    next_behind (g.F.Flash.device c.args.flash.now) c.args.layout.now c.requires.layout c.requires.free _ words some c.if-layout-slots-ne0.false _ c.mark_live.ensures.stays
+    let turned = turns (g.F.Flash.device c.args.flash.now) c.args.layout.now c.requires.layout c.requires.free (g.F.Flash.device c.args.flash.now).size.words refl c.args.page c.requires.page c.if-page-layout.false in
+    next_behind (g.F.Flash.device c.args.flash.now) c.args.layout.now c.requires.layout c.requires.free _ refl turned.0 turned.1 _ c.mark_live.ensures.stays
 
 pub returns-in_err-mark_live : goal.returns-in_err-mark_live
 returns-in_err-mark_live g c =
     let old = g.F.Flash.device c.args.flash.now in let new = g.F.Flash.device c.mark_live.new.flash in let layout = c.args.layout.now in
-    let words = c.words-slots.ensures.value ∙ ap (λ (size : Size). size.words) c.shape.ensures in
-    let some : 0 < layout.fill = omega (arith, c.if-layout-eq0.false) in let k = page_of_slot old.size (layout.fill - 1) in
-    let next : page_of_slot old.size layout.fill ≡ k + 1 = further old layout c.requires.layout c.requires.free _ words some c.if-layout-slots-ne0.false in
-    let last = last_is old layout c.requires.layout c.requires.free _ words in
+    let turned = turns (g.F.Flash.device c.args.flash.now) c.args.layout.now c.requires.layout c.requires.free (g.F.Flash.device c.args.flash.now).size.words refl c.args.page c.requires.page c.if-page-layout.false in
+    let k = page_of_slot old.size (layout.fill - 1) in
+    let next : page_of_slot old.size layout.fill ≡ k + 1 = further old layout c.requires.layout c.requires.free _ refl turned.0 turned.1 in
+    let last = last_is old layout c.requires.layout c.requires.free _ refl in
     let here : layout.current ≡ first_page old.size layout.side + k = c.requires.layout.current in let first = c.mark_live.ensures in let failed = c.from_residual.ensures.0 in
     record {
       stays = first.stays;
-      other = first_other old layout c.requires.layout c.requires.free _ words _ first.stays first.others;
+      other = first_other old layout c.requires.layout c.requires.free _ refl _ first.stays first.others;
       ready = never_on_ok _ _ failed;
       drawn = never_on_ok _ _ failed;
       begun = always_on_err _
@@ -63,16 +59,16 @@ returns-in_err-mark_live g c =
 pub returns-in_err-mark_live-2 : goal.returns-in_err-mark_live-2
 returns-in_err-mark_live-2 g c =
     let old = g.F.Flash.device c.args.flash.now in let mid = g.F.Flash.device c.mark_live.new.flash in let new = g.F.Flash.device c.mark_live-2.new.flash in
-    let layout = c.args.layout.now in let words = c.words-slots.ensures.value ∙ ap (λ (size : Size). size.words) c.shape.ensures in
-    let some : 0 < layout.fill = omega (arith, c.if-layout-eq0.false) in let k = page_of_slot old.size (layout.fill - 1) in
-    let next : page_of_slot old.size layout.fill ≡ k + 1 = further old layout c.requires.layout c.requires.free _ words some c.if-layout-slots-ne0.false in
-    let last = last_is old layout c.requires.layout c.requires.free _ words in let here : layout.current ≡ first_page old.size layout.side + k = c.requires.layout.current in
+    let layout = c.args.layout.now in let turned = turns (g.F.Flash.device c.args.flash.now) c.args.layout.now c.requires.layout c.requires.free (g.F.Flash.device c.args.flash.now).size.words refl c.args.page c.requires.page c.if-page-layout.false in
+    let k = page_of_slot old.size (layout.fill - 1) in
+    let next : page_of_slot old.size layout.fill ≡ k + 1 = further old layout c.requires.layout c.requires.free _ refl turned.0 turned.1 in
+    let last = last_is old layout c.requires.layout c.requires.free _ refl in let here : layout.current ≡ first_page old.size layout.side + k = c.requires.layout.current in
     let there : layout.current + 1 ≡ first_page old.size layout.side + (k + 1) = omega (arith, here) in let first = c.mark_live.ensures in
-    let second = c.mark_live-2.ensures in let same = first_other old layout c.requires.layout c.requires.free _ words _ first.stays first.others in
+    let second = c.mark_live-2.ensures in let same = first_other old layout c.requires.layout c.requires.free _ refl _ first.stays first.others in
     let failed = c.from_residual-in_err-mark_live-2.ensures.0 in
     record {
       stays = stays_both _ _ _ _ _ first.stays second.stays;
-      other = second_other old layout c.requires.layout c.requires.free _ words some c.if-layout-slots-ne0.false _ _ second.stays.keeps.live.formed first.stays second.stays.keeps.same_size same second.others;
+      other = second_other old layout c.requires.layout c.requires.free _ refl turned.0 turned.1 _ _ second.stays.keeps.live.formed first.stays second.stays.keeps.same_size same second.others;
       ready = never_on_ok _ _ failed;
       drawn = never_on_ok _ _ failed;
       begun = always_on_err _
@@ -88,16 +84,16 @@ returns-in_err-mark_live-2 g c =
 pub returns : goal.returns
 returns g c =
     let old = g.F.Flash.device c.args.flash.now in let mid = g.F.Flash.device c.mark_live.new.flash in let new = g.F.Flash.device c.mark_live-2.new.flash in
-    let layout = c.args.layout.now in let words = c.words-slots.ensures.value ∙ ap (λ (size : Size). size.words) c.shape.ensures in
-    let some : 0 < layout.fill = omega (arith, c.if-layout-eq0.false) in let k = page_of_slot old.size (layout.fill - 1) in
-    let next : page_of_slot old.size layout.fill ≡ k + 1 = further old layout c.requires.layout c.requires.free _ words some c.if-layout-slots-ne0.false in
-    let last = last_is old layout c.requires.layout c.requires.free _ words in let here : layout.current ≡ first_page old.size layout.side + k = c.requires.layout.current in
+    let layout = c.args.layout.now in let turned = turns (g.F.Flash.device c.args.flash.now) c.args.layout.now c.requires.layout c.requires.free (g.F.Flash.device c.args.flash.now).size.words refl c.args.page c.requires.page c.if-page-layout.false in
+    let k = page_of_slot old.size (layout.fill - 1) in
+    let next : page_of_slot old.size layout.fill ≡ k + 1 = further old layout c.requires.layout c.requires.free _ refl turned.0 turned.1 in
+    let last = last_is old layout c.requires.layout c.requires.free _ refl in let here : layout.current ≡ first_page old.size layout.side + k = c.requires.layout.current in
     let there : layout.current + 1 ≡ first_page old.size layout.side + (k + 1) = omega (arith, here) in let first = c.mark_live.ensures in
-    let second = c.mark_live-2.ensures in let same = first_other old layout c.requires.layout c.requires.free _ words _ first.stays first.others in
+    let second = c.mark_live-2.ensures in let same = first_other old layout c.requires.layout c.requires.free _ refl _ first.stays first.others in
     record {
       stays = stays_both _ _ _ _ _ first.stays second.stays;
-      other = second_other old layout c.requires.layout c.requires.free _ words some c.if-layout-slots-ne0.false _ _ second.stays.keeps.live.formed first.stays second.stays.keeps.same_size same second.others;
-      ready = ready_now old layout c.requires.layout c.requires.free _ words some c.if-layout-slots-ne0.false mid new (second.stays.keeps.same_size ∙ first.stays.keeps.same_size) c.requires.marked.live
+      other = second_other old layout c.requires.layout c.requires.free _ refl turned.0 turned.1 _ _ second.stays.keeps.live.formed first.stays second.stays.keeps.same_size same second.others;
+      ready = ready_now old layout c.requires.layout c.requires.free _ refl turned.0 turned.1 mid new (second.stays.keeps.same_size ∙ first.stays.keeps.same_size) c.requires.marked.live
           first.marks second.marks c.in_ok-mark_live.ensures.marked c.in_ok-mark_live-2.ensures.marked;
       drawn = subst (λ n. IsDrawn layout.side new (marked_to n (picture_of layout.side old))) (sym next)
           (opens_next layout.side old mid new k c.requires.layout.live.formed first.stays.keeps.live.formed first.stays.keeps.same_size second.stays.keeps.same_size

@@ -12,7 +12,7 @@ stored-preserved g c =
     let map = (state_of (g.V.Variables.device c.args.store.now)).map in
     let found = c.next_batch-batch.result.found.items in
     let batch = subst (λ (through : Option ℕ). AreLiveThrough map (above_of c.stored.after) found through) c.in-Some.is c.next_batch-batch.ensures.live in
-    record { below = search arith; so_far = c.in_ok-insert_each.ensures ∙ rw (c.as_slice.ensures.value, c.stored.invariant.so_far) (put_through map found (above_of c.stored.after) c.in-Some.through batch) }
+    record { below = search arith; so_far = c.in_ok-insert_each.ensures ∙ rw c.stored.invariant.so_far (put_through map found (above_of c.stored.after) c.in-Some.through batch) }
 
 pub returns-in_default : goal.returns-in_default
 returns-in_default g c = search (rules, put_all)

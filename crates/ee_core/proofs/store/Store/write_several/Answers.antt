@@ -1,7 +1,7 @@
 use Rattle.std.proofs.Common.{refl, subst, sym}
 use Rattle.ee_flash.specs.Device.{Device}
 use Rattle.ee_core.specs.Changes.{Proceeds}
-use Rattle.ee_core.specs.Puts.{puts_of}
+use Rattle.ee_core.specs.Puts.{HasNew, puts_of}
 use Rattle.ee_core.specs.State.{capacity, state_of}
 use Rattle.ee_core.proofs.Listed.{each_apart}
 use Rattle.ee_core.proofs.Several.{needs_transfer, no_generation, no_place, several_proceed, some_place}
@@ -14,8 +14,8 @@ pub returns-then-is_full_for_all-clause-writes : goal.returns-then-is_full_for_a
 returns-then-is_full_for_all-clause-writes g c =
     (c.requires.on, c.in_default.ensures.once, no_place (capacity c.args.self.now) (state_of c.args.self.now) c.args.puts.now c.requires.several c.if-is_full_for_all.ensures, refl)
 
-pub move_unindexed-requires-clause-apart : goal.move_unindexed-requires-clause-apart
-move_unindexed-requires-clause-apart g c = each_apart c.args.puts.now c.in_default.ensures.proper c.in_default.ensures.once
+pub transfer-requires-clause-apart : goal.transfer-requires-clause-apart
+transfer-requires-clause-apart g c = each_apart c.args.puts.now c.in_default.ensures.proper c.in_default.ensures.once
 
 pub returns-then-is_last-clause-writes : goal.returns-then-is_last-clause-writes
 returns-then-is_last-clause-writes g c = (
@@ -26,12 +26,20 @@ returns-then-is_last-clause-writes g c = (
   refl,
 )
 
-pub move_unindexed-requires-clause-proceeds : goal.move_unindexed-requires-clause-proceeds
-move_unindexed-requires-clause-proceeds g c =
+pub transfer-requires-clause-proceeds : goal.transfer-requires-clause-proceeds
+transfer-requires-clause-proceeds g c =
     subst (λ (device : Device). Proceeds device (puts_of c.args.puts.now)) (sym c.self.view_is)
     (several_proceed c.args.self.now c.args.puts.now c.requires.on c.requires.several c.if-is_full_for_all.ensures c.if-is_last.ensures)
 
-pub move_unindexed-requires-clause-needed : goal.move_unindexed-requires-clause-needed
-move_unindexed-requires-clause-needed g c =
+pub transfer-requires-clause-needed : goal.transfer-requires-clause-needed
+transfer-requires-clause-needed g c =
     let device = g.F.Flash.device c.self.inside.flash in
     needs_transfer (capacity device) (state_of device) c.args.puts.now c.requires.several
+
+pub returns-in_default-make_room-clause-writes : goal.returns-in_default-make_room-clause-writes
+returns-in_default-make_room-clause-writes g c = (
+  c.in_default.ensures.once,
+  several_proceed c.args.self.now c.args.puts.now c.requires.on c.requires.several c.if-is_full_for_all.ensures c.if-is_last.ensures,
+  subst (λ (device : Device). HasNew c.args.puts.now (state_of device).map) c.self.view_is c.in_default-make_room.ensures.new,
+  c.self.view_is,
+)

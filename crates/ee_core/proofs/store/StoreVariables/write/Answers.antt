@@ -9,9 +9,3 @@ pub make_change-requires-clause-marked : goal.make_change-requires-clause-marked
 make_change-requires-clause-marked g c =
     let on = sym (c.if-not-is_on.ensures) in
     store_marked _ _ _ c.self.invariant.0 on (c.self.invariant.1 on).live
-
-pub invariant_of-self : goal.invariant_of-self
-invariant_of-self g c = search
-
-pub returns-clause-writes : goal.returns-clause-writes
-returns-clause-writes g c = search rules fits 100
