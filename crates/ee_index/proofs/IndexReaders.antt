@@ -1,29 +1,23 @@
 -- How the entries of an index are gone over in order.
-use Rattle.std.proofs.Common.{◌≡◌, ◌≢◌, inl, inr, ℕ, ◌<◌, Bool, ◌&&◌, cond, true, false, Option, Some, None, nat_lt, is_some, List, [], ◌∷◌, ◌++◌, get_or, refl, sym, subst, ap, ◌∙◌, append-nil, arith, suc, zero}
+use Rattle.std.proofs.Common.{◌≡◌, ◌≢◌, inl, inr, ℕ, ◌<◌, Bool, cond, true, false, Option, Some, None, MatchOption, nat_lt, is_some, List, [], ◌∷◌, ◌++◌, length, get_or, refl, sym, subst, ap, ◌∙◌, append-nil, arith, suc, zero}
 use Rattle.std.proofs.lemmas.Bool.{cases_eq}
 use Rattle.std.proofs.lemmas.Grind.{common_steps}
 use Rattle.std.proofs.lemmas.List.{append_assoc}
 use Rattle.std.proofs.lemmas.List.Elements.{All-append, All-head, All-tail}
-use Rattle.std.proofs.lemmas.List.Kept.{IsStrictlySortedBy-filter}
-use Rattle.std.proofs.lemmas.Map.Entries.{lookup-filter-keys}
 use Rattle.std.proofs.lemmas.Map.Keys.{sorted_head, sorted_tail}
-use Rattle.std.specs.BTreeMap.{is_at}
-use Rattle.std.specs.BTreeMap.Range.{entries_between, range_contains}
-use Rattle.std.specs.Cmp.{nat_cmp_is, ranked}
-use Rattle.std.specs.List.{AllByRecursion, filter}
+use Rattle.std.specs.Cmp.{ranked}
+use Rattle.std.specs.List.{AllByRecursion}
 use Rattle.std.specs.List.Sorted.{IsStrictlySortedBy}
 use Rattle.std.specs.Map.{keys_of}
-use Rattle.std.specs.Ordering.{is_eq, is_lt, nat_cmp}
-use Rattle.std.specs.declared.cmp.Ordering.{Ordering}
-use Rattle.std.specs.declared.cmp.Ordering.TheVariants.{Less, Equal, Greater}
-use Rattle.std.specs.declared.ops.Bound.{Bound}
-use Rattle.std.specs.declared.ops.Bound.TheVariants.{Unbounded}
+use Rattle.std.specs.Ordering.{nat_cmp}
+use Rattle.std.specs.declared.cmp.Ordering.TheVariants.{Less}
 use Rattle.ee_codec.specs.Words.{IsAddress}
 use Rattle.ee_flash.specs.declared.word.Word.{Word}
 use Rattle.ee_flash.specs.declared.word.Word.TheVariants.{Erased}
 use Rattle.ee_pages.specs.Meaning.{Map, meaning, says}
 use Rattle.ee_pages.specs.LiveOrder.{IsNextLive, above_of}
-use Rattle.ee_index.specs.Index.{AreHidden, IsIndex, IsLeft, IsNextShown, PassesHidden, bound_above, said_at, shown_index, shown_slot, slot_for}
+use Rattle.ee_index.specs.Entries.{AreAbove, AreInOrder}
+use Rattle.ee_index.specs.Index.{AreHidden, IsIndex, IsLeft, IsNextShown, PassesHidden, said_at, shown_index, shown_slot, slot_for}
 use Rattle.ee_index.proofs.IndexedStores.{as_put, says_proper, some_is}
 use Rattle.ee_index.proofs.Indexing.{Stands, nothing_if, stands, stands_if}
 
@@ -121,6 +115,10 @@ one_hidden : (shown : ℕ → Bool) (entry : ℕ × ℕ) → shown entry.1 ≡ f
 one_hidden shown entry hides zero none h = hides
 one_hidden shown entry hides (suc k) none h = absurd (omega (arith, h))
 
+pub nothing : (left : List (ℕ × ℕ)) → length left ≡ 0 → left ≡ []
+nothing [] e = refl
+nothing (first ∷ rest) e = absurd (omega (arith, e))
+
 -- a reader passes hidden entries, one after another
 module _ (shown : ℕ → Bool) (entries : List (ℕ × ℕ)) where
   pub passes_none : PassesHidden shown entries entries
@@ -136,6 +134,10 @@ module _ (shown : ℕ → Bool) (entries : List (ℕ × ℕ)) where
   -- up to one that is shown, or to the end
   pub shown_there : (here left : List (ℕ × ℕ)) (found : ℕ × ℕ) → PassesHidden shown entries here → here ≡ found ∷ left → shown found.1 ≡ true → IsNextShown shown entries (Some found) left
   shown_there here left found (passed, hide, are) is shows = (shows, (passed, hide, are ∙ ap (λ (left : List (ℕ × ℕ)). passed ++ left) is))
+
+  pub all_hidden : (left : List (ℕ × ℕ)) → PassesHidden shown entries left → length left ≡ 0 → AreHidden shown entries
+  all_hidden left (passed, hide, are) none =
+      subst (λ (entries : List (ℕ × ℕ)). AreHidden shown entries) (sym (are ∙ ap (λ (left : List (ℕ × ℕ)). passed ++ left) (nothing left none) ∙ append-nil passed)) hide
 
 -- so many slots are used
 pub next_used : (entries left : List (ℕ × ℕ)) (found : ℕ × ℕ) (fill used : ℕ) → fill ≡ used → IsNextShown (λ number. nat_lt number fill) entries (Some found) left → IsNextShown (λ number. nat_lt number used) entries (Some found) left
@@ -182,62 +184,53 @@ stands_proper slots address number here = says_proper (get_or slots number Erase
 pub left_first : (slots : List Word) (shown : ℕ → Bool) (entries : List (ℕ × ℕ)) → IsStrictlySortedBy nat_cmp (keys_of entries) → ((address : ℕ) → is_some (slot_for entries address) ≡ true → IsAddress address) → IsIndex slots (shown_index shown (slot_for entries)) → IsLeft slots shown None entries
 left_first slots shown entries ordered proper indexes = record { ordered = ordered; behind = λ address held. (proper address held).0; indexes = λ address high. indexes address }
 
--- ---- before the first behind an address
+-- ---- before the first above an address
 
-keys_kept : (test : ℕ → Bool) (entries : List (ℕ × ℕ)) → keys_of (filter (λ entry. test entry.0) entries) ≡ filter test (keys_of entries)
-keys_kept test [] = refl
-keys_kept test (first ∷ rest) = kept (test first.0) (keys_kept test rest)
-  where
-    kept : (b : Bool) → keys_of (filter (λ entry. test entry.0) rest) ≡ filter test (keys_of rest)
-        → keys_of (cond b (first ∷ filter (λ entry. test entry.0) rest) (filter (λ entry. test entry.0) rest)) ≡ cond b (first.0 ∷ filter test (keys_of rest)) (filter test (keys_of rest))
-    kept true e = ap (λ (keys : List ℕ). first.0 ∷ keys) e
-    kept false e = e
+-- these are the entries of the addresses above `after`, or all
+abbrev pub IsPart : Option ℕ → List (ℕ × ℕ) → List (ℕ × ℕ) → Type 0
+IsPart after entries part = MatchOption after (part ≡ entries) (λ address. AreAbove address entries part)
 
-same_if : (address key : ℕ) (answer : Ordering) → answer ≡ nat_cmp address key → is_eq answer ≡ true → address ≡ key
-same_if address key Less e same = absurd (cc same)
-same_if address key Equal e same = ranked address key Equal e
-same_if address key Greater e same = absurd (cc same)
+module _ (entries part : List (ℕ × ℕ)) where
+  part_ordered : (after : Option ℕ) → IsPart after entries part → AreInOrder entries → AreInOrder part
+  part_ordered None is ordered = subst (λ (entries : List (ℕ × ℕ)). AreInOrder entries) (sym is) ordered
+  part_ordered (Some from) is ordered = is.ordered
 
-above_if : (from address : ℕ) (answer : Ordering) → answer ≡ nat_cmp from address → (is_lt answer && true) ≡ true → from < address
-above_if from address Less e above = ranked from address Less e
-above_if from address Equal e above = absurd (cc above)
-above_if from address Greater e above = absurd (cc above)
+  part_same : (after : Option ℕ) → IsPart after entries part → (address : ℕ) → above_of after < address → slot_for part address ≡ slot_for entries address
+  part_same None is address high = ap (λ (entries : List (ℕ × ℕ)). slot_for entries address) is
+  part_same (Some from) is address high = is.same address high
 
--- whether a reader that begins behind this address comes to that one
-abbrev comes_to : Option ℕ → ℕ → Bool
-comes_to after = range_contains nat_cmp (bound_above after) Unbounded
+  part_above : (after : Option ℕ) → IsPart after entries part → (address : ℕ) → 0 < address → is_some (slot_for part address) ≡ true → above_of after < address
+  part_above None is address high held = high
+  part_above (Some from) is address high held = is.only address held
 
-comes_above : (after : Option ℕ) (address : ℕ) → above_of after < address → comes_to after address ≡ true
-comes_above None address high = refl
-comes_above (Some from) address high = ap (λ (answer : Ordering). is_lt answer && true) (sym (nat_cmp_is from address Less high))
+  pub none_above : (after : Option ℕ) → IsPart after entries part → part ≡ [] → IsNextLive (slot_for entries) (above_of after) None
+  none_above after is none address high = sym (part_same after is address high) ∙ ap (λ (part : List (ℕ × ℕ)). slot_for part address) none
 
-module _ (slots : List Word) (entries : List (ℕ × ℕ)) (ordered : IsStrictlySortedBy nat_cmp (keys_of entries)) (indexes : IsIndex slots (slot_for entries)) where
-  abbrev part : Option ℕ → List (ℕ × ℕ)
-  part after = entries_between nat_cmp (bound_above after) Unbounded entries
-
-  slot_in_part : (after : Option ℕ) (address : ℕ) → slot_for (part after) address ≡ cond (comes_to after address) (slot_for entries address) None
-  slot_in_part after address =
-      lookup-filter-keys (is_at (nat_cmp address)) (comes_to after) (comes_to after address) (λ key same. ap (comes_to after) (sym (same_if address key (nat_cmp address key) refl same))) entries
-
-  part_above : (after : Option ℕ) (address : ℕ) → is_some (slot_for (part after) address) ≡ true → above_of after < address
-  part_above None address held =
-      let slot = some_is (slot_for entries address) (sym (ap is_some (slot_in_part None address)) ∙ held) in
-      (stands_proper slots address slot.0 (stands slots (slot_for entries) indexes address slot.0 slot.1)).0
-  part_above (Some from) address held = if_comes (comes_to (Some from) address) refl (sym (ap is_some (slot_in_part (Some from) address)) ∙ held)
+  pub first_above : (after : Option ℕ) (first : ℕ × ℕ) (rest : List (ℕ × ℕ)) → IsPart after entries part → AreInOrder entries → part ≡ first ∷ rest → 0 < first.0 → IsNextLive (slot_for entries) (above_of after) (Some first)
+  first_above after first rest is ordered begins proper = (high, sym (part_same after is first.0 high) ∙ here, between)
     where
-      if_comes : (comes : Bool) → comes_to (Some from) address ≡ comes → is_some (cond comes (slot_for entries address) None) ≡ true → from < address
-      if_comes true is held = above_if from address (nat_cmp from address) refl is
-      if_comes false is held = absurd (cc held)
+      here : slot_for part first.0 ≡ Some first.1
+      here = ap (λ (part : List (ℕ × ℕ)). slot_for part first.0) begins ∙ put_there first rest first.0 refl
 
-  part_left : (after : Option ℕ) → IsLeft slots (λ number. true) after (part after)
-  part_left after = record {
-    ordered = subst (λ (keys : List ℕ). IsStrictlySortedBy nat_cmp keys) (sym (keys_kept (comes_to after) entries)) (IsStrictlySortedBy-filter nat_cmp (comes_to after) (keys_of entries) ordered);
-    behind = part_above after;
-    indexes = λ address high.
-        ap (λ slot. said_at slots slot address) (shown_all (slot_for (part after) address) ∙ slot_in_part after address ∙ ap (λ (comes : Bool). cond comes (slot_for entries address) None) (comes_above after address high))
-        ∙ indexes address;
+      high : above_of after < first.0
+      high = part_above after is first.0 proper (ap is_some here)
+
+      between : (address : ℕ) → above_of after < address → address < first.0 → slot_for entries address ≡ None
+      between address above low =
+          sym (part_same after is address above)
+          ∙ ap (λ (part : List (ℕ × ℕ)). slot_for part address) begins
+          ∙ put_elsewhere first rest address (λ e. omega (arith, low, e))
+          ∙ none_unless (slot_for rest address) (λ held. omega (arith, low, absent_to first rest (subst (λ (entries : List (ℕ × ℕ)). AreInOrder entries) begins (part_ordered after is ordered)) address held))
+
+  pub left_above : (slots : List Word) (after : Option ℕ) → IsPart after entries part → AreInOrder entries → IsIndex slots (slot_for entries) → IsLeft slots (λ number. true) after part
+  left_above slots after is ordered indexes = record {
+    ordered = part_ordered after is ordered;
+    behind = behind after is;
+    indexes = λ address high. ap (λ slot. said_at slots slot address) (shown_all (slot_for part address) ∙ part_same after is address high) ∙ indexes address;
   }
-
-  pub left_behind : (after : Option ℕ) (start : Bound ℕ) (found : List (ℕ × ℕ)) → start ≡ bound_above after → found ≡ entries_between nat_cmp start Unbounded entries → IsLeft slots (λ number. true) after found
-  left_behind after start found begins is =
-      subst (λ (found : List (ℕ × ℕ)). IsLeft slots (λ number. true) after found) (sym (is ∙ ap (λ (start : Bound ℕ). entries_between nat_cmp start Unbounded entries) begins)) (part_left after)
+    where
+      behind : (after : Option ℕ) → IsPart after entries part → (address : ℕ) → is_some (slot_for part address) ≡ true → above_of after < address
+      behind None is address held =
+          let slot = some_is (slot_for entries address) (sym (ap (λ (entries : List (ℕ × ℕ)). is_some (slot_for entries address)) is) ∙ held) in
+          (stands_proper slots address slot.0 (stands slots (slot_for entries) indexes address slot.0 slot.1)).0
+      behind (Some from) is address held = is.only address held

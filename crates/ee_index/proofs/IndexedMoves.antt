@@ -1,5 +1,5 @@
 -- What a transfer makes of an index: each address stands where its place in the order says.
-use Rattle.std.proofs.Common.{◌≡◌, ◌≢◌, inl, inr, ℕ, ◌+◌, ◌<◌, Bool, cond, true, false, Some, None, is_some, List, [], ◌∷◌, ◌++◌, length, get_or, refl, sym, subst, ap, ◌∙◌, arith, length-append, rules, suc}
+use Rattle.std.proofs.Common.{◌≡◌, ◌≢◌, inl, inr, ℕ, ◌+◌, ◌<◌, ◌≤◌, Bool, cond, true, false, Some, None, is_some, List, [], ◌∷◌, ◌++◌, length, get_or, refl, sym, subst, ap, ◌∙◌, arith, length-append, rules, suc}
 use Rattle.std.specs.Prelude.{◌==◌, ◌||◌}
 use Rattle.std.proofs.Math.Seq.{get_or-append_seam}
 use Rattle.std.proofs.lemmas.Bool.{cases_Bool, cases_eq, cases_lt, eqb-true, lt-ltb}
@@ -26,12 +26,12 @@ use Rattle.ee_pages.proofs.Public.{slots_before_slot}
 use Rattle.ee_core.specs.Picture.{IsDrawn, elements_of, elements_to, filled_set, map_without, moved_words, put_words}
 use Rattle.ee_core.specs.Puts.{AreApart, carried, forgets_of, is_put, names, puts_of}
 use Rattle.ee_core.specs.declared.change.Put as listed
-use Rattle.ee_core.proofs.Public.{changed_by-other, elements_front, forget-other, length-put_words, names-puts, next_element, no_words, none_between, put-at, put-other, without-at, without-other}
+use Rattle.ee_core.proofs.Public.{changed_by-other, elements_front, forget-other, length-put_words, live_few, moved_words_are_live_lem, names-puts, next_element, no_words, none_between, put-at, put-other, puts_within, without-at, without-other}
 use Rattle.ee_index.specs.Index.{HasAddresses, IsIndex, IsRoomFor, is_filled, numbered_slots, listed_place, said_at, says_value, shown_index, slot_for}
 use Rattle.ee_index.proofs.IndexReaders.{absent_to, none_unless, put_elsewhere, put_there}
 use Rattle.ee_index.proofs.IndexedAppends.{drawn_slot}
 use Rattle.ee_index.proofs.IndexedRooms.{changed_alike}
-use Rattle.ee_index.proofs.IndexedStores.{alike_held, says_proper, some_is}
+use Rattle.ee_index.proofs.IndexedStores.{alike, alike_held, count_of, says_proper, some_is}
 use Rattle.ee_index.proofs.Indexing.{stands}
 
 -- ---- where a copied word stands
@@ -338,3 +338,12 @@ module _ (before : List Word) (puts : List listed.Put) (forgets : Bool) (held : 
               (λ held. omega (arith, low, (proper_now address (sym (left_addresses address) ∙ held_as_numbered put (length put) left address held)).0)) in
               rw (none, nothing) refl
         ]
+
+-- two bytes hold the numbers that a transfer gives
+pub few_numbered : (before : List Word) (puts : List listed.Put) (forgets : Bool) (held : List (ℕ × ℕ)) → AreApart (carried puts forgets) → IsRoomFor before (values puts forgets) (slot_for held) → IsStrictlySortedBy nat_cmp (keys_of held)
+    → (fill : ℕ) → fill ≡ length (moved_words (carried puts forgets) (meaning before)) → fill ≤ 32512 → length (values puts forgets) + length held < 65536
+few_numbered before puts true held each room ordered fill is few =
+    omega (arith, count_of held ordered (held_proper before puts true held each room), live_few (slot_for held) 65534)
+few_numbered before puts false held each room ordered fill is few =
+    let same = alike (slot_for held) (changed_by (puts_of puts) (meaning before)) room.addresses 65534 in
+    omega (arith, count_of held ordered (held_proper before puts false held each room), same, moved_words_are_live_lem (puts_of puts) (meaning before) each, puts_within puts (meaning before) each, is, few)

@@ -1,15 +1,14 @@
 -- How room is made in an index for values that are put, and how addresses that are forgotten leave it.
 use Rattle.std.proofs.Common.{◌≡◌, inl, inr, ℕ, ◌+◌, ◌<◌, ◌≤◌, Bool, cond, true, false, Option, Some, None, nat_lt, is_some, not, List, [], ◌∷◌, ◌++◌, length, get_or, take, refl, sym, ap, ◌∙◌, arith, suc, zero}
 use mir.Val.{bool_byte}
-use Rattle.std.proofs.lemmas.Bool.{cases_eq, cases_lt, le-ltb, lt-ltb}
+use Rattle.std.proofs.lemmas.Bool.{cases_eq, cases_lt, lt-ltb}
 use Rattle.std.proofs.lemmas.List.{take_more}
 use Rattle.std.proofs.lemmas.Map.Keys.{sorted_tail}
-use Rattle.std.specs.Bool.{MatchBool}
 use Rattle.std.specs.List.{filter}
 use Rattle.std.specs.List.Sorted.{IsStrictlySortedBy}
 use Rattle.std.specs.Map.{keys_of}
 use Rattle.std.specs.Ordering.{nat_cmp}
-use Rattle.ee_flash.specs.Device.{Device, IsOn}
+use Rattle.ee_flash.specs.Device.{Device}
 use Rattle.ee_flash.specs.declared.word.Word.{Word}
 use Rattle.ee_flash.specs.declared.word.Word.TheVariants.{Erased, Held, Torn}
 use Rattle.ee_pages.specs.Meaning.{Change, Forget, Map, Put, changed_by, live_in, map_after, meaning, says}
@@ -17,14 +16,13 @@ use Rattle.ee_pages.specs.Page.{is_written}
 use Rattle.ee_pages.specs.Sets.{set_of, slots_of}
 use Rattle.ee_pages.specs.declared.find.Layout.{Layout}
 use Rattle.ee_pages.proofs.Public.{fill-front, slots_behind}
-use Rattle.ee_core.specs.Changes.{HasNoPlace, IsSpent, NeedsTransfer, Proceeds}
-use Rattle.ee_core.specs.Puts.{AreApart, HasNew, carried, forgets_of, puts_of}
-use Rattle.ee_core.specs.State.{capacity, state_of}
+use Rattle.ee_core.specs.Puts.{AreApart, HasNew, forgets_of, puts_of}
+use Rattle.ee_core.specs.State.{state_of}
 use Rattle.ee_core.specs.declared.change.Put as listed
-use Rattle.ee_core.proofs.Public.{changed_by-append, fill_was, forget-at, forget-other, map_with_more, one_counted, put-at, put-other}
-use Rattle.ee_index.specs.Index.{AddsAddresses, HasAddresses, IsKept, IsRoomFor, IsShownSame, said_at, shown_index, shown_slot, slot_for}
+use Rattle.ee_core.proofs.Public.{changed_by-append, forget-at, forget-other, map_with_more, one_counted, put-at, put-other}
+use Rattle.ee_index.specs.Index.{HasAddresses, IsKept, IsRoomFor, IsShownSame, said_at, shown_index, shown_slot, slot_for}
 use Rattle.ee_index.proofs.IndexReaders.{absent_to, none_unless, put_elsewhere, put_there, shown_here, shown_hidden}
-use Rattle.ee_index.proofs.IndexedStores.{alike_held, no_value, same_live}
+use Rattle.ee_index.proofs.IndexedStores.{alike_held, no_value}
 use Rattle.ee_index.proofs.Indexing.{stands}
 
 -- ---- what changes give a value
@@ -188,21 +186,6 @@ module _ (device : Device) (layout : Layout) (entries : List (ℕ × ℕ)) (kept
   pub new_in_map : (puts : List listed.Put) → HasNew puts (slot_for entries) → HasNew puts (state_of device).map
   new_in_map puts new = new_in puts (slot_for entries) (state_of device).map (λ address none. no_value device layout entries kept address (ap is_some none)) new
 
-  -- every slot is used
-  pub needs_one : (put : listed.Put) (forgets : Bool) → layout.fill ≡ capacity device → NeedsTransfer (capacity device) (state_of device) (carried (put ∷ []) forgets)
-  needs_one put true all = fill_was device device layout.side layout.generation kept.found.live ∙ sym kept.found.fill ∙ all
-  needs_one put false all = fill_was device device layout.side layout.generation kept.found.live ∙ sym kept.found.fill ∙ all
-
-  -- with these values more addresses have a value than there are slots, or not
-  pub full_for_all : (puts : List listed.Put) (count slots : ℕ) → AreApart (puts_of puts) → AddsAddresses puts (slot_for entries) count → length entries ≡ live_in (state_of device).map → slots ≡ capacity device
-      → MatchBool (nat_lt slots (length entries + count)) (capacity device < live_in (changed_by (puts_of puts) (state_of device).map)) (live_in (changed_by (puts_of puts) (state_of device).map) ≤ capacity device)
-  full_for_all puts count slots each adds live slots_is =
-      let all = adds (state_of device).map (same_live device layout entries kept) each in
-      elim (cases_lt slots (length entries + count)) [
-        | inl more ↦ rw (lt-ltb slots (length entries + count) more) (omega (arith, all, live, slots_is, more))
-        | inr few ↦ rw (le-ltb slots (length entries + count) few) (omega (arith, all, live, slots_is, few))
-      ]
-
 -- ---- how many addresses are new
 
 pub worth : (held : Bool) → (bool_byte (not held) ≡ cond held 0 1) × (bool_byte (not held) ≤ 1)
@@ -216,10 +199,3 @@ module _ (puts : List listed.Put) (place : ℕ) (put : listed.Put) (within : pla
       let one = one_counted map puts each place put within is in
       let there = ap (λ (b : Bool). live_in map + cond b 0 1) (sym (e ∙ same put.address)) in
       omega (arith, one, there, next_is, (worth held).0, so_far map same each)
-
--- a change goes through on a device that is on, where there is a place for it and the store is not spent
-pub one_proceeds : (device inside : Device) (change : Change) → inside ≡ device → IsOn inside → ¬ HasNoPlace (capacity device) (state_of device) change → ¬ IsSpent (capacity device) (state_of device) → Proceeds inside (change ∷ [])
-one_proceeds device inside change same on place unspent = rw same (record { on = rw same at on; accepted = record { has_place = place; not_spent = unspent } })
-
-pub held_place : (map : Map) (address value : ℕ) (found : Option ℕ) → found ≡ map address → found ≡ Some value → map address ≡ None → ⊥
-held_place map address value found same held none = cc (same, held, none)

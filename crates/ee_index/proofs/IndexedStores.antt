@@ -1,10 +1,9 @@
 -- What a store with an index reads of it.
-use Rattle.std.proofs.Common.{◌==◌, ◌≡◌, ℕ, ◌<◌, Bool, not, true, false, Option, Some, None, is_some, List, [], ◌∷◌, length, get_or, refl, sym, subst, ap, ◌∙◌, arith, suc, zero, rules}
-use Rattle.std.proofs.lemmas.Bool.{cases_eq, eq-eqb, eqb-true}
+use Rattle.std.proofs.Common.{◌≡◌, ℕ, ◌<◌, true, false, Option, Some, None, is_some, List, [], ◌∷◌, length, get_or, refl, sym, ap, ◌∙◌, arith, suc, zero, rules}
+use Rattle.std.proofs.lemmas.Bool.{cases_eq}
 use Rattle.std.proofs.lemmas.Bool.Decides.{nat_tests}
 use Rattle.std.proofs.lemmas.Grind.{common_steps}
 use Rattle.std.proofs.lemmas.Map.Keys.{sorted_head, sorted_tail}
-use Rattle.std.specs.Bool.{MatchBool}
 use Rattle.std.specs.List.{AllByRecursion}
 use Rattle.std.specs.List.Sorted.{IsStrictlySortedBy}
 use Rattle.std.specs.Map.{keys_of}
@@ -15,21 +14,18 @@ use Rattle.ee_flash.specs.Size.{slot_count}
 use Rattle.ee_flash.specs.declared.word.Word.{Word}
 use Rattle.ee_flash.specs.declared.word.Word.TheVariants.{Erased, Held, Torn}
 use Rattle.ee_codec.specs.Words.{IsAddress}
-use Rattle.ee_pages.specs.Laws.{KeepsLiveSet}
-use Rattle.ee_pages.specs.Layout.{IsLayout}
 use Rattle.ee_pages.specs.Meaning.{Map, Put, map_after, live_in, live_to, meaning, says}
 use Rattle.ee_pages.specs.Sets.{set_of, slots_of}
 use Rattle.ee_pages.specs.declared.find.Layout.{Layout}
 use Rattle.ee_pages.proofs.Public.{live_to-suc, live_to-zero, change_counts, length-slots}
-use Rattle.ee_core.specs.Changes.{IsFull}
-use Rattle.ee_core.specs.State.{capacity, state_of}
+use Rattle.ee_core.specs.State.{state_of}
 use Rattle.ee_core.proofs.Public.{live_in-nothing, same_counts, map_was}
-use Rattle.ee_index.specs.Index.{IsIndex, IsKept, said_at, says_value, slot_for}
+use Rattle.ee_index.specs.Index.{IsKept, said_at, says_value, slot_for}
 use Rattle.ee_index.proofs.Indexing.{stands}
 
 -- ---- as many entries as live addresses
 
-alike : (first second : Map) → ((address : ℕ) → is_some (first address) ≡ is_some (second address)) → (n : ℕ) → live_to first n ≡ live_to second n
+pub alike : (first second : Map) → ((address : ℕ) → is_some (first address) ≡ is_some (second address)) → (n : ℕ) → live_to first n ≡ live_to second n
 alike first second same zero = live_to-zero first ∙ sym (live_to-zero second)
 alike first second same (suc n) = search (rules, live_to-suc, (alike first second same n))
 
@@ -46,7 +42,7 @@ put_has named slot index = grind (arith, common_steps)
 put_keeps : (named slot address : ℕ) (index : Map) → is_some (index address) ≡ true → is_some (map_after (Put named slot) index address) ≡ true
 put_keeps named slot address index held = search (rules, cases_eq, common_steps)
 
-count_of : (entries : List (ℕ × ℕ)) → IsStrictlySortedBy nat_cmp (keys_of entries) → ((address : ℕ) → is_some (slot_for entries address) ≡ true → IsAddress address) → length entries ≡ live_in (slot_for entries)
+pub count_of : (entries : List (ℕ × ℕ)) → IsStrictlySortedBy nat_cmp (keys_of entries) → ((address : ℕ) → is_some (slot_for entries address) ≡ true → IsAddress address) → length entries ≡ live_in (slot_for entries)
 count_of [] sorted proper = live_in-nothing (slot_for []) (λ address. refl)
 count_of (first ∷ rest) sorted proper =
     let new : slot_for rest first.0 ≡ None = absent_above first.0 rest (sorted_head nat_cmp first.0 (keys_of rest) sorted) in
@@ -103,17 +99,3 @@ module _ (device : Device) (layout : Layout) (entries : List (ℕ × ℕ)) (kept
       none_is : (held : Option ℕ) → is_some held ≡ false → held ≡ None
       none_is None e = refl
       none_is (Some value) e = absurd (cc e)
-
-  -- the count of the entries says whether there is no slot for one more
-  module _ (address count slots : ℕ) (count_is : count ≡ length entries) (sorted : IsStrictlySortedBy nat_cmp (keys_of entries)) (slots_is : slots ≡ capacity device) where
-    pub full_unless_held : (held : Bool) → held ≡ is_some (slot_for entries address) → (count == slots) ≡ true
-        → MatchBool (not held) (IsFull (capacity device) (state_of device) address) (¬ IsFull (capacity device) (state_of device) address)
-    full_unless_held false absent same = record { new_address = no_value address (sym absent); all_live = sym (entries_live sorted) ∙ sym count_is ∙ eqb-true count slots same ∙ slots_is }
-    full_unless_held true present same = λ full. absurd (cc (present, same_live address, ap is_some full.new_address))
-
-    pub not_full : (count == slots) ≡ false → ¬ IsFull (capacity device) (state_of device) address
-    not_full apart full = absurd (cc (apart, eq-eqb count slots (count_is ∙ entries_live sorted ∙ full.all_live ∙ sym slots_is)))
-
--- where the live set stays, the index does
-pub kept_on : (old new : Device) (layout : Layout) (entries : List (ℕ × ℕ)) → KeepsLiveSet old new layout.side layout.generation → IsKept old layout entries → IsLayout new layout → IsKept new layout entries
-kept_on old new layout entries keeps kept found = record { found = found; indexes = subst (λ (slots : List Word). IsIndex slots (slot_for entries)) (sym keeps.same_slots) kept.indexes }

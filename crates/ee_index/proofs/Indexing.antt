@@ -1,17 +1,9 @@
 -- How an index of the live addresses is read, made and kept.
-use Rattle.std.proofs.Common.{◌≡◌, ℕ, ◌+◌, ◌<◌, ◌≤◌, true, Option, Some, None, is_some, List, [], ◌∷◌, length, take, drop, get_or, refl, sym, ap, ◌∙◌, arith, suc, rules}
+use Rattle.std.proofs.Common.{◌≡◌, ℕ, ◌+◌, ◌<◌, ◌≤◌, Option, Some, None, List, [], ◌∷◌, length, take, drop, get_or, refl, sym, ap, ◌∙◌, arith, suc, rules}
 use Rattle.std.proofs.Math.Seq.{take-suc}
 use Rattle.std.proofs.lemmas.Bool.{cases_eq, cases_lt}
 use Rattle.std.proofs.lemmas.Grind.{common_steps}
 use Rattle.std.proofs.lemmas.List.{get_or_past, take-append-drop}
-use Rattle.std.proofs.lemmas.Map.Keys.{le_from_not_gt}
-use Rattle.std.specs.BTreeMap.{BTreeMap}
-use Rattle.std.specs.BTreeMap.Range.{IsFromStart, IsRangeOf}
-use Rattle.std.specs.Cmp.{nat_cmp_is, ranked}
-use Rattle.std.specs.Ordering.{nat_cmp}
-use Rattle.std.specs.declared.ops.Bound.{Bound}
-use Rattle.std.specs.declared.ops.Bound.TheVariants.{Unbounded}
-use Rattle.std.specs.declared.cmp.Ordering.TheVariants.{Less}
 use Rattle.ee_flash.specs.Device.{Device}
 use Rattle.ee_flash.specs.Size.{slot_count}
 use Rattle.ee_flash.specs.declared.word.Word.{Word}
@@ -21,36 +13,12 @@ use Rattle.ee_codec.specs.declared.slot.Slot.{Slot}
 use Rattle.ee_codec.specs.declared.slot.Slot.TheVariants.{Free, Spoiled, Element, Forgotten, Foreign}
 use Rattle.ee_pages.specs.Layout.{IsLayout}
 use Rattle.ee_pages.specs.Meaning.{Map, later, latest_in, meaning, says, slot_says, value_said}
-use Rattle.ee_pages.specs.LiveOrder.{IsNextLive, above_of}
+use Rattle.ee_pages.specs.LiveOrder.{IsNextLive}
 use Rattle.ee_pages.specs.Sets.{set_of, slots_of}
 use Rattle.ee_pages.specs.declared.find.Layout.{Layout}
 use Rattle.ee_pages.proofs.Public.{latest_in-append, silent_behind, length-slots}
-use Rattle.ee_core.proofs.Public.{few_within}
-use Rattle.ee_index.specs.Index.{IsIndex, bound_above, index_with_slot, said_at, says_value, slot_for}
-
--- ---- the next entry
-
-less : (x y : ℕ) → x < y → nat_cmp x y ≡ Less
-less x y h = sym (nat_cmp_is x y Less h)
-
-module _ (m : BTreeMap ℕ ℕ) (lo : Bound ℕ) (after : Option ℕ) (lo_is : lo ≡ bound_above after) where
-  lets : (start : Option ℕ) (q : ℕ) → above_of start < q → IsFromStart nat_cmp (bound_above start) q
-  lets None q high = tt
-  lets (Some address) q high = less address q high
-
-  within : (start : Option ℕ) (q : ℕ) → 0 < q → IsFromStart nat_cmp (bound_above start) q → above_of start < q
-  within None q some from = some
-  within (Some address) q some from = ranked address q Less (sym from)
-
-  pub none_above : (found : List (ℕ × ℕ)) → found ≡ [] → IsRangeOf nat_cmp lo Unbounded m found → IsNextLive (slot_for m.entries) (above_of after) None
-  none_above found is range q high = (rw lo_is at range).5 is q (lets after q high, tt)
-
-  nearest : (key q : ℕ) (held : Option ℕ) → (is_some held ≡ true → key ≤ q) → q < key → held ≡ None
-  nearest key q None least low = refl
-  nearest key q (Some slot) least low = absurd (omega (arith, least refl))
-
-  pub first_found : (key slot : ℕ) (rest found : List (ℕ × ℕ)) → found ≡ (key, slot) ∷ rest → 0 < key → IsRangeOf nat_cmp lo Unbounded m found → IsNextLive (slot_for m.entries) (above_of after) (Some (key, slot))
-  first_found key slot rest found is some range = search (rules, le_from_not_gt, lets, nearest, within)
+use Rattle.ee_core.proofs.Public.{few_slots, few_within}
+use Rattle.ee_index.specs.Index.{IsIndex, index_with_slot, said_at, says_value, slot_for}
 
 -- ---- slot by slot
 
@@ -90,6 +58,10 @@ module _ (device : Device) (layout : Layout) (found : IsLayout device layout) wh
   pub slot_within : (number : ℕ) → number < layout.fill → number < slot_count device.size
   slot_within number h = omega (arith, used_within)
 
+  -- and so few that two bytes hold its number
+  pub fill_small : layout.fill < 65536
+  fill_small = omega (arith, used_within, few_slots device found.live.formed)
+
   pub slot_listed : (number : ℕ) → number < layout.fill → number < length (slots_of (set_of layout.side device))
   slot_listed number h = omega (arith, used_within, length-slots layout.side device found.live.formed)
 
@@ -119,7 +91,7 @@ pub record Stands (slots : List Word) (address number : ℕ) : Type 0 where
   pub listed : number < length slots
 
 listed_if_said : (slots : List Word) (address number value : ℕ) → says (get_or slots number Erased) address ≡ Some (Some value) → number < length slots
-listed_if_said slots address number value e = search (rules, cases_lt, get_or_past, within)
+listed_if_said slots address number value e = search (rules, cases_lt, get_or_past)
 
 pub stands_if : (slots : List Word) (address number : ℕ) (held : Option ℕ) → meaning slots address ≡ held → said_at slots (Some number) address ≡ says_value held → Stands slots address number
 stands_if slots address number None is e = absurd (cc e)

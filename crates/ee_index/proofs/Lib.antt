@@ -1,4 +1,5 @@
 mod Numbering
+mod InOrder
 mod Indexing
 mod IndexedStores
 mod IndexReaders
@@ -6,3 +7,4 @@ mod IndexedAppends
 mod IndexedRooms
 mod IndexedMoves
 mod IndexedBatches
+mod Kept

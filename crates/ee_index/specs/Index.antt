@@ -6,8 +6,6 @@ use Rattle.std.specs.List.Sorted.{IsStrictlySortedBy}
 use Rattle.std.specs.Map.{keys_of, lookup}
 use Rattle.std.specs.Option.{option_map}
 use Rattle.std.specs.Ordering.{nat_cmp}
-use Rattle.std.specs.declared.ops.Bound.{Bound}
-use Rattle.std.specs.declared.ops.Bound.TheVariants.{Excluded, Unbounded}
 use Rattle.ee_flash.specs.Device.{Device}
 use Rattle.ee_flash.specs.declared.word.Word.{Word}
 use Rattle.ee_flash.specs.declared.word.Word.TheVariants.{Erased}
@@ -116,6 +114,11 @@ numbered_slots puts number (entry ∷ more) =
     if is_put puts entry.0 then (entry.0, listed_place puts entry.0) ∷ numbered_slots puts number more
     else (entry.0, number) ∷ numbered_slots puts (number + 1) more
 
+-- it has this slot where so many are taken, and so many are taken behind it
+pub record IsNumberedNext (puts : List listed.Put) (number address slot next : ℕ) : Type 0 where
+  pub gets : slot ≡ (if is_put puts address then listed_place puts address else number)
+  pub behind : next ≡ (if is_put puts address then number else number + 1)
+
 -- the entries behind a transfer: those that are forgotten left, and the others are numbered
 pub record IsNumberedAfter (puts : List listed.Put) (forgets : Bool) (old new : List (ℕ × ℕ)) : Type 0 where
   pub left : List (ℕ × ℕ)
@@ -132,6 +135,11 @@ pub record IsLeft (slots : List Word) (shown : ℕ → Bool) (after : Option ℕ
   pub indexes : (address : ℕ) → above_of after < address
       → said_at slots (shown_index shown (slot_for entries) address) address ≡ says_value (meaning slots address)
 
+-- so it is of the used slots, of which there are so many
+pub record IsFilledLeft (slots : List Word) (fill : ℕ) (after : Option ℕ) (entries : List (ℕ × ℕ)) : Type 0 where
+  pub fill_is : fill ≡ fill_of slots
+  pub left : IsLeft slots (is_filled slots) after entries
+
 -- the slots of these entries are hidden
 abbrev pub AreHidden : (ℕ → Bool) → List (ℕ × ℕ) → Type 0
 AreHidden shown entries = All (λ entry. shown entry.1 ≡ false) entries
@@ -144,11 +152,6 @@ PassesHidden shown entries left = (passed : List (ℕ × ℕ)) × AreHidden show
 abbrev pub IsNextShown : (ℕ → Bool) → List (ℕ × ℕ) → Option (ℕ × ℕ) → List (ℕ × ℕ) → Type 0
 IsNextShown shown entries None left = AreHidden shown entries
 IsNextShown shown entries (Some found) left = (shown found.1 ≡ true) × PassesHidden shown entries (found ∷ left)
-
--- where a reader of an index begins: behind this address, or at the first of all
-abbrev pub bound_above : Option ℕ → Bound ℕ
-bound_above None = Unbounded
-bound_above (Some address) = Excluded address
 
 -- what a store with an index keeps beside its device, which is on: where the live set is, and its index
 pub record IsKept (device : Device) (layout : Layout) (entries : List (ℕ × ℕ)) : Type 0 where

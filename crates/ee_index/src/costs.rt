@@ -3,6 +3,9 @@
 //! All is counted in looks at a slot for a value, each some ten instructions. The figures of an index were taken by
 //! callgrind.
 
+/// What a look through the slots for a value costs besides.
+const STARTING: u64 = 8;
+
 /// What a used slot costs in a look for the next sixteen live addresses.
 const USED_LOOK: u64 = 2;
 
@@ -13,19 +16,20 @@ const FREE_LOOK: u64 = 1;
 const FOUND: u64 = 16;
 
 /// What an index costs for each used slot when it is made and given back.
-const ENTERING: u64 = 60;
+const ENTERING: u64 = 10;
 
 /// What each index costs besides when it is made and given back, as much as so many slots.
 const FIXED_SLOTS: u64 = 16;
 
 /// What an index costs with each change.
-const KEEPING: u64 = 20;
+const KEEPING: u64 = 6;
 
 /// What an index costs for each live address when they are moved.
 const MOVING: u64 = 5;
 
-/// What an index costs with each read, as often as the addresses in it can be halved.
-const READING: u64 = 3;
+/// What an index costs with each read, where its addresses rise evenly. Else it costs more, the more often they can be
+/// halved.
+const READING: u64 = 6;
 
 /// An index is made when looking has cost so many times what it may cost, so that it takes no more than a tenth of what
 /// the lines before it took.
@@ -100,7 +104,7 @@ impl Costs {
 
     /// An address with no value was looked for in so many used slots.
     pub fn note_absent(&mut self, fill: usize) {
-        self.balance(fill as u64, reading(fill));
+        self.balance(looking(fill), reading(fill));
     }
 
     /// A value was read. Says whether it is this read's turn to be measured: one of some sixty is, at uneven distances.
@@ -120,8 +124,10 @@ impl Costs {
     /// since the one before it.
     pub fn measure_read(&mut self, looks: usize, addresses: usize) {
         let reads = u64::from(self.apart);
-        let looking = (looks as u64).saturating_mul(reads);
-        self.balance(looking, reading(addresses).saturating_mul(reads));
+        self.balance(
+            looking(looks).saturating_mul(reads),
+            reading(addresses).saturating_mul(reads),
+        );
         self.dice = self
             .dice
             .wrapping_mul(1_664_525)
@@ -176,7 +182,12 @@ fn making(fill: usize) -> u64 {
         .saturating_mul(ENTERING)
 }
 
-/// What a read in an index of so many addresses costs.
+/// What a look through so many slots costs.
+fn looking(looks: usize) -> u64 {
+    (looks as u64).saturating_add(STARTING)
+}
+
+/// What a read in an index of so many addresses costs, between where they rise evenly and where they don't.
 fn reading(addresses: usize) -> u64 {
-    u64::from(usize::BITS - addresses.leading_zeros()).saturating_mul(READING)
+    u64::from((usize::BITS - addresses.leading_zeros()) / 2).saturating_add(READING)
 }

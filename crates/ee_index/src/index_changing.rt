@@ -1,5 +1,5 @@
 //! Changes with an index: room in it is made before the first step, and it follows without memory.
-ghost use Rattle.std.specs.Prelude.{◌≡◌, ◌<◌, ℕ, [], ◌∷◌, OnErr, OnOk, None, if◌then◌else◌, nat_lt};
+ghost use Rattle.std.specs.Prelude.{◌≡◌, ◌<◌, ◌≤◌, ◌+◌, ℕ, [], ◌∷◌, OnErr, OnOk, None, if◌then◌else◌, length, nat_lt};
 ghost use Rattle.ee_flash.specs.Device.{IsOn};
 ghost use Rattle.ee_flash.specs.Size.{slot_count};
 ghost use Rattle.ee_pages.specs.Layout.{IsLayout};
@@ -12,7 +12,7 @@ ghost use Rattle.ee_core.specs.Parts.{ForgetsHeld, meant};
 ghost use Rattle.ee_core.specs.Puts.{AreApart, HasNew, carried, forgets_of, puts_of};
 ghost use Rattle.ee_core.specs.State.{capacity, state_of};
 
-use crate::index::{Index, IndexCursor, renumber};
+use crate::index::{Index, IndexCursor};
 use ee_codec::Address;
 use ee_core::Put;
 use ee_core::inner::{Change, append_change, move_changes, values_put};
@@ -27,10 +27,11 @@ pub(crate) fn enter_slot<A: Allocator + Copy>(
     address: Address,
     number: usize,
 ) -> Result<(), AllocError>
-    ensures entered { OnOk result ((named : ℕ) → slot_for index.new.entries named
-        ≡ map_after (MapPut address number) (slot_for index.old.entries) named) }
-    ensures absent { OnErr result (slot_for index.old.entries address ≡ None) }
-    ensures err { OnErr result (index.new.entries ≡ index.old.entries) }
+    requires { number < 65536 }
+    ensures entered { OnOk result ((named : ℕ) → slot_for index.new named
+        ≡ map_after (MapPut address number) (slot_for index.old) named) }
+    ensures absent { OnErr result (slot_for index.old address ≡ None) }
+    ensures err { OnErr result (index.new ≡ index.old) }
 {
     index.insert(address, number)?;
     Ok(())
@@ -43,17 +44,18 @@ pub(crate) fn make_room<A: Allocator + Copy>(
     puts: &[Put],
     fill: usize,
 ) -> Result<(), AllocError>
-    ensures shown { OnOk result (IsShownSame fill index.old.entries index.new.entries) }
-    ensures there { OnOk result (HasAddresses (slot_for index.new.entries)
-        (changed_by (puts_of puts.now) (slot_for index.old.entries))) }
-    ensures new { OnErr result (HasNew puts.now (slot_for index.old.entries)) }
-    ensures err { OnErr result ((address : ℕ) → slot_for index.new.entries address
-        ≡ shown_index (λ number. nat_lt number fill) (slot_for index.old.entries) address) }
+    requires { fill < 65536 }
+    ensures shown { OnOk result (IsShownSame fill index.old index.new) }
+    ensures there { OnOk result (HasAddresses (slot_for index.new)
+        (changed_by (puts_of puts.now) (slot_for index.old))) }
+    ensures new { OnErr result (HasNew puts.now (slot_for index.old)) }
+    ensures err { OnErr result ((address : ℕ) → slot_for index.new address
+        ≡ shown_index (λ number. nat_lt number fill) (slot_for index.old) address) }
 {
     match enter_hidden(index, puts, fill) {
         Ok(()) => Ok(()),
         Err(refused) => {
-            index.retain(|_, number| *number < fill);
+            index.retain_used(fill);
             Err(refused)
         }
     }
@@ -66,10 +68,11 @@ fn enter_hidden<A: Allocator + Copy>(
     puts: &[Put],
     fill: usize,
 ) -> Result<(), AllocError>
-    ensures shown { IsShownSame fill index.old.entries index.new.entries }
-    ensures there { OnOk result (HasAddresses (slot_for index.new.entries)
-        (changed_by (puts_of puts.now) (slot_for index.old.entries))) }
-    ensures new { OnErr result (HasNew puts.now (slot_for index.old.entries)) }
+    requires { fill < 65536 }
+    ensures shown { IsShownSame fill index.old index.new }
+    ensures there { OnOk result (HasAddresses (slot_for index.new)
+        (changed_by (puts_of puts.now) (slot_for index.old))) }
+    ensures new { OnErr result (HasNew puts.now (slot_for index.old)) }
 {
     'entries: for put in puts {
         enter_new(index, put.address, fill)?;
@@ -84,12 +87,13 @@ fn enter_new<A: Allocator + Copy>(
     address: Address,
     number: usize,
 ) -> Result<(), AllocError>
-    ensures shown { IsShownSame number index.old.entries index.new.entries }
-    ensures there { OnOk result (HasAddresses (slot_for index.new.entries)
-        (map_after (MapPut address number) (slot_for index.old.entries))) }
-    ensures absent { OnErr result (slot_for index.old.entries address ≡ None) }
+    requires { number < 65536 }
+    ensures shown { IsShownSame number index.old index.new }
+    ensures there { OnOk result (HasAddresses (slot_for index.new)
+        (map_after (MapPut address number) (slot_for index.old))) }
+    ensures absent { OnErr result (slot_for index.old address ≡ None) }
 {
-    if index.contains_key(&address) {
+    if index.has(address) {
         return Ok(());
     }
     enter_slot(index, address, number)?;
@@ -110,7 +114,7 @@ pub(crate) fn append_indexed<F: Flash, A: Allocator>(
     requires forgets { ForgetsHeld (state_of (F.device flash.old)).map change }
     requires free { layout.old.fill < slot_count (F.device flash.old).size }
     requires ready { let slots = slots_of (set_of layout.old.side (F.device flash.old)) in
-        IsReadyFor slots (meant change) layout.old.fill (slot_for index.old.entries) }
+        IsReadyFor slots (meant change) layout.old.fill (slot_for index.old) }
     ensures appended { OnOk result
         (Appends (F.device flash.old) (meant change) (F.device flash.new)) }
     ensures cut { OnErr result
@@ -118,7 +122,7 @@ pub(crate) fn append_indexed<F: Flash, A: Allocator>(
     ensures store { IsStore (F.device flash.new) }
     ensures layout { IsOn (F.device flash.new) → IsLayout (F.device flash.new) layout.new }
     ensures index { let slots = slots_of (set_of layout.new.side (F.device flash.new)) in
-        IsOn (F.device flash.new) → IsIndex slots (slot_for index.new.entries) }
+        IsOn (F.device flash.new) → IsIndex slots (slot_for index.new) }
 {
     append_change(flash, layout, change)?;
     leave_forgotten(index, &change);
@@ -141,7 +145,7 @@ pub(crate) fn move_indexed<F: Flash, A: Allocator>(
     requires needed { NeedsTransfer (capacity (F.device flash.old)) (state_of (F.device flash.old))
         (carried puts.now forgets) }
     requires room { let slots = slots_of (set_of layout.old.side (F.device flash.old)) in
-        IsRoomFor slots (if forgets then [] else puts.now) (slot_for index.old.entries) }
+        IsRoomFor slots (if forgets then [] else puts.now) (slot_for index.old) }
     ensures moved { OnOk result
         (Moves (F.device flash.old) (carried puts.now forgets) (F.device flash.new)) }
     ensures cut { OnErr result
@@ -149,9 +153,9 @@ pub(crate) fn move_indexed<F: Flash, A: Allocator>(
     ensures store { IsStore (F.device flash.new) }
     ensures layout { IsOn (F.device flash.new) → IsLayout (F.device flash.new) layout.new }
     ensures index { let slots = slots_of (set_of layout.new.side (F.device flash.new)) in
-        IsOn (F.device flash.new) → IsIndex slots (slot_for index.new.entries) }
+        IsOn (F.device flash.new) → IsIndex slots (slot_for index.new) }
 {
-    let mut cursor = IndexCursor::new(index);
+    let mut cursor = IndexCursor::new(index, layout.fill);
     move_changes(flash, layout, puts, forgets, &mut cursor)?;
     follow(index, puts, forgets);
     Ok(())
@@ -160,19 +164,21 @@ pub(crate) fn move_indexed<F: Flash, A: Allocator>(
 /// Lets an index follow a transfer: the addresses that are forgotten leave it, and the others get the
 /// slots in which the transfer put them.
 fn follow<A: Allocator>(index: &mut Index<A>, puts: &[Put], forgets: bool)
-    ensures { IsNumberedAfter puts.now forgets index.old.entries index.new.entries }
+    requires { length (if forgets then [] else puts.now) + length index.old < 65536 }
+    ensures { IsNumberedAfter puts.now forgets index.old index.new }
 {
     let put = values_put(puts, forgets);
     // Where values are put none is forgotten, and the other way round.
     let forgotten = values_put(puts, !forgets);
     leave_all(index, forgotten);
-    renumber(index, put);
+    index.renumber(put);
 }
 
 /// Takes the addresses of these values from an index.
 fn leave_all<A: Allocator>(index: &mut Index<A>, puts: &[Put])
-    ensures { (address : ℕ) → slot_for index.new.entries address
-        ≡ changed_by (forgets_of puts.now) (slot_for index.old.entries) address }
+    ensures left { (address : ℕ) → slot_for index.new address
+        ≡ changed_by (forgets_of puts.now) (slot_for index.old) address }
+    ensures fewer { length index.new ≤ length index.old }
 {
     'entries: for put in puts {
         leave(index, put.address);
@@ -181,16 +187,17 @@ fn leave_all<A: Allocator>(index: &mut Index<A>, puts: &[Put])
 
 /// Takes an address from an index.
 fn leave<A: Allocator>(index: &mut Index<A>, address: Address)
-    ensures { (named : ℕ) → slot_for index.new.entries named
-        ≡ map_after (MapForget address) (slot_for index.old.entries) named }
+    ensures left { (named : ℕ) → slot_for index.new named
+        ≡ map_after (MapForget address) (slot_for index.old) named }
+    ensures fewer { length index.new ≤ length index.old }
 {
-    index.remove(&address);
+    index.remove(address);
 }
 
 /// Takes an address that is forgotten from an index.
 fn leave_forgotten<A: Allocator>(index: &mut Index<A>, change: &Change)
-    ensures { (address : ℕ) → slot_for index.new.entries address
-        ≡ without_forgotten (meant change.now) (slot_for index.old.entries) address }
+    ensures { (address : ℕ) → slot_for index.new address
+        ≡ without_forgotten (meant change.now) (slot_for index.old) address }
 {
     if let Change::Forget { address, .. } = *change {
         leave(index, address);

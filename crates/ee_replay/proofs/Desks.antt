@@ -20,7 +20,7 @@ use Rattle.ee_script.specs.declared.answer.Answer.TheVariants.{Appended, Moved, 
 use Rattle.ee_script.specs.Run.{Run}
 use Rattle.ee_image_store.specs.Machine.{CallStep, CutStep, CutsChange, DeskStep, is_cut_answer}
 use Rattle.ee_replay.specs.Desk.{Stand}
-use Rattle.ee_replay.specs.Serving.{Asks, Attends, Powers, Serves, desk_of, is_armed}
+use Rattle.ee_replay.specs.Serving.{CallAnswers, LineAnswers, PowerAnswers, UncutLineAnswers, desk_of, is_armed}
 use Rattle.ee_replay.proofs.Powering.{now_armed, state_armed, state_powered}
 use Rattle.ee_replay.proofs.Runs.{machine_step}
 
@@ -59,7 +59,7 @@ pub record IsLineMade (old : Point) (command : Command) (answer : Answer) (new :
   pub same_size : new.device.size ≡ old.device.size
   pub at_most : AtMostOne new.device
 
-whole : (old : Device) (command : Command) (answer : Answer) (new : Point) (made : Call) → Serves old command answer new.device → Follows made old new.device
+whole : (old : Device) (command : Command) (answer : Answer) (new : Point) (made : Call) → UncutLineAnswers old command answer new.device → Follows made old new.device
     → is_cut made ≡ false → is_cut_answer answer ≡ false → new.serving ≡ true → AtMostOne old → IsCallMade true old command answer new
 whole old command answer new made serves follows uncut plain still most = search (rules, at_most_still, goes_on, machine_step)
 
@@ -81,7 +81,7 @@ cut_made old command new step cut off most =
     let here = cut_here old new cut off most in
     record { step = (refl, here.armed, step, here.desk); same_size = cut.same_size; at_most = here.at_most }
 
-asked_on : (old : Device) (command : Command) (answer : Answer) (new : Point) → AtMostOne old → Asks true old command answer new → IsCallMade true old command answer new
+asked_on : (old : Device) (command : Command) (answer : Answer) (new : Point) → AtMostOne old → CallAnswers true old command answer new → IsCallMade true old command answer new
 asked_on old (Write address value) Appended new most asks = whole old (Write address value) Appended new (Wrote address value (Ok written.Appended)) asks.0 asks.0 refl refl asks.1 most
 asked_on old (Write address value) Moved new most asks = whole old (Write address value) Moved new (Wrote address value (Ok written.Moved)) asks.0 asks.0 refl refl asks.1 most
 asked_on old (Write address value) Full new most asks = whole old (Write address value) Full new (Wrote address value (Err fault.Full)) asks.0 asks.0 refl refl asks.1 most
@@ -101,11 +101,11 @@ asked_on old (Arm fuse) Cut new most asks = absurd asks
 asked_on old PowerOn Cut new most asks = absurd asks
 asked_on old command answer new most asks = absurd asks
 
-asked_off : (old : Device) (command : Command) (answer : Answer) (new : Point) → AtMostOne old → Asks false old command answer new → IsCallMade false old command answer new
+asked_off : (old : Device) (command : Command) (answer : Answer) (new : Point) → AtMostOne old → CallAnswers false old command answer new → IsCallMade false old command answer new
 asked_off old command Off new most asks = search (rules, at_most_still)
 asked_off old command answer new most asks = absurd asks
 
-asked : (serving : Bool) (old : Device) (command : Command) (answer : Answer) (new : Point) → AtMostOne old → Asks serving old command answer new
+asked : (serving : Bool) (old : Device) (command : Command) (answer : Answer) (new : Point) → AtMostOne old → CallAnswers serving old command answer new
     → IsCallMade serving old command answer new
 asked true old command answer new most asks = asked_on old command answer new most asks
 asked false old command answer new most asks = asked_off old command answer new most asks
@@ -116,7 +116,7 @@ desk_is : (point : Point) (state : State) (serving : Bool) (left : Option ℕ) �
 desk_is point state serving left says still kept = cc
 
 -- power that comes on
-power_made : (serving : Bool) (old : Device) (answer : Answer) (new : Point) → AtMostOne old → Powers serving old answer new
+power_made : (serving : Bool) (old : Device) (answer : Answer) (new : Point) → AtMostOne old → PowerAnswers serving old answer new
     → IsLineMade (record { serving = serving; device = old }) PowerOn answer new
 power_made true old Opened new most powers =
     subst (λ (point : Point). IsLineMade (record { serving = true; device = old }) PowerOn Opened point) (sym powers) (record { step = refl; same_size = refl; at_most = most })
@@ -130,7 +130,7 @@ power_made false old Cut new most powers =
     record { step = (refl, here.armed, desk); same_size = powers.0.cut.same_size; at_most = here.at_most }
 power_made serving old answer new most powers = absurd powers
 
-pub line_made : (old : Stand) (command : Command) (answer : Answer) (new : Stand) → AtMostOne old.point.device → Attends old command answer new
+pub line_made : (old : Stand) (command : Command) (answer : Answer) (new : Stand) → AtMostOne old.point.device → LineAnswers old command answer new
     → IsLineMade old.point command answer new.point
 line_made old (Arm fuse) answer new most attends = search (rules, now_armed, state_armed)
 line_made old PowerOn answer new most attends = power_made old.point.serving old.point.device answer new.point most attends
@@ -145,7 +145,7 @@ pub record IsDeskRun (old : Point) (commands : List Command) (answers : List Ans
   pub run : Run (DeskStep old.device.size) (desk_of old) commands answers (desk_of new)
   pub same_size : new.device.size ≡ old.device.size
 
-pub desk_run : (old new : Stand) (commands : List Command) (answers : List Answer) → AtMostOne old.point.device → Run Attends old commands answers new
+pub desk_run : (old new : Stand) (commands : List Command) (answers : List Answer) → AtMostOne old.point.device → Run LineAnswers old commands answers new
     → IsDeskRun old.point commands answers new.point
 desk_run old new [] [] most run = record { run = ap (λ (stand : Stand). desk_of stand.point) run; same_size = ap (λ (stand : Stand). stand.point.device.size) run }
 desk_run old new [] (answer ∷ answers) most run = absurd run

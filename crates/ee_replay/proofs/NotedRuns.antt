@@ -38,7 +38,7 @@ use Rattle.ee_core.specs.declared.variables.WriteFault.{WriteFault}
 use Rattle.ee_core.specs.declared.variables.WriteFault.TheVariants as fault
 use Rattle.ee_replay.specs.Desk.{CallsAtDesk, SaysTheSame, Stand}
 use Rattle.ee_image_store.specs.Machine.{is_cut_answer, was_cut}
-use Rattle.ee_replay.specs.Serving.{Attends, IsCounted, IsTraced, Noted, Notes, Records, Serves, claim_noted, no_notes, notes_after, serving_on, stand_on}
+use Rattle.ee_replay.specs.Serving.{LineAnswers, IsCounted, IsTraced, Noted, Notes, LineIsNoted, UncutLineAnswers, claim_noted, no_notes, notes_after, serving_on, stand_on}
 use Rattle.ee_image_store.specs.Trace.{accepted_commands, moved_at, trace_of}
 use Rattle.ee_replay.proofs.Powering.{state_armed}
 use Rattle.ee_replay.proofs.Runs.{neither}
@@ -53,7 +53,7 @@ record Held : Type 0 where
 
 -- a line is served, and its answer is noted
 record IsHeld (old : Held) (command : Command) (answer : Answer) (new : Held) : Type 0 where
-  serves : Serves old.device command answer new.device
+  serves : UncutLineAnswers old.device command answer new.device
   notes_are : new.notes ≡ notes_after answer (state_of new.device).fill old.notes
 
 abbrev held_at : Noted → Held
@@ -238,7 +238,7 @@ noted_tight old new commands answers start are fresh run is proper =
 
 -- a run at a desk in which no line was cut is one of a store that stays open
 held_run : (device : Device) (old new : Noted) (commands : List Command) (answers : List Answer) → was_cut answers ≡ false → old.stand.point ≡ serving_on device
-    → Run Records old commands answers new → Run IsHeld (record { device = device; notes = old.notes }) commands answers (held_at new)
+    → Run LineIsNoted old commands answers new → Run IsHeld (record { device = device; notes = old.notes }) commands answers (held_at new)
 held_run device old new [] [] plain still run = search (rules, there)
 held_run device old new [] (answer ∷ answers) plain still run = absurd run
 held_run device old new (command ∷ commands) [] plain still run = absurd run
@@ -250,7 +250,7 @@ held_run device old new (command ∷ commands) (answer ∷ answers) plain still 
     (held_at mid, record { serves = here.serves; notes_are = run.1.notes_are }, held_run point.device mid new commands answers parts.1 (at_open point here.still) run.2)
 
 -- without what is noted
-run_attended : (old new : Noted) (commands : List Command) (answers : List Answer) → Run Records old commands answers new → Run Attends old.stand commands answers new.stand
+run_attended : (old new : Noted) (commands : List Command) (answers : List Answer) → Run LineIsNoted old commands answers new → Run LineAnswers old.stand commands answers new.stand
 run_attended old new [] [] run = ap (λ (n : Noted). n.stand) run
 run_attended old new [] (answer ∷ answers) run = absurd run
 run_attended old new (command ∷ commands) [] run = absurd run
@@ -263,7 +263,7 @@ one_stretch Appended fill n notes answers = (n + 1, refl)
 one_stretch Moved fill n notes answers = (n + 1, omega (arith, length-append notes.stretches (record { to = notes.changes + 1; from = notes.from } ∷ [])))
 one_stretch answer fill n notes answers = (n, refl)
 
-stretches_are : (old new : Noted) (commands : List Command) (answers : List Answer) (n : ℕ) → Run Records old commands answers new
+stretches_are : (old new : Noted) (commands : List Command) (answers : List Answer) (n : ℕ) → Run LineIsNoted old commands answers new
     → length new.notes.stretches ≡ length (moved_at n answers) + length old.notes.stretches
 stretches_are old new [] [] n run = let same = ap (λ (noted : Noted). length noted.notes.stretches) run in omega arith
 stretches_are old new [] (answer ∷ answers) n run = absurd run
@@ -279,7 +279,7 @@ one_cut : (answer : Answer) (fill : ℕ) (notes : Notes) → (notes_after answer
 one_cut Cut fill notes = refl
 one_cut answer fill notes = refl
 
-cuts_are : (old new : Noted) (commands : List Command) (answers : List Answer) → Run Records old commands answers new → new.notes.cut ≡ (was_cut answers || old.notes.cut)
+cuts_are : (old new : Noted) (commands : List Command) (answers : List Answer) → Run LineIsNoted old commands answers new → new.notes.cut ≡ (was_cut answers || old.notes.cut)
 cuts_are old new [] [] run = ap (λ (n : Noted). n.notes.cut) run
 cuts_are old new [] (answer ∷ answers) run = absurd run
 cuts_are old new (command ∷ commands) [] run = absurd run
@@ -289,10 +289,10 @@ cuts_are old new (command ∷ commands) (answer ∷ answers) run =
     cuts_are run.0 new commands answers run.2 ∙ kept ∙ sym (or_assoc was (is_cut_answer answer) old.notes.cut) ∙ ap (λ (cut : Bool). cut || old.notes.cut) (or_comm was (is_cut_answer answer))
 
 -- what serves, as its desk and its notes are seen
-pub is_traced : {S : Type 0} (see : S → Noted) (device : Device) (old new : S) (text lines : List ℕ) → IsAnswered (λ from command answer to. Records (see from) command answer (see to)) old text new lines
+pub is_traced : {S : Type 0} (see : S → Noted) (device : Device) (old new : S) (text lines : List ℕ) → IsAnswered (λ from command answer to. LineIsNoted (see from) command answer (see to)) old text new lines
     → (see old).stand ≡ stand_on device → (see old).notes ≡ no_notes (state_of device).fill → IsTraced device text (see new).stand.point (see new).notes lines
 is_traced see device old new text lines answered still fresh =
-    let seen = IsAnswered-seen see Records old new text lines answered in
+    let seen = IsAnswered-seen see LineIsNoted old new text lines answered in
     let attended = run_attended (see old) (see new) seen.commands seen.answers seen.run in
     record {
       last = (see new).stand;
@@ -301,7 +301,7 @@ is_traced see device old new text lines answered still fresh =
         commands = seen.commands;
         answers = seen.answers;
         is_script = seen.is_script;
-        run = subst (λ stand. Run Attends stand seen.commands seen.answers (see new).stand) still attended;
+        run = subst (λ stand. Run LineAnswers stand seen.commands seen.answers (see new).stand) still attended;
         report_is = seen.report_is;
       };
       transfers = omega (arith, stretches_are (see old) (see new) seen.commands seen.answers 0 seen.run, ap (λ (notes : Notes). length notes.stretches) fresh);

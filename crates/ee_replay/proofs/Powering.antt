@@ -25,15 +25,12 @@ use Rattle.ee_core.specs.declared.variables.WriteFault.TheVariants as fault
 use Rattle.ee_core.specs.declared.variables.Written.{Written}
 use Rattle.ee_core.specs.declared.variables.Written.TheVariants as written
 use Rattle.ee_flash.specs.declared.fuse.Fuse.{Fuse}
-use Rattle.ee_index.specs.Kept.{IsKeptBeside}
-use Rattle.ee_index.specs.declared.indexed.Kept.{Kept}
 use Rattle.ee_replay.specs.Desk.{CallsAtDesk, SaysTheSame, Stand}
-use Rattle.ee_replay.specs.Either.{IsBeside}
-use Rattle.ee_replay.specs.declared.either.Beside.{Beside}
-use Rattle.ee_replay.specs.declared.either.Beside.TheVariants.{Layout, Index}
+use Rattle.ee_core.specs.Lookups.{slots_by}
+use Rattle.ee_flash.specs.declared.word.Word.{Word}
 use Rattle.ee_script.specs.declared.answer.Answer.{Answer}
 use Rattle.ee_script.specs.declared.answer.Answer.TheVariants.{Cut, Opened}
-use Rattle.ee_replay.specs.Serving.{ArmsItsFuse, IsSound, Powers, with_cut_to_come}
+use Rattle.ee_replay.specs.Serving.{ArmsItsFuse, IsSound, PowerAnswers, with_cut_to_come}
 
 pub state_armed : (device : Device) → state_of (with_cut_to_come device) ≡ state_of device
 state_armed device = state_in_powered device.cuts (Some 1) device.on device (live_of device)
@@ -68,9 +65,6 @@ layout_armed device layout is = record {
   current = is.current;
 }
 
-kept_armed : {A : Type 0} (device : Device) (kept : Kept A) → IsKeptBeside device kept → IsKeptBeside (with_cut_to_come device) kept
-kept_armed device kept is = record { found = layout_armed device kept.layout is.found; indexes = rw (set_armed device kept.layout.side) is.indexes }
-
 -- ---- a device that is armed
 
 module _ (old new : Memory) (fuse : Fuse) (armed : new ≡ with_fuse fuse old) where
@@ -83,9 +77,11 @@ module _ (old new : Memory) (fuse : Fuse) (armed : new ≡ with_fuse fuse old) w
   pub store_with_fuse : IsStore old.device → IsStore new.device
   store_with_fuse store = subst IsStore (sym device_armed) (store_armed old.device store)
 
-  pub beside_with_fuse : {A : Type 0} (beside : Beside A) → IsBeside old.device beside → IsBeside new.device beside
-  beside_with_fuse (Layout layout) is = subst (λ (device : Device). IsLayout device layout) (sym device_armed) (layout_armed old.device layout is)
-  beside_with_fuse (Index kept) is = subst (λ (device : Device). IsKeptBeside device kept) (sym device_armed) (kept_armed old.device kept is)
+  pub layout_with_fuse : (layout : pages.Layout) → IsLayout old.device layout → IsLayout new.device layout
+  layout_with_fuse layout is = subst (λ (device : Device). IsLayout device layout) (sym device_armed) (layout_armed old.device layout is)
+
+  pub slots_with_fuse : (layout : pages.Layout) → slots_by layout old.device ≡ slots_by layout new.device
+  slots_with_fuse layout = sym (ap (λ (device : Device). slots_by layout device) device_armed ∙ ap slots_of (set_armed old.device layout.side))
 
   -- a desk on which a cut was armed, with a store open on it or without
   pub arms_stand : (point : Point) (serving : Bool) → old.device ≡ point.device → serving ≡ point.serving
@@ -135,11 +131,11 @@ module _ (old : Point) (found powered : Device) (at : found ≡ old.device) (on 
   there : powered ≡ with_power_on old.device
   there = on ∙ ap with_power_on at
 
-  pub power_opens : (new : Point) (store : Device) (answer : Answer) → old.serving ≡ false → Opens powered store → (answer ≡ Opened) × (new ≡ open_point store) → Powers old.serving old.device answer new
+  pub power_opens : (new : Point) (store : Device) (answer : Answer) → old.serving ≡ false → Opens powered store → (answer ≡ Opened) × (new ≡ open_point store) → PowerAnswers old.serving old.device answer new
   power_opens new store answer off opens done =
       rw (off, done.0, done.1) (subst (λ (device : Device). Opens device store) there opens, opens.goes_on.same_power ∙ ap (λ (device : Device). device.on) on)
 
-  pub power_cut : (new : Device) (fault : OpenFault) → old.serving ≡ false → fault ≡ opening.Cut → OpenFails powered fault new → Powers old.serving old.device Cut (closed_point new)
+  pub power_cut : (new : Device) (fault : OpenFault) → old.serving ≡ false → fault ≡ opening.Cut → OpenFails powered fault new → PowerAnswers old.serving old.device Cut (closed_point new)
   power_cut new fault off told fails =
       rw off (subst (λ (device : Device). IsCutOpening device new) there (subst (λ (why : OpenFault). OpenFails powered why new) told fails), refl)
 

@@ -15,7 +15,7 @@ use Rattle.ee_script.specs.declared.answer.Answer.TheVariants.{Appended, Moved, 
 use Rattle.ee_script.specs.Run.{Run}
 use Rattle.ee_image_store.specs.Erases.{ErasesRise, erases_left_by, erases_of_all}
 use Rattle.ee_image_store.specs.Machine.{MachineStep, is_arming}
-use Rattle.ee_replay.specs.Serving.{Serves, call_of_command, calls_of, is_armed_by, with_call}
+use Rattle.ee_replay.specs.Serving.{UncutLineAnswers, call_of_command, calls_of, is_armed_by, with_call}
 use Rattle.ee_image_store.specs.Steps.{Steps}
 use Rattle.ee_core.proofs.Public.{no_wear}
 use Rattle.ee_replay.proofs.Powering.{state_armed}
@@ -24,7 +24,7 @@ use Rattle.ee_image_store.proofs.Public.{as_before, both, by_append, by_clean, b
 -- ---- one call
 
 -- the machine answers as the call does
-pub machine_step : (old new : Device) (command : Command) (answer : Answer) → Serves old command answer new → Steps old command answer new
+pub machine_step : (old new : Device) (command : Command) (answer : Answer) → UncutLineAnswers old command answer new → Steps old command answer new
 machine_step old new (Write address value) Appended serves = search (rules, by_append)
 machine_step old new (Write address value) Moved serves = search (rules, by_move)
 machine_step old new (Write address value) Full serves = search (rules, as_before)
@@ -74,7 +74,7 @@ call_first None calls old mid new follows run = absurd follows
 call_first (Some made) calls old mid new follows run = (mid, follows, run)
 
 -- with what a line did that arms no cut before it
-line_first : (command : Command) (answer : Answer) (calls : List Call) (old mid new : Device) → is_arming command ≡ false → Serves old command answer mid → IsRun calls mid new
+line_first : (command : Command) (answer : Answer) (calls : List Call) (old mid new : Device) → is_arming command ≡ false → UncutLineAnswers old command answer mid → IsRun calls mid new
     → IsRun (with_call (call_of_command command answer) calls) old new
 line_first (Arm fuse) answer calls old mid new unarmed serves run = absurd (cc unarmed)
 line_first PowerOn Opened calls old mid new unarmed serves run = subst (λ device. IsRun calls device new) serves run
@@ -93,7 +93,7 @@ pub record IsMachineRun (old new : Device) (commands : List Command) (answers : 
   pub same_size : new.size ≡ old.size
   pub erases : ErasesRise (erases_of_all old.size answers) old new
 
-pub machine_run : (old new : Device) (commands : List Command) (answers : List Answer) → Run Serves old commands answers new → IsMachineRun old new commands answers
+pub machine_run : (old new : Device) (commands : List Command) (answers : List Answer) → Run UncutLineAnswers old commands answers new → IsMachineRun old new commands answers
 machine_run old new [] [] run = search (rules, as_before)
 machine_run old new [] (answer ∷ answers) run = absurd run
 machine_run old new (command ∷ commands) [] run = absurd run
@@ -109,7 +109,7 @@ machine_run old new (command ∷ commands) (answer ∷ answers) run =
     }
 
 -- where no line arms a cut it is a run of calls
-calls_run : (old new : Device) (commands : List Command) (answers : List Answer) → is_armed_by commands ≡ false → Run Serves old commands answers new
+calls_run : (old new : Device) (commands : List Command) (answers : List Answer) → is_armed_by commands ≡ false → Run UncutLineAnswers old commands answers new
     → IsRun (calls_of commands answers) old new
 calls_run old new [] [] unarmed run = run
 calls_run old new [] (answer ∷ answers) unarmed run = absurd run
@@ -118,6 +118,6 @@ calls_run old new (command ∷ commands) (answer ∷ answers) unarmed run =
     let parts = neither (is_arming command) (is_armed_by commands) unarmed in
     line_first command answer (calls_of commands answers) old run.0 new parts.0 run.1 (calls_run run.0 new commands answers parts.1 run.2)
 
-pub whole_run : (old new : Device) (commands : List Command) (answers : List Answer) → is_armed_by commands ≡ false → Run Serves old commands answers new
+pub whole_run : (old new : Device) (commands : List Command) (answers : List Answer) → is_armed_by commands ≡ false → Run UncutLineAnswers old commands answers new
     → IsWholeRun (calls_of commands answers) old new
 whole_run old new commands answers unarmed run = record { run = calls_run old new commands answers unarmed run; without_cuts = uncut commands answers }

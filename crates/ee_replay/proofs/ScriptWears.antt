@@ -21,7 +21,7 @@ use Rattle.ee_script.specs.declared.command.Command.TheVariants.{Write, Read, Fo
 use Rattle.ee_image_store.specs.Machine.{was_cut}
 use Rattle.ee_image_store.specs.Trace.{moved_at, moves}
 use Rattle.ee_replay.specs.Desk.{Stand}
-use Rattle.ee_replay.specs.Serving.{Attends, IsMade, Serves, stand_on, with_cut_to_come}
+use Rattle.ee_replay.specs.Serving.{LineAnswers, IsMade, UncutLineAnswers, stand_on, with_cut_to_come}
 use Rattle.ee_replay.proofs.Runs.{machine_run, whole_run}
 use Rattle.ee_replay.proofs.UncutRuns.{run_open}
 
@@ -53,7 +53,7 @@ pending_armed : (device : Device) (live : Option (Side × ℕ)) → pending_page
 pending_armed device None = refl
 pending_armed device (Some live) = named_armed device (other live.0)
 
-line_ages : (old new : Device) (command : Command) (answer : Answer) → Serves old command answer new → Ages (is_move answer) old new
+line_ages : (old new : Device) (command : Command) (answer : Answer) → UncutLineAnswers old command answer new → Ages (is_move answer) old new
 unfolding is_move
 line_ages old new (Write address value) Appended serves = ages (Wrote address value (Ok written.Appended)) old new refl serves
 line_ages old new (Write address value) Moved serves = ages (Wrote address value (Ok written.Moved)) old new refl serves
@@ -71,7 +71,7 @@ line_ages old new (Arm fuse) Armed serves = rw serves (stays old (with_cut_to_co
 line_ages old new PowerOn Opened serves = rw serves (stays old old refl refl refl refl)
 line_ages old new command answer serves = absurd serves
 
-lines_age : (old new : Device) (commands : List Command) (answers : List Answer) → Run Serves old commands answers new → Aged (moves answers) old new
+lines_age : (old new : Device) (commands : List Command) (answers : List Answer) → Run UncutLineAnswers old commands answers new → Aged (moves answers) old new
 lines_age old new [] [] run = rw run (none_more old)
 lines_age old new [] (answer ∷ answers) run = absurd run
 lines_age old new (command ∷ commands) [] run = absurd run
@@ -80,12 +80,12 @@ lines_age old new (command ∷ commands) (answer ∷ answers) run = search (rule
 -- ---- a script
 
 -- on a store that is open
-lines_wear : (old new : Device) (commands : List Command) (answers : List Answer) → Run Serves old commands answers new
+lines_wear : (old new : Device) (commands : List Command) (answers : List Answer) → Run UncutLineAnswers old commands answers new
     → (page : ℕ) → WearsAtMost (moves answers) page old new
 lines_wear old new commands answers run = λ page. wears_at_most (moves answers) page old new (lines_age old new commands answers run)
 
 -- all that the lines made of it
-made_at : (old : Device) (last : Stand) (commands : List Command) (answers : List Answer) → Run Attends (stand_on old) commands answers last → IsMade old commands answers last.point
+made_at : (old : Device) (last : Stand) (commands : List Command) (answers : List Answer) → Run LineAnswers (stand_on old) commands answers last → IsMade old commands answers last.point
 made_at old last commands answers run = record {
   last = last;
   last_is = refl;
@@ -95,13 +95,13 @@ made_at old last commands answers run = record {
   calls = λ plain unarmed. whole_run old last.point.device commands answers unarmed (run_open old last commands answers plain run).run;
 }
 
-pub made_of : (old : Device) (new : Point) (last : Stand) (commands : List Command) (answers : List Answer) → last.point ≡ new → Run Attends (stand_on old) commands answers last
+pub made_of : (old : Device) (new : Point) (last : Stand) (commands : List Command) (answers : List Answer) → last.point ≡ new → Run LineAnswers (stand_on old) commands answers last
     → IsMade old commands answers new
 made_of old new last commands answers is run = subst (IsMade old commands answers) is (made_at old last commands answers run)
 
 -- on the store that was opened of a device
 pub wears_since_opening : (old store : Device) (last : Stand) (commands : List Command) (answers : List Answer) → Opens old store → was_cut answers ≡ false
-    → Run Attends (stand_on store) commands answers last → (page : ℕ) → WearsAtMost (moves answers) page old last.point.device
+    → Run LineAnswers (stand_on store) commands answers last → (page : ℕ) → WearsAtMost (moves answers) page old last.point.device
 wears_since_opening old store last commands answers opens plain run = λ page.
     let end = last.point.device in
     let later = lines_age store end commands answers (run_open store last commands answers plain run).run in

@@ -9,25 +9,25 @@ use Rattle.ee_script.specs.declared.command.Command.{Command}
 use Rattle.ee_script.specs.declared.command.Command.TheVariants.{Write, Read, Forget, Clean, Arm, PowerOn}
 use Rattle.ee_image_store.specs.Machine.{is_cut_answer, was_cut}
 use Rattle.ee_replay.specs.Desk.{Stand}
-use Rattle.ee_replay.specs.Serving.{ArmsItsFuse, Asks, Attends, Powers, Serves, serving_on, stand_on}
+use Rattle.ee_replay.specs.Serving.{ArmsItsFuse, CallAnswers, LineAnswers, PowerAnswers, UncutLineAnswers, serving_on, stand_on}
 use Rattle.ee_replay.proofs.Powering.{now_armed}
 use Rattle.ee_replay.proofs.Runs.{neither}
 
 -- a line starts from a point, whatever is at hand
-pub from_point : (old from : Stand) (command : Command) (answer : Answer) (new : Stand) → old.point ≡ from.point → Attends old command answer new → Attends from command answer new
+pub from_point : (old from : Stand) (command : Command) (answer : Answer) (new : Stand) → old.point ≡ from.point → LineAnswers old command answer new → LineAnswers from command answer new
 from_point old from (Arm fuse) answer new at attends = (attends.0, subst (λ (point : Point). ArmsItsFuse point fuse new) at attends.1)
-from_point old from PowerOn answer new at attends = subst (λ (point : Point). Powers point.serving point.device answer new.point) at attends
-from_point old from (Write address value) answer new at attends = subst (λ (point : Point). Asks point.serving point.device (Write address value) answer new.point) at attends
-from_point old from (Forget address) answer new at attends = subst (λ (point : Point). Asks point.serving point.device (Forget address) answer new.point) at attends
-from_point old from (Read address) answer new at attends = subst (λ (point : Point). Asks point.serving point.device (Read address) answer new.point) at attends
-from_point old from Clean answer new at attends = subst (λ (point : Point). Asks point.serving point.device Clean answer new.point) at attends
+from_point old from PowerOn answer new at attends = subst (λ (point : Point). PowerAnswers point.serving point.device answer new.point) at attends
+from_point old from (Write address value) answer new at attends = subst (λ (point : Point). CallAnswers point.serving point.device (Write address value) answer new.point) at attends
+from_point old from (Forget address) answer new at attends = subst (λ (point : Point). CallAnswers point.serving point.device (Forget address) answer new.point) at attends
+from_point old from (Read address) answer new at attends = subst (λ (point : Point). CallAnswers point.serving point.device (Read address) answer new.point) at attends
+from_point old from Clean answer new at attends = subst (λ (point : Point). CallAnswers point.serving point.device Clean answer new.point) at attends
 
 -- a line that is served by a store that is open, and leaves it open
 pub record IsServedOpen (old : Device) (command : Command) (answer : Answer) (new : Point) : Type 0 where
-  pub serves : Serves old command answer new.device
+  pub serves : UncutLineAnswers old command answer new.device
   pub still : new.serving ≡ true
 
-pub served_open : (old : Device) (command : Command) (answer : Answer) (new : Stand) → is_cut_answer answer ≡ false → Attends (stand_on old) command answer new
+pub served_open : (old : Device) (command : Command) (answer : Answer) (new : Stand) → is_cut_answer answer ≡ false → LineAnswers (stand_on old) command answer new
     → IsServedOpen old command answer new.point
 served_open old (Arm fuse) Armed new plain attends = search (rules, now_armed)
 served_open old (Arm fuse) answer new plain attends = absurd (cc (attends.0))
@@ -51,7 +51,7 @@ served_open old command answer new plain attends = absurd attends
 
 -- a whole run
 pub record IsRunOpen (old : Device) (commands : List Command) (answers : List Answer) (new : Point) : Type 0 where
-  pub run : Run Serves old commands answers new.device
+  pub run : Run UncutLineAnswers old commands answers new.device
   pub still : new.serving ≡ true
 
 -- a point at which a store is open
@@ -59,7 +59,7 @@ pub at_open : (point : Point) → point.serving ≡ true → point ≡ serving_o
 at_open point still = rw still refl
 
 run_from : (device : Device) (old new : Stand) (commands : List Command) (answers : List Answer) → was_cut answers ≡ false → old.point ≡ serving_on device
-    → Run Attends old commands answers new → IsRunOpen device commands answers new.point
+    → Run LineAnswers old commands answers new → IsRunOpen device commands answers new.point
 run_from device old new [] [] plain at run =
     let there = ap (λ (stand : Stand). stand.point) run ∙ at in
     record { run = ap (λ (point : Point). point.device) there; still = ap (λ (point : Point). point.serving) there }
@@ -72,6 +72,6 @@ run_from device old new (command ∷ commands) (answer ∷ answers) plain at run
     let rest = run_from mid.device run.0 new commands answers parts.1 (at_open mid here.still) run.2 in
     record { run = (mid.device, here.serves, rest.run); still = rest.still }
 
-pub run_open : (device : Device) (new : Stand) (commands : List Command) (answers : List Answer) → was_cut answers ≡ false → Run Attends (stand_on device) commands answers new
+pub run_open : (device : Device) (new : Stand) (commands : List Command) (answers : List Answer) → was_cut answers ≡ false → Run LineAnswers (stand_on device) commands answers new
     → IsRunOpen device commands answers new.point
 run_open device new commands answers plain run = run_from device (stand_on device) new commands answers plain refl run

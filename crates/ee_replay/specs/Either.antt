@@ -1,17 +1,29 @@
--- The device of a store of either kind, and what is kept beside it.
+-- The device of a store of either kind, and what its look-up knows.
+use Rattle.std.specs.Prelude.{ℕ, List}
 use Rattle.ee_flash.specs.Device.{Device}
-use Rattle.ee_pages.specs.Layout.{IsLayout}
-use Rattle.ee_index.specs.Kept.{IsKeptBeside}
-use Rattle.ee_replay.specs.declared.either.Beside.{Beside}
-use Rattle.ee_replay.specs.declared.either.Beside.TheVariants.{Layout, Index}
+use Rattle.ee_flash.specs.declared.word.Word.{Word}
+use Rattle.ee_pages.specs.Meaning.{Put}
+use Rattle.ee_pages.specs.Sets.{fill_of}
+use Rattle.ee_core.specs.declared.change.Put as listed
+use Rattle.ee_index.specs.Index.{IsIndex, IsReadyFor, IsRoomFor, slot_for}
 use Rattle.ee_replay.specs.declared.either.EitherStore.{EitherStore}
-use Rattle.ee_replay.specs.declared.either.EitherStore.TheVariants.{Plain, Indexed}
+use Rattle.ee_replay.specs.declared.either_lookup.EitherLookup.{EitherLookup}
+use Rattle.ee_replay.specs.declared.either_lookup.EitherLookup.TheVariants.{Slots, Index}
 
-abbrev pub device_of_either : {F A : Type 0} → EitherStore F A → Device
-device_of_either (Plain store costs) = store
-device_of_either (Indexed store costs) = store
+abbrev pub device_of_either : {A : Type 0} → EitherStore A → Device
+device_of_either either = either.store
 
--- it is what a store of this device keeps
-abbrev pub IsBeside : {A : Type 0} → Device → Beside A → Type 0
-IsBeside device (Layout layout) = IsLayout device layout
-IsBeside device (Index kept) = IsKeptBeside device kept
+-- it finds the values that these slots give
+abbrev pub FitsEither : {A : Type 0} → EitherLookup A → List Word → Type 0
+FitsEither (Slots lookup) slots = Unit {0}
+FitsEither (Index lookup) slots = IsIndex slots (slot_for lookup.index)
+
+-- and is ready for a value of this address
+abbrev pub IsReadyEither : {A : Type 0} → EitherLookup A → List Word → ℕ → Type 0
+IsReadyEither (Slots lookup) slots address = Unit {0}
+IsReadyEither (Index lookup) slots address = IsReadyFor slots (Put address 0) (fill_of slots) (slot_for lookup.index)
+
+-- and has room for a transfer with these values
+abbrev pub HasRoomEither : {A : Type 0} → EitherLookup A → List Word → List listed.Put → Type 0
+HasRoomEither (Slots lookup) slots puts = Unit {0}
+HasRoomEither (Index lookup) slots puts = IsRoomFor slots puts (slot_for lookup.index)

@@ -81,18 +81,18 @@ is_armed left = true
 
 -- An open store makes the call of the command, and none is open once power is cut in it; where none is open, the answer is
 -- `off`, and nothing is done.
-abbrev pub Asks : Bool → Device → Command → Answer → Point → Type 0
-Asks true old command Cut new = IsSomeAnd (cut_call_of command) (λ made. Follows made old new.device × (new.serving ≡ false))
-Asks true old command answer new = IsSomeAnd (call_of_command command answer) (λ made. Follows made old new.device × (new.serving ≡ true))
-Asks false old command Off new = new ≡ closed_point old
-Asks false old command answer new = ⊥
+abbrev pub CallAnswers : Bool → Device → Command → Answer → Point → Type 0
+CallAnswers true old command Cut new = IsSomeAnd (cut_call_of command) (λ made. Follows made old new.device × (new.serving ≡ false))
+CallAnswers true old command answer new = IsSomeAnd (call_of_command command answer) (λ made. Follows made old new.device × (new.serving ≡ true))
+CallAnswers false old command Off new = new ≡ closed_point old
+CallAnswers false old command answer new = ⊥
 
 -- Power comes on. A store that is open stays as it is; where none is, the store of the image is opened, or that is cut.
-abbrev pub Powers : Bool → Device → Answer → Point → Type 0
-Powers true old Opened new = new ≡ record { serving = true; device = old }
-Powers false old Opened new = Opens (with_power_on old) new.device × (new.serving ≡ true)
-Powers false old Cut new = IsCutOpening (with_power_on old) new.device × (new.serving ≡ false)
-Powers serving old answer new = ⊥
+abbrev pub PowerAnswers : Bool → Device → Answer → Point → Type 0
+PowerAnswers true old Opened new = new ≡ record { serving = true; device = old }
+PowerAnswers false old Opened new = Opens (with_power_on old) new.device × (new.serving ≡ true)
+PowerAnswers false old Cut new = IsCutOpening (with_power_on old) new.device × (new.serving ≡ false)
+PowerAnswers serving old answer new = ⊥
 
 -- A line arms its fuse: behind it the device in memory is at hand, and is the one before it with the line's fuse; a store is
 -- open on it if one was.
@@ -103,10 +103,10 @@ pub record ArmsItsFuse (old : Point) (fuse : Fuse) (new : Stand) : Type 0 where
   pub point_is : new.point ≡ record old { device = (with_fuse fuse before).device }
 
 -- From this stand the command is answered so, and the desk has that one afterwards.
-abbrev pub Attends : Stand → Command → Answer → Stand → Type 0
-Attends old (Arm fuse) answer new = (answer ≡ Armed) × ArmsItsFuse old.point fuse new
-Attends old PowerOn answer new = Powers old.point.serving old.point.device answer new.point
-Attends old command answer new = Asks old.point.serving old.point.device command answer new.point
+abbrev pub LineAnswers : Stand → Command → Answer → Stand → Type 0
+LineAnswers old (Arm fuse) answer new = (answer ≡ Armed) × ArmsItsFuse old.point fuse new
+LineAnswers old PowerOn answer new = PowerAnswers old.point.serving old.point.device answer new.point
+LineAnswers old command answer new = CallAnswers old.point.serving old.point.device command answer new.point
 
 -- the desk, as the report machine knows it
 abbrev pub desk_of : Point → Desk
@@ -131,7 +131,7 @@ is_armed_by commands = list_any is_arming commands
 pub record IsMade (old : Device) (commands : List Command) (answers : List Answer) (new : Point) : Type 0 where
   pub last : Stand
   pub last_is : last.point ≡ new
-  pub lines : Run Attends (stand_on old) commands answers last
+  pub lines : Run LineAnswers (stand_on old) commands answers last
   pub erases : was_cut answers ≡ false → ErasesRise (erases_of_all old.size answers) old new.device
   pub wears : was_cut answers ≡ false → (page : ℕ) → WearsAtMost (moves answers) page old new.device
   pub calls : was_cut answers ≡ false → is_armed_by commands ≡ false → IsWholeRun (calls_of commands answers) old new.device
@@ -139,10 +139,10 @@ pub record IsMade (old : Device) (commands : List Command) (answers : List Answe
 -- ---- a store that is open, while power is not cut
 
 -- the command is served by its call, or arms a cut, or opens what is open
-abbrev pub Serves : Device → Command → Answer → Device → Type 0
-Serves old (Arm fuse) Armed new = new ≡ with_cut_to_come old
-Serves old PowerOn Opened new = new ≡ old
-Serves old command answer new = IsSomeAnd (call_of_command command answer) (λ made. Follows made old new)
+abbrev pub UncutLineAnswers : Device → Command → Answer → Device → Type 0
+UncutLineAnswers old (Arm fuse) Armed new = new ≡ with_cut_to_come old
+UncutLineAnswers old PowerOn Opened new = new ≡ old
+UncutLineAnswers old command answer new = IsSomeAnd (call_of_command command answer) (λ made. Follows made old new)
 
 -- the answer to a change that was stored
 abbrev pub stored_answer : Written → Answer
@@ -194,8 +194,8 @@ abbrev pub with_notes : Stand → Notes → Noted
 with_notes stand notes = record { stand = stand; notes = notes }
 
 -- A line is served, and its answer is noted.
-pub record Records (old : Noted) (command : Command) (answer : Answer) (new : Noted) : Type 0 where
-  pub attends : Attends old.stand command answer new.stand
+pub record LineIsNoted (old : Noted) (command : Command) (answer : Answer) (new : Noted) : Type 0 where
+  pub attends : LineAnswers old.stand command answer new.stand
   pub notes_are : new.notes ≡ notes_after answer (state_of new.stand.point.device).fill old.notes
 
 -- The count of the changes stays far below 64 bits: between two moves there are no more of them than slots.
@@ -216,7 +216,7 @@ pub record IsSound (point : Point) : Type 0 where
 pub record IsTraced (old : Device) (text : List ℕ) (new : Point) (notes : Notes) (lines : List ℕ) : Type 0 where
   pub last : Stand
   pub last_is : last.point ≡ new
-  pub answered : IsAnswered Attends (stand_on old) text last lines
+  pub answered : IsAnswered LineAnswers (stand_on old) text last lines
   pub transfers : length notes.stretches ≡ moves answered.answers
   pub cut : notes.cut ≡ was_cut answered.answers
   pub tight : was_cut answered.answers ≡ false → (start : Situation) → IsStartOf (slot_count old.size) (state_of old) start

@@ -8,7 +8,7 @@ ghost use Rattle.ee_core.specs.Runs.{Cleaned, DidRead, Forgot, Wrote};
 ghost use Rattle.ee_core.specs.State.{state_of};
 ghost use Rattle.ee_replay.specs.Desk.{CallsAtDesk, IsLegalDesk, IsLegalSo, IsWhole, SaysTheSame, point_of_desk, stand_of};
 ghost use Rattle.ee_replay.specs.Either.{device_of_either};
-ghost use Rattle.ee_replay.specs.Serving.{ArmsItsFuse, IsSound, Powers};
+ghost use Rattle.ee_replay.specs.Serving.{ArmsItsFuse, IsSound, PowerAnswers};
 
 use super::either::{Apart, EitherStore, Kind, armed};
 use ee_codec::Address;
@@ -20,9 +20,9 @@ use std::mem::replace;
 
 /// A device, with a store open on it or without.
 #[derive(Drop)]
-pub(crate) enum Desk<A: Allocator = Global> {
+pub(crate) enum Desk<A: Allocator + Copy = Global> {
     /// A store. It is open as long as its device is on.
-    Open(EitherStore<MemFlash<A>, A>),
+    Open(EitherStore<A>),
     /// A store, taken apart since its device was armed. It is open.
     Armed(Apart<A>),
     /// The device alone.
@@ -37,7 +37,7 @@ impl<A: Allocator + Copy> Desk<A> {
         ensures { result ≡ (point_of_desk self.now).serving }
     {
         match self {
-            Desk::Open(store) => store.is_on(),
+            Desk::Open(either) => either.store.is_on(),
             Desk::Armed(apart) => apart.is_on(),
             Desk::Bare(_) | Desk::Gone => false,
         }
@@ -50,7 +50,7 @@ impl<A: Allocator + Copy> Desk<A> {
         ensures sound { IsSound (point_of_desk self) }
     {
         match self {
-            Desk::Open(store) => store.into_flash(),
+            Desk::Open(either) => either.store.into_flash(),
             Desk::Armed(apart) => apart.into_flash(),
             Desk::Bare(flash) => flash,
             Desk::Gone => unreachable!("it is there"),
@@ -66,7 +66,7 @@ impl<A: Allocator + Copy> Desk<A> {
     {
         self.make_whole();
         match self {
-            Desk::Open(store) => store.write(address, value),
+            Desk::Open(either) => either.store.write(address, value),
             Desk::Armed(_) => unreachable!("it is whole"),
             Desk::Bare(_) | Desk::Gone => Err(WriteFault::Off),
         }
@@ -81,7 +81,7 @@ impl<A: Allocator + Copy> Desk<A> {
     {
         self.make_whole();
         match self {
-            Desk::Open(store) => store.forget(address),
+            Desk::Open(either) => either.store.forget(address),
             Desk::Armed(_) => unreachable!("it is whole"),
             Desk::Bare(_) | Desk::Gone => Err(ForgetFault::Off),
         }
@@ -95,7 +95,7 @@ impl<A: Allocator + Copy> Desk<A> {
     {
         self.make_whole();
         match self {
-            Desk::Open(store) => store.clean_step(),
+            Desk::Open(either) => either.store.clean_step(),
             Desk::Armed(_) => unreachable!("it is whole"),
             Desk::Bare(_) | Desk::Gone => Err(WriteFault::Off),
         }
@@ -110,7 +110,7 @@ impl<A: Allocator + Copy> Desk<A> {
     {
         self.make_whole();
         match self {
-            Desk::Open(store) => store.read(address),
+            Desk::Open(either) => either.store.read(address),
             Desk::Armed(_) => unreachable!("it is whole"),
             Desk::Bare(_) | Desk::Gone => Err(Off),
         }
@@ -123,18 +123,18 @@ impl<A: Allocator + Copy> Desk<A> {
         ensures { result ≡ (state_of (point_of_desk self.now).device).fill }
     {
         match self {
-            Desk::Open(store) => store.fill(),
+            Desk::Open(either) => either.store.fill(),
             Desk::Armed(_) | Desk::Bare(_) | Desk::Gone => unreachable!("a whole store is open"),
         }
     }
 
     /// The store that is open.
-    fn into_open(self) -> EitherStore<MemFlash<A>, A>
+    fn into_open(self) -> EitherStore<A>
         requires { (point_of_desk self).serving ≡ true }
         ensures { open_point (device_of_either result) ≡ point_of_desk self }
     {
         match self {
-            Desk::Open(store) => store,
+            Desk::Open(either) => either,
             Desk::Armed(apart) => apart.whole(),
             Desk::Bare(_) | Desk::Gone => unreachable!("a store is open"),
         }
@@ -187,7 +187,7 @@ impl<A: Allocator + Copy> Desk<A> {
         ensures legal { IsLegalSo self.old → IsLegalSo self.new }
     {
         match self {
-            Desk::Open(store) => store.note(answer),
+            Desk::Open(either) => either.note(answer),
             Desk::Armed(_) | Desk::Bare(_) | Desk::Gone => false,
         }
     }
@@ -223,7 +223,7 @@ impl<A: Allocator + Copy> Desk<A> {
     pub(crate) fn power_on(self, alloc: A, kind: Kind) -> (Desk<A>, Result<Answer, AllocError>)
         requires { IsLegalDesk self }
         ensures powers { let old = point_of_desk self in IfOk result.1
-            (λ answer. Powers old.serving old.device answer (point_of_desk result.0)) }
+            (λ answer. PowerAnswers old.serving old.device answer (point_of_desk result.0)) }
         ensures legal { IsLegalDesk result.0 }
         ensures same { SaysTheSame (point_of_desk self).device (point_of_desk result.0).device }
     {
@@ -247,7 +247,7 @@ impl<A: Allocator + Copy> Desk<A> {
         ensures device { (point_of_desk result.0).device ≡ store }
     {
         match EitherStore::of(alloc, store, kind) {
-            Ok(store) => (Desk::Open(store), Ok(Answer::Opened)),
+            Ok(either) => (Desk::Open(either), Ok(Answer::Opened)),
             Err(store) => (Desk::Bare(store.into_flash()), Err(AllocError)),
         }
     }

@@ -1,22 +1,21 @@
-//! A store of either kind, with an index or without, in memory. One that may change its kind makes itself an index when
+//! A store in memory that looks through the slots or by an index. One that may change its kind makes itself an index when
 //! looking through the slots has cost more than that, and gives it back when looking would cost less.
 ghost use Rattle.std.specs.Prelude.{◌≡◌, IfErr, IfOk};
 ghost use Rattle.ee_flash.specs.Device.{IsOn};
 ghost use Rattle.ee_flash.specs.Memory.{device_of, memory_of, with_fuse};
+ghost use Rattle.ee_pages.specs.Layout.{IsLayout};
 ghost use Rattle.ee_core.specs.Finished.{IsStore};
 ghost use Rattle.ee_image_store.specs.Opening.{IsOpenFault, IsOpened};
 ghost use Rattle.ee_replay.specs.Either.{device_of_either};
 
+use super::either_lookup::EitherLookup;
 use ee_codec::Address;
-use ee_core::{
-    ForgetFault, LiveBatch, Off, Put, Store, Variables, WriteAllFault, WriteFault, Written,
-    inner as plain,
-};
+use ee_core::inner::{parts_of, store_of};
+use ee_core::{Slots, Store, Variables};
 use ee_faults::ReplayFault;
 use ee_flash::{Flash, Fuse, MemFlash};
 use ee_image_store::open_image;
-use ee_index::inner::{Costs, Kept, count_live, looks_for};
-use ee_index::{IndexedStore, inner as indexed};
+use ee_index::inner::{Costs, count_live, index_of};
 use ee_pages::Layout;
 use ee_script::Answer;
 use std::alloc::{Allocator, Global};
@@ -33,116 +32,11 @@ pub(crate) enum Kind {
     AsPays,
 }
 
-/// Variables in a store of either kind, with what is counted to tell which one pays.
+/// A store of either kind, with what is counted to tell which one pays.
 #[derive(Drop)]
-pub(crate) enum EitherStore<F: Flash + Drop, A: Allocator = Global> {
-    /// Without an index.
-    Plain {
-        store: Store<F>,
-        costs: Costs,
-    },
-    /// With one.
-    Indexed {
-        store: IndexedStore<F, A>,
-        costs: Costs,
-    },
-}
-
-impl<F: Flash + Drop, A: Allocator + Copy> Variables for EitherStore<F, A> {
-    ghost use Rattle.ee_replay.specs.Either.{device_of_either};
-
-    ghost device = { λ store. device_of_either store };
-
-    fn slots(&self) -> usize {
-        match self {
-            EitherStore::Plain { store, .. } => store.slots(),
-            EitherStore::Indexed { store, .. } => store.slots(),
-        }
-    }
-
-    fn is_on(&self) -> bool {
-        match self {
-            EitherStore::Plain { store, .. } => store.is_on(),
-            EitherStore::Indexed { store, .. } => store.is_on(),
-        }
-    }
-
-    fn read(&self, address: Address) -> Result<Option<u32>, Off> {
-        match self {
-            EitherStore::Plain { store, .. } => store.read(address),
-            EitherStore::Indexed { store, .. } => store.read(address),
-        }
-    }
-
-    fn write(&mut self, address: Address, value: u32) -> Result<Written, WriteFault> {
-        match self {
-            EitherStore::Plain { store, .. } => store.write(address, value),
-            EitherStore::Indexed { store, .. } => store.write(address, value),
-        }
-    }
-
-    fn write_all(&mut self, changes: &[Put]) -> Result<Written, WriteAllFault> {
-        match self {
-            EitherStore::Plain { store, .. } => store.write_all(changes),
-            EitherStore::Indexed { store, .. } => store.write_all(changes),
-        }
-    }
-
-    fn forget(&mut self, address: Address) -> Result<Written, ForgetFault> {
-        match self {
-            EitherStore::Plain { store, .. } => store.forget(address),
-            EitherStore::Indexed { store, .. } => store.forget(address),
-        }
-    }
-
-    fn clean_step(&mut self) -> Result<bool, WriteFault> {
-        match self {
-            EitherStore::Plain { store, .. } => store.clean_step(),
-            EitherStore::Indexed { store, .. } => store.clean_step(),
-        }
-    }
-
-    fn pending(&self) -> usize {
-        match self {
-            EitherStore::Plain { store, .. } => store.pending(),
-            EitherStore::Indexed { store, .. } => store.pending(),
-        }
-    }
-
-    fn fill(&self) -> usize {
-        match self {
-            EitherStore::Plain { store, .. } => store.fill(),
-            EitherStore::Indexed { store, .. } => store.fill(),
-        }
-    }
-
-    fn generation(&self) -> u32 {
-        match self {
-            EitherStore::Plain { store, .. } => store.generation(),
-            EitherStore::Indexed { store, .. } => store.generation(),
-        }
-    }
-
-    fn live_count(&self) -> usize {
-        match self {
-            EitherStore::Plain { store, .. } => store.live_count(),
-            EitherStore::Indexed { store, .. } => store.live_count(),
-        }
-    }
-
-    fn next_live(&self, after: Option<Address>) -> Option<(Address, u32)> {
-        match self {
-            EitherStore::Plain { store, .. } => store.next_live(after),
-            EitherStore::Indexed { store, .. } => store.next_live(after),
-        }
-    }
-
-    fn next_batch(&self, after: Option<Address>) -> LiveBatch {
-        match self {
-            EitherStore::Plain { store, .. } => store.next_batch(after),
-            EitherStore::Indexed { store, .. } => store.next_batch(after),
-        }
-    }
+pub(crate) struct EitherStore<A: Allocator + Copy = Global> {
+    pub(crate) store: Store<MemFlash<A>, EitherLookup<A>>,
+    costs: Costs,
 }
 
 /// The device, with this fuse.
@@ -154,59 +48,44 @@ pub(crate) fn armed<A: Allocator>(flash: MemFlash<A>, fuse: Fuse) -> MemFlash<A>
     flash
 }
 
-/// What a store of either kind keeps beside its device.
-#[derive(Drop)]
-pub(crate) enum Beside<A: Allocator = Global> {
-    /// Without an index.
-    Layout(Layout),
-    /// With one.
-    Index(Kept<A>),
-}
-
 /// A store of either kind, taken apart, so that its device is at hand.
 #[derive(Drop)]
-pub(crate) struct Apart<A: Allocator = Global> {
+pub(crate) struct Apart<A: Allocator + Copy = Global> {
     flash: MemFlash<A>,
-    beside: Beside<A>,
+    layout: Layout,
+    lookup: EitherLookup<A>,
     costs: Costs,
 }
 
-impl<A: Allocator> Model for Apart<A> {
+impl<A: Allocator + Copy> Model for Apart<A> {
     ghost use Rattle.ee_flash.specs.Memory.{Memory, device_of, memory_of};
+    ghost use Rattle.ee_pages.specs.Layout.{IsLayout};
     ghost use Rattle.ee_core.specs.Finished.{IsStore};
-    ghost use Rattle.ee_replay.specs.Either.{IsBeside};
+    ghost use Rattle.ee_core.specs.Lookups.{slots_by};
+    ghost use Rattle.ee_replay.specs.Either.{FitsEither};
 
     ghost Value = { Memory };
 
     ghost view = { λ apart. memory_of apart.flash };
 
     ghost invariant = { λ apart. IsStore (device_of apart.flash)
-        × IsBeside (device_of apart.flash) apart.beside };
+        × IsLayout (device_of apart.flash) apart.layout
+        × FitsEither apart.lookup (slots_by apart.layout (device_of apart.flash)) };
 }
 
-impl<A: Allocator> Apart<A> {
+impl<A: Allocator + Copy> Apart<A> {
     /// This store, taken apart.
-    pub(crate) fn of(store: EitherStore<MemFlash<A>, A>) -> Apart<A>
-        requires { IsOn (device_of_either store) }
-        ensures { result.device ≡ device_of_either store }
+    pub(crate) fn of(either: EitherStore<A>) -> Apart<A>
+        requires { IsOn (device_of_either either) }
+        ensures { result.device ≡ device_of_either either }
     {
-        match store {
-            EitherStore::Plain { store, costs } => {
-                let (flash, layout) = plain::parts_of(store);
-                Apart {
-                    flash,
-                    beside: Beside::Layout(layout),
-                    costs,
-                }
-            }
-            EitherStore::Indexed { store, costs } => {
-                let (flash, kept) = indexed::parts_of(store);
-                Apart {
-                    flash,
-                    beside: Beside::Index(kept),
-                    costs,
-                }
-            }
+        let EitherStore { store, costs } = either;
+        let (flash, layout, lookup) = parts_of(store);
+        Apart {
+            flash,
+            layout,
+            lookup,
+            costs,
         }
     }
 
@@ -231,29 +110,19 @@ impl<A: Allocator> Apart<A> {
     {
         Apart {
             flash: armed(self.flash, fuse),
-            beside: self.beside,
+            layout: self.layout,
+            lookup: self.lookup,
             costs: self.costs,
         }
     }
 
     /// The store, put together. It takes no step and no memory.
-    pub(crate) fn whole(self) -> EitherStore<MemFlash<A>, A>
+    pub(crate) fn whole(self) -> EitherStore<A>
         ensures { device_of_either result ≡ self.device }
     {
-        let Apart {
-            flash,
-            beside,
-            costs,
-        } = self;
-        match beside {
-            Beside::Layout(layout) => EitherStore::Plain {
-                store: plain::store_of(flash, layout),
-                costs,
-            },
-            Beside::Index(kept) => EitherStore::Indexed {
-                store: indexed::store_of(flash, kept),
-                costs,
-            },
+        EitherStore {
+            store: store_of(self.flash, self.layout, self.lookup),
+            costs: self.costs,
         }
     }
 }
@@ -263,13 +132,13 @@ pub(crate) fn open_as<A: Allocator + Copy>(
     alloc: A,
     image: &[u8],
     kind: Kind,
-) -> Result<EitherStore<MemFlash<A>, A>, ReplayFault>
+) -> Result<EitherStore<A>, ReplayFault>
     ensures opened { IfOk result (λ store. IsOpened image.now (device_of_either store)) }
     ensures fault { IfErr result (IsOpenFault image.now) }
 {
     let store = open_image(alloc, image)?;
     if let Kind::AsPays = kind {
-        return Ok(settle_to_count(alloc, store, Costs::new()));
+        return Ok(EitherStore::new(store).settled_to_count(alloc));
     }
     match EitherStore::of(alloc, store, kind) {
         Ok(store) => Ok(store),
@@ -277,108 +146,126 @@ pub(crate) fn open_as<A: Allocator + Copy>(
     }
 }
 
-impl<F: Flash + Drop, A: Allocator + Copy> EitherStore<F, A> {
+impl<A: Allocator + Copy> EitherStore<A> {
     /// A store of this kind. An `Err` has it as it was, where memory for an index is refused that it is to have.
-    pub(crate) fn of(alloc: A, store: Store<F>, kind: Kind) -> Result<EitherStore<F, A>, Store<F>>
+    pub(crate) fn of(
+        alloc: A,
+        store: Store<MemFlash<A>>,
+        kind: Kind,
+    ) -> Result<EitherStore<A>, Store<MemFlash<A>>>
         requires { IsOn store }
         ensures same { IfOk result (λ kept. device_of_either kept ≡ store) }
         ensures plain { IfErr result (λ plain. plain ≡ store) }
     {
-        match kind {
-            Kind::Indexed => match indexed::with_index(alloc, store) {
-                Ok(store) => Ok(EitherStore::Indexed {
-                    store,
-                    costs: Costs::new(),
-                }),
-                Err(store) => Err(store),
-            },
-            Kind::Plain | Kind::AsPays => Ok(EitherStore::new(store)),
+        let Kind::Indexed = kind else {
+            return Ok(EitherStore::new(store));
+        };
+        let (flash, layout, slots) = parts_of(store);
+        match index_of(alloc, &flash, &layout) {
+            Ok(index) => Ok(EitherStore {
+                store: store_of(flash, layout, EitherLookup::Index(index)),
+                costs: Costs::new(),
+            }),
+            Err(_) => Err(store_of(flash, layout, slots)),
         }
     }
 
     /// A store without an index, of which nothing is known.
-    pub(crate) fn new(store: Store<F>) -> EitherStore<F, A>
-        ensures { device_of_either result ≡ store }
-    {
-        EitherStore::Plain {
-            store,
-            costs: Costs::new(),
-        }
-    }
-
-    /// A store with an index, or as it is where memory is refused: its costs are counted anew then.
-    fn with_index(alloc: A, store: Store<F>, costs: Costs) -> EitherStore<F, A>
+    pub(crate) fn new(store: Store<MemFlash<A>>) -> EitherStore<A>
         requires { IsOn store }
         ensures { device_of_either result ≡ store }
     {
-        let fill = store.fill();
-        match indexed::with_index(alloc, store) {
-            Ok(store) => EitherStore::Indexed {
-                store,
-                costs: costs.with_index(fill),
+        let (flash, layout, _) = parts_of(store);
+        EitherStore::without_index(flash, layout, Costs::new())
+    }
+
+    /// The store of this device without an index.
+    fn without_index(flash: MemFlash<A>, layout: Layout, costs: Costs) -> EitherStore<A>
+        requires store { IsStore (device_of flash) }
+        requires layout { IsLayout (device_of flash) layout }
+        ensures { device_of_either result ≡ device_of flash }
+    {
+        EitherStore {
+            store: store_of(flash, layout, EitherLookup::Slots(Slots)),
+            costs,
+        }
+    }
+
+    /// The store of this device with an index, or without one where memory is refused: its costs are counted anew then.
+    fn with_index(alloc: A, flash: MemFlash<A>, layout: Layout, costs: Costs) -> EitherStore<A>
+        requires store { IsStore (device_of flash) }
+        requires layout { IsLayout (device_of flash) layout }
+        ensures { device_of_either result ≡ device_of flash }
+    {
+        match index_of(alloc, &flash, &layout) {
+            Ok(index) => EitherStore {
+                store: store_of(flash, layout, EitherLookup::Index(index)),
+                costs: costs.with_index(layout.fill),
             },
-            Err(store) => EitherStore::new(store),
+            Err(_) => EitherStore::without_index(flash, layout, Costs::new()),
         }
     }
 
     /// Takes note of what a line took, and says whether to settle now in which kind of store the variables are kept.
+    // One for each line of a script, and most lines are appended or read.
     #[inline(always)]
     pub(crate) fn note(&mut self, answer: Answer) -> bool
         ensures { device_of_either self.new ≡ device_of_either self.old }
     {
-        match self {
-            EitherStore::Plain { store, costs } => note_answer(store, costs, answer),
-            EitherStore::Indexed { store, costs } => note_answer(store, costs, answer),
+        match answer {
+            Answer::Appended => self.costs.note_append(),
+            Answer::Value(_) => self.costs.note_read(),
+            Answer::NoValue | Answer::Absent | Answer::Moved => {
+                note_looks(&self.store, &mut self.costs, answer)
+            }
+            _ => false,
         }
     }
 
     /// The same variables, in the kind of store that pays behind a line about this address.
-    pub(crate) fn settled(self, alloc: A, address: Address) -> EitherStore<F, A>
+    pub(crate) fn settled(self, alloc: A, address: Address) -> EitherStore<A>
         requires { IsOn (device_of_either self) }
         ensures { device_of_either result ≡ device_of_either self }
     {
-        match self {
-            EitherStore::Plain { store, costs } => settle_looking(alloc, store, costs, address),
-            EitherStore::Indexed { store, costs } => settle_indexed(store, costs, address),
+        let EitherStore { store, mut costs } = self;
+        let (flash, layout, lookup) = parts_of(store);
+        if costs.measures_now() {
+            let looks = lookup.looks_for(&flash, &layout, address);
+            costs.measure_read(looks, lookup.count(&layout));
+        }
+        if !costs.is_time_to_change(layout.fill) {
+            return EitherStore {
+                store: store_of(flash, layout, lookup),
+                costs,
+            };
+        }
+        match lookup {
+            EitherLookup::Slots(_) => EitherStore::with_index(alloc, flash, layout, costs),
+            EitherLookup::Index(_) => {
+                EitherStore::without_index(flash, layout, costs.without_index())
+            }
         }
     }
 
     /// The same variables, in the kind of store that counts them sooner.
-    pub(crate) fn settled_to_count(self, alloc: A) -> EitherStore<F, A>
+    pub(crate) fn settled_to_count(self, alloc: A) -> EitherStore<A>
         requires { IsOn (device_of_either self) }
         ensures { device_of_either result ≡ device_of_either self }
     {
-        match self {
-            EitherStore::Plain { store, costs } => settle_to_count(alloc, store, costs),
-            indexed => indexed,
+        let EitherStore { store, costs } = self;
+        let slots = store.slots();
+        let (flash, layout, lookup) = parts_of(store);
+        if lookup.pays_to_count(alloc, &flash, &layout, &costs, slots) {
+            return EitherStore::with_index(alloc, flash, layout, costs);
         }
-    }
-
-    /// Its device.
-    pub(crate) fn into_flash(self) -> F
-        ensures device { F.device result ≡ device_of_either self }
-        ensures store { IsStore (device_of_either self) }
-    {
-        match self {
-            EitherStore::Plain { store, .. } => store.into_flash(),
-            EitherStore::Indexed { store, .. } => store.into_flash(),
+        EitherStore {
+            store: store_of(flash, layout, lookup),
+            costs,
         }
     }
 }
 
-/// Takes note of what an answer costs a store of either kind. Says whether the other kind may pay now.
-// One for each line of a script, and most lines are appended or read.
-#[inline(always)]
-fn note_answer<V: Variables>(store: &V, costs: &mut Costs, answer: Answer) -> bool {
-    match answer {
-        Answer::Appended => costs.note_append(),
-        Answer::Value(_) => costs.note_read(),
-        Answer::NoValue | Answer::Absent | Answer::Moved => note_looks(store, costs, answer),
-        _ => false,
-    }
-}
-
-/// The same where all slots are looked at.
+/// Takes note of what a line costs for which all slots are looked at. Says whether the other kind may pay now.
 #[inline(never)]
 fn note_looks<V: Variables>(store: &V, costs: &mut Costs, answer: Answer) -> bool {
     if !store.is_on() {
@@ -390,73 +277,4 @@ fn note_looks<V: Variables>(store: &V, costs: &mut Costs, answer: Answer) -> boo
         costs.note_absent(store.fill());
     }
     costs.is_time_to_change(store.fill())
-}
-
-/// Measures a read of this address, if it is its turn, and makes an index if that pays by now.
-fn settle_looking<F: Flash + Drop, A: Allocator + Copy>(
-    alloc: A,
-    store: Store<F>,
-    costs: Costs,
-    address: Address,
-) -> EitherStore<F, A>
-    requires { IsOn store }
-    ensures { device_of_either result ≡ store }
-{
-    let mut costs = costs;
-    let (flash, layout) = plain::parts_of(store);
-    if costs.measures_now() {
-        costs.measure_read(looks_for(&flash, &layout, address), layout.fill);
-    }
-    let store = plain::store_of(flash, layout);
-    if costs.is_time_to_change(layout.fill) {
-        return EitherStore::with_index(alloc, store, costs);
-    }
-    EitherStore::Plain { store, costs }
-}
-
-/// Measures a read of this address, if it is its turn, and gives the index back if it no longer pays.
-fn settle_indexed<F: Flash + Drop, A: Allocator + Copy>(
-    store: IndexedStore<F, A>,
-    costs: Costs,
-    address: Address,
-) -> EitherStore<F, A>
-    requires { IsOn store }
-    ensures { device_of_either result ≡ store }
-{
-    let mut costs = costs;
-    let (flash, kept) = indexed::parts_of(store);
-    if costs.measures_now() {
-        costs.measure_read(kept.looks_for(address), kept.live_count());
-    }
-    let store = indexed::store_of(flash, kept);
-    if costs.is_time_to_change(store.fill()) {
-        return EitherStore::Plain {
-            store: indexed::without_index(store),
-            costs: costs.without_index(),
-        };
-    }
-    EitherStore::Indexed { store, costs }
-}
-
-/// Makes an index if live addresses are counted sooner so.
-fn settle_to_count<F: Flash + Drop, A: Allocator + Copy>(
-    alloc: A,
-    store: Store<F>,
-    costs: Costs,
-) -> EitherStore<F, A>
-    requires { IsOn store }
-    ensures { device_of_either result ≡ store }
-{
-    let (fill, slots) = (store.fill(), store.slots());
-    // There are no more of them than used slots.
-    if !costs.pays_for_a_count(fill, fill, slots) {
-        return EitherStore::Plain { store, costs };
-    }
-    let (flash, layout) = plain::parts_of(store);
-    let live = count_live(alloc, &flash, &layout).unwrap_or(0);
-    let store = plain::store_of(flash, layout);
-    if costs.pays_for_a_count(live, fill, slots) {
-        return EitherStore::with_index(alloc, store, costs);
-    }
-    EitherStore::Plain { store, costs }
 }

@@ -12,6 +12,7 @@
 
 mod desk;
 mod either;
+mod either_lookup;
 pub mod laws;
 mod noting;
 mod replaying;

@@ -163,17 +163,17 @@ pub fn try_script<A: Allocator + Copy>(
 /// Answers a script on a store of this kind, and gives the image that this leaves and the report.
 fn run_on<A: Allocator + Copy>(
     alloc: A,
-    store: EitherStore<MemFlash<A>, A>,
+    either: EitherStore<A>,
     kind: Kind,
     script: &[u8],
 ) -> Result<Replayed<A>, ReplayFault>
-    requires { StaysOn (device_of_either store) }
+    requires { StaysOn (device_of_either either) }
     ensures run { IfOk result (λ replayed.
-        IsRunOn (device_of_either store) script.now replayed.image.items replayed.report.items) }
+        IsRunOn (device_of_either either) script.now replayed.image.items replayed.report.items) }
     ensures fault { IfErr result (IsRunFault script.now) }
 {
-    let start = start_of(alloc, &store)?;
-    let server = Server::new(alloc, store, kind);
+    let start = start_of(alloc, &either.store)?;
+    let server = Server::new(alloc, either, kind);
     let (server, lines) = answer_script(alloc, server, script)?;
     left_by(alloc, server, &start, lines)
 }
@@ -181,18 +181,18 @@ fn run_on<A: Allocator + Copy>(
 /// The same of a script that a reader gives.
 fn run_reader<A: Allocator + Copy, R: Read>(
     alloc: A,
-    store: EitherStore<MemFlash<A>, A>,
+    either: EitherStore<A>,
     reader: &mut R,
 ) -> Result<Replayed<A>, ReplayFault>
-    requires { StaysOn (device_of_either store) }
+    requires { StaysOn (device_of_either either) }
     ensures run { IfOk result (λ replayed. (script : List ℕ)
         × IsGiven (R.remaining reader.old) (R.remaining reader.new) script
-        × IsRunOn (device_of_either store) script replayed.image.items replayed.report.items) }
+        × IsRunOn (device_of_either either) script replayed.image.items replayed.report.items) }
     ensures fault { IfErr result
         (IsNotAnswered (R.remaining reader.old) (R.remaining reader.new)) }
 {
-    let start = start_of(alloc, &store)?;
-    let server = Server::new(alloc, store, Kind::Plain);
+    let start = start_of(alloc, &either.store)?;
+    let server = Server::new(alloc, either, Kind::Plain);
     let (server, lines) = answer_reader(alloc, server, reader, MOST_READS)?;
     left_by(alloc, server, &start, lines)
 }

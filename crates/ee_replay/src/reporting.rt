@@ -70,9 +70,9 @@ fn push_desk<A: Allocator + Copy>(
         (state_of point.device) transfers) }
 {
     match desk {
-        Desk::Open(store) => {
-            if store.is_on() {
-                return push_end(store, transfers, report);
+        Desk::Open(either) => {
+            if either.store.is_on() {
+                return push_end(&either.store, transfers, report);
             }
             push_off(transfers, report)
         }

@@ -33,27 +33,27 @@ pub(crate) struct Server<A: Allocator + Copy = Global> {
 }
 
 impl<A: Allocator + Copy> Server<A> {
-    ghost use Rattle.ee_replay.specs.Serving.{Records, with_notes};
+    ghost use Rattle.ee_replay.specs.Serving.{LineIsNoted, with_notes};
 
     /// What serves with this store, of this kind, before the first command.
-    pub(crate) fn new(alloc: A, store: EitherStore<MemFlash<A>, A>, kind: Kind) -> Server<A>
-        requires on { StaysOn (device_of_either store) }
-        requires legal { IsStore (device_of_either store) }
-        ensures stand { stand_of result.desk ≡ stand_on (device_of_either store) }
-        ensures notes { result.notes ≡ no_notes (state_of (device_of_either store)).fill }
+    pub(crate) fn new(alloc: A, either: EitherStore<A>, kind: Kind) -> Server<A>
+        requires on { StaysOn (device_of_either either) }
+        requires legal { IsStore (device_of_either either) }
+        ensures stand { stand_of result.desk ≡ stand_on (device_of_either either) }
+        ensures notes { result.notes ≡ no_notes (state_of (device_of_either either)).fill }
     {
-        let notes = Notes::new(alloc, store.fill() as u64);
+        let notes = Notes::new(alloc, either.store.fill() as u64);
         Server {
             alloc,
             kind,
-            desk: Desk::Open(store),
+            desk: Desk::Open(either),
             notes,
         }
     }
 
     /// Writes, as a line of a script says. An error says that memory ran out.
     fn write(&mut self, address: Address, value: u32) -> Result<Answer, AllocError>
-        ensures { IfOk result (λ answer. Records
+        ensures { IfOk result (λ answer. LineIsNoted
             (with_notes (stand_of self.old.desk) self.old.notes) (Write address value)
             answer (with_notes (stand_of self.new.desk) self.new.notes)) }
     {
@@ -72,7 +72,7 @@ impl<A: Allocator + Copy> Server<A> {
 
     /// Forgets, as a line of a script says. An error says that memory ran out.
     fn forget(&mut self, address: Address) -> Result<Answer, AllocError>
-        ensures { IfOk result (λ answer. Records
+        ensures { IfOk result (λ answer. LineIsNoted
             (with_notes (stand_of self.old.desk) self.old.notes) (Forget address)
             answer (with_notes (stand_of self.new.desk) self.new.notes)) }
     {
@@ -90,7 +90,7 @@ impl<A: Allocator + Copy> Server<A> {
 
     /// Reads.
     fn read(&mut self, address: Address) -> Answer
-        ensures { Records
+        ensures { LineIsNoted
             (with_notes (stand_of self.old.desk) self.old.notes) (Read address)
             result (with_notes (stand_of self.new.desk) self.new.notes) }
     {
@@ -103,7 +103,7 @@ impl<A: Allocator + Copy> Server<A> {
 
     /// Takes a clean step.
     fn clean(&mut self) -> Answer
-        ensures { Records
+        ensures { LineIsNoted
             (with_notes (stand_of self.old.desk) self.old.notes) Clean
             result (with_notes (stand_of self.new.desk) self.new.notes) }
     {
@@ -118,7 +118,7 @@ impl<A: Allocator + Copy> Server<A> {
 
     /// Arms a cut.
     fn arm(&mut self, fuse: Fuse) -> Answer
-        ensures { Records
+        ensures { LineIsNoted
             (with_notes (stand_of self.old.desk) self.old.notes) (Arm fuse)
             result (with_notes (stand_of self.new.desk) self.new.notes) }
     {
@@ -129,7 +129,7 @@ impl<A: Allocator + Copy> Server<A> {
 
     /// Turns power on and opens the store. An error says that memory ran out.
     fn power_on(&mut self) -> Result<Answer, AllocError>
-        ensures { IfOk result (λ answer. Records
+        ensures { IfOk result (λ answer. LineIsNoted
             (with_notes (stand_of self.old.desk) self.old.notes) PowerOn
             answer (with_notes (stand_of self.new.desk) self.new.notes)) }
     {
@@ -165,10 +165,10 @@ impl<A: Allocator + Copy> Server<A> {
 }
 
 impl<A: Allocator + Copy> Serve for Server<A> {
-    ghost use Rattle.ee_replay.specs.Serving.{Records, with_notes};
+    ghost use Rattle.ee_replay.specs.Serving.{LineIsNoted, with_notes};
 
     ghost serves = { λ old command answer new.
-        Records (with_notes (stand_of old.desk) old.notes) command answer
+        LineIsNoted (with_notes (stand_of old.desk) old.notes) command answer
         (with_notes (stand_of new.desk) new.notes) };
 
     fn serve(&mut self, command: Command) -> Result<Answer, AllocError> {

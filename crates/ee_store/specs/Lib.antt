@@ -11,6 +11,7 @@ pub use Rattle.ee_core.specs.Course
 pub use Rattle.ee_core.specs.Runs
 pub use Rattle.ee_core.specs.PageStates
 pub use Rattle.ee_core.specs.Starts
+pub use Rattle.ee_core.specs.Rescues
 pub use Rattle.ee_index.specs.Index
 pub use Rattle.ee_bench.specs.Events
 pub use Rattle.ee_bench.specs.Outcome

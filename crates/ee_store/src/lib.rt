@@ -11,8 +11,9 @@ pub mod laws;
 
 pub use ee_bench::{Answer, Driven, Event, drive};
 pub use ee_core::{
-    ForgetFault, LiveBatch, Off, OpenFault, Put, Store, Variables, WriteAllFault, WriteFault,
-    Written, count_pending, format, open, start,
+    ClearFault, ForgetFault, LiveBatch, Off, OpenFault, Put, RescueFault, Rescued, Store,
+    Variables, WriteAllFault, WriteFault, Written, bad_words, count_pending, format, open, rescue,
+    rescue_uncounted, start,
 };
-pub use ee_index::{IndexedFault, IndexedStore};
+pub use ee_index::{IndexedFault, IndexedStore, open_indexed};
 pub use ee_pairs::{LowPair, Nor, Pairs};

@@ -9,9 +9,9 @@ use Rattle.ee_index.proofs.index.count_new.Goals as goal
 
 pub entries-preserved : goal.entries-preserved
 entries-preserved g c = record {
-  adds = counted_more c.args.puts.now c.entries.put-index c.put-item.result c.entries-test.true c.put-item.is (slot_for c.args.index.now.entries) c.entries.count c.entries.invariant.adds
-      c.contains_key.result c.contains_key.ensures _ refl;
-  few = omega (arith, c.entries.invariant.few, (worth c.contains_key.result).1);
+  adds = counted_more c.args.puts.now c.entries.put-index c.put-item.result c.entries-test.true c.put-item.is (slot_for c.args.index.now) c.entries.count c.entries.invariant.adds
+      c.has.result c.has.ensures _ refl;
+  few = omega (arith, c.entries.invariant.few, (worth c.has.result).1);
 }
 
 pub returns-clause-adds : goal.returns-clause-adds

@@ -1,11 +1,13 @@
 use Rattle.std.proofs.Common.{arith}
-use Rattle.ee_index.proofs.Indexing.{first_found, none_above}
+use Rattle.ee_index.proofs.IndexReaders.{first_above, none_above, nothing}
 use Rattle.ee_index.proofs.index.first_above.Goals as goal
 
-pub returns-in-None : goal.returns-in-None
-returns-in-None g c =
-    none_above c.args.index.now c.start_above.result c.args.after c.start_above.ensures _ c.in-None.ensures.steps.0 (c.range.ensures.in_range tt)
+pub returns-in_default : goal.returns-in_default
+returns-in_default g c =
+    rw (← c.entries.ensures.entries) (none_above c.entries.result.now c.entries_above.result.now c.args.after c.entries_above.ensures (nothing c.entries_above.result.now c.in_default.ensures.cases))
 
-pub returns-in-Some : goal.returns-in-Some
-returns-in-Some g c =
-    first_found c.args.index.now c.start_above.result c.args.after c.start_above.ensures _ _ _ _ c.in-Some.ensures.steps (omega (arith, c.if-prove.false, c.get.ensures.number)) (c.range.ensures.in_range tt)
+pub returns : goal.returns
+returns g c =
+    rw (c.from.ensures, ← c.entries.ensures.entries)
+    (first_above c.entries.result.now c.entries_above.result.now c.args.after c.in-Some.entry.now _ c.entries_above.ensures (rw c.entries.ensures.entries c.entries.ensures.ordered) c.in-Some.ensures.cases.0
+    (omega (arith, c.if-prove.false, c.get.ensures.number)))

@@ -3,7 +3,7 @@ use Rattle.ee_index.specs.Index.{PassesHidden}
 use Rattle.ee_index.proofs.index.next_shown.Given as goal
 
 abbrev pub invariant-entries : goal.invariant-entries
-invariant-entries l = PassesHidden (λ number. nat_lt number l.fill) l.fn.entries l.entries
+invariant-entries l = PassesHidden (λ number. nat_lt number l.fill) l.entries l.left
 
 abbrev pub decreases-entries : goal.decreases-entries
-decreases-entries l = length l.entries
+decreases-entries l = length l.left

@@ -5,4 +5,4 @@ use Rattle.ee_index.specs.Index.{HasAddresses, IsShownSame, slot_for}
 use Rattle.ee_index.proofs.index_changing.enter_hidden.Given as goal
 
 abbrev pub invariant-entries : goal.invariant-entries
-invariant-entries g l = record { shown : IsShownSame l.fill l.fn.index.entries l.index.entries; there : HasAddresses (slot_for l.index.entries) (changed_by (puts_of (take l.put-index l.puts)) (slot_for l.fn.index.entries)) }
+invariant-entries g l = record { shown : IsShownSame l.fill l.fn.index l.index; there : HasAddresses (slot_for l.index) (changed_by (puts_of (take l.put-index l.puts)) (slot_for l.fn.index)) }

@@ -1,4 +1,4 @@
-use Rattle.std.proofs.Common.{◌≡◌, ◌∙◌, Bool, List, [], cond, not, true, false, length, ap, refl}
+use Rattle.std.proofs.Common.{◌≡◌, ◌∙◌, arith, Bool, List, [], cond, not, true, false, length, ap, refl}
 use Rattle.ee_pages.specs.Meaning.{changed_by}
 use Rattle.ee_core.specs.Puts.{forgets_of}
 use Rattle.ee_core.specs.declared.change.Put as listed
@@ -11,8 +11,11 @@ turned puts false = refl
 
 pub returns : goal.returns
 returns g c = record {
-  left = c.leave_all.new.index.entries;
+  left = c.leave_all.new.index;
   ordered = c.renumber.ensures.ordered;
-  left_is = λ address. c.leave_all.ensures address ∙ ap (λ (puts : List listed.Put). changed_by (forgets_of puts) (slot_for c.args.index.now.entries) address) (c.values_put-forgotten.ensures ∙ turned c.args.puts.now c.args.forgets);
-  numbered = c.renumber.ensures.numbered ∙ ap (λ (puts : List listed.Put). numbered_slots puts (length puts) c.leave_all.new.index.entries) c.values_put-put.ensures;
+  left_is = λ address. c.leave_all.ensures.left address ∙ ap (λ (puts : List listed.Put). changed_by (forgets_of puts) (slot_for c.args.index.now) address) (c.values_put-forgotten.ensures ∙ turned c.args.puts.now c.args.forgets);
+  numbered = c.renumber.ensures.numbered ∙ ap (λ (puts : List listed.Put). numbered_slots puts (length puts) c.leave_all.new.index) c.values_put-put.ensures;
 }
+
+pub renumber-requires : goal.renumber-requires
+renumber-requires g c = let as_many = ap length c.values_put-put.ensures in omega (arith, as_many, c.requires, c.leave_all.ensures.fewer)

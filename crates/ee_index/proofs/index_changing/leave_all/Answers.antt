@@ -1,7 +1,10 @@
+use Rattle.std.proofs.Common.{arith}
 use Rattle.ee_index.specs.Index.{slot_for}
 use Rattle.ee_index.proofs.IndexedRooms.{left_more}
 use Rattle.ee_index.proofs.index_changing.leave_all.Goals as goal
 
 pub entries-preserved : goal.entries-preserved
-entries-preserved g c =
-    left_more c.args.puts.now c.entries.put-index c.put-item.result c.entries-test.true c.put-item.is (slot_for c.args.index.now.entries) (slot_for c.entries.index.entries) (slot_for c.leave.new.index.entries) c.entries.invariant c.leave.ensures
+entries-preserved g c = record {
+  left = left_more c.args.puts.now c.entries.put-index c.put-item.result c.entries-test.true c.put-item.is (slot_for c.args.index.now) (slot_for c.entries.index) (slot_for c.leave.new.index) c.entries.invariant.left c.leave.ensures.left;
+  fewer = omega (arith, c.entries.invariant.fewer, c.leave.ensures.fewer);
+}

@@ -1,8 +1,11 @@
-use Rattle.std.proofs.Common.{◌≡◌, ℕ, take}
+use Rattle.std.proofs.Common.{◌≡◌, ◌≤◌, ℕ, length, take}
 use Rattle.ee_pages.specs.Meaning.{changed_by}
 use Rattle.ee_core.specs.Puts.{forgets_of}
 use Rattle.ee_index.specs.Index.{slot_for}
 use Rattle.ee_index.proofs.index_changing.leave_all.Given as goal
 
 abbrev pub invariant-entries : goal.invariant-entries
-invariant-entries g l = (address : ℕ) → slot_for l.index.entries address ≡ changed_by (forgets_of (take l.put-index l.puts)) (slot_for l.fn.index.entries) address
+invariant-entries g l = record {
+  left : (address : ℕ) → slot_for l.index address ≡ changed_by (forgets_of (take l.put-index l.puts)) (slot_for l.fn.index) address;
+  fewer : length l.index ≤ length l.fn.index;
+}

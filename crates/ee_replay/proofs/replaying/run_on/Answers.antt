@@ -9,7 +9,7 @@ use Rattle.ee_replay.proofs.replaying.run_on.Goals as goal
 
 pub returns-clause-run : goal.returns-clause-run
 returns-clause-run g c =
-    let traced = is_traced (λ server. with_notes (stand_of server.desk) server.notes) (device_of_either c.args.store) _ _ _ _
+    let traced = is_traced (λ server. with_notes (stand_of server.desk) server.notes) (device_of_either c.args.either) _ _ _ _
     c.in_ok-server.ensures.answered c.new-server.ensures.stand c.new-server.ensures.notes in
     let proper = subst IsProper c.start.view_is c.start.invariant.proper in
     IfOk-weaker c.left_by.result _ _ (λ replayed made. made _ _ traced c.in_ok-start.ensures.start proper c.requires) c.left_by.ensures.run

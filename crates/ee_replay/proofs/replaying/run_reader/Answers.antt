@@ -22,7 +22,7 @@ returns-clause-fault g c =
 pub returns-clause-run : goal.returns-clause-run
 returns-clause-run g c =
     let all = c.in_ok-server.ensures.answered in
-    let traced = is_traced (λ server. with_notes (stand_of server.desk) server.notes) (device_of_either c.args.store) _ _ _ _ all.answered
+    let traced = is_traced (λ server. with_notes (stand_of server.desk) server.notes) (device_of_either c.args.either) _ _ _ _ all.answered
     c.new-server.ensures.stand c.new-server.ensures.notes in
     let proper = subst IsProper c.start.view_is c.start.invariant.proper in
     IfOk-weaker c.left_by.result _ _

@@ -1,0 +1,25 @@
+use Rattle.std.proofs.Common.{List, subst, sym}
+use Rattle.ee_core.specs.Openings.{Opens}
+use Rattle.ee_core.proofs.Public.{opening_cut, opens}
+use Rattle.ee_flash.specs.declared.word.Word.{Word}
+use Rattle.ee_index.specs.Index.{IsIndex, slot_for}
+use Rattle.ee_index.proofs.indexed.open_indexed.Goals as goal
+
+pub returns-in-Ok-finish-clause-opened : goal.returns-in-Ok-finish-clause-opened
+returns-in-Ok-finish-clause-opened g c =
+    let old = g.F.Flash.device c.args.flash in
+    let new = g.F.Flash.device c.finish.new.flash in
+    subst (λ device. Opens old device) (sym c.store_of.ensures) (opens c.in-Ok.layout old new c.in-Ok.ensures.layout c.in-Ok-finish.ensures.stays c.in-Ok-finish.ensures.finished c.in-Ok-finish.ensures.shows (λ marked. (c.finish.ensures.no_step marked).1) c.in-Ok-finish.ensures.power.ok)
+
+pub returns-in-Err-finish-clause-failed : goal.returns-in-Err-finish-clause-failed
+returns-in-Err-finish-clause-failed g c =
+    let old = g.F.Flash.device c.args.flash in
+    let new = g.F.Flash.device c.finish.new.flash in
+    opening_cut c.in-Ok.layout old new c.in-Ok.ensures.layout c.in-Err-finish.ensures.stays
+    (λ marked. let none = c.finish.ensures.no_step marked in cc (none.0, c.in-Err-finish.is)) c.in-Err-finish.ensures.begun
+    (c.in-Err-finish.ensures.power.cut c.requires)
+
+pub store_of-requires-clause-fits : goal.store_of-requires-clause-fits
+store_of-requires-clause-fits g c =
+    let old = g.F.Flash.device c.args.flash in let new = g.F.Flash.device c.finish.new.flash in
+    subst (λ (slots : List Word). IsIndex slots (slot_for c.in-Ok-index_of.index.index)) (sym c.in-Ok-finish.ensures.stays.keeps.same_slots) c.in-Ok-index_of.ensures
