@@ -20,7 +20,7 @@
 //! has its cause, the first that applies (`accepts`, `refused`, `names`). `read_certificate` and `write_certificate`
 //! are exact both ways. `laws`: each schedule costs more than a certificate has stretches, or as much and ends with no
 //! more room; a start and a trace that keeps within the slots have one tight certificate, which is met, by the store
-//! that transfers exactly when each slot is used. docs/PROMISES.md explains it.
+//! that transfers exactly when each slot is used. docs/CERTIFICATE.md explains it.
 #![tactic(auto)]
 
 mod certificate;

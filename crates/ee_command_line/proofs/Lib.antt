@@ -1,3 +1,3 @@
 mod Bases
 mod Streams
-mod Counted
+mod Flags

@@ -27,6 +27,8 @@ pub data Row : Type 0 where
   Wear : List ℕ → Option (List ℕ) → Row
   States : List ℕ → Row
   Clean : List ℕ → Row
+  Rescue : List ℕ → Row
+  Clear : List ℕ → Row
   Stale : List ℕ → List ℕ → Row
   Tidy : List ℕ → List ℕ → Row
   Listing : List ℕ → Option (List ℕ) → Row
@@ -53,6 +55,8 @@ row_of (job.Check image script certificate) = Check image.now script.now certifi
 row_of (job.Wear image before) = Wear image.now (option_map (λ path. path.now) before)
 row_of (job.States image) = States image.now
 row_of (job.Clean image) = Clean image.now
+row_of (job.Rescue image) = Rescue image.now
+row_of (job.Clear image) = Clear image.now
 row_of (job.Stale image settings) = Stale image.now settings.now
 row_of (job.Tidy image settings) = Tidy image.now settings.now
 row_of (job.List image settings) = Listing image.now (option_map (λ path. path.now) settings)
@@ -110,6 +114,8 @@ IsRow (Check image script certificate) = Unit {0}
 IsRow (Wear image before) = Unit {0}
 IsRow (States image) = Unit {0}
 IsRow (Clean image) = Unit {0}
+IsRow (Rescue image) = Unit {0}
+IsRow (Clear image) = Unit {0}
 IsRow (Stale image settings) = Unit {0}
 IsRow (Tidy image settings) = Unit {0}
 IsRow (Listing image settings) = Unit {0}
@@ -117,34 +123,40 @@ IsRow (Sizing words script cycles runs) = ArePageWords words × IsCount cycles �
 IsRow Help = Unit {0}
 IsRow Version = Unit {0}
 
+-- a command that has no flag
+abbrev pub IsPlain : List ℕ → Type 0
+IsPlain command = command ≢ codes "run" × command ≢ codes "header" × command ≢ codes "export" × command ≢ codes "export-hex"
+    × command ≢ codes "import" × command ≢ codes "import-hex"
+
+-- a flag, if it is given, before other words
+abbrev pub with_flag : Bool → List ℕ → List (List ℕ) → List (List ℕ)
+with_flag false flag words = words
+with_flag true flag words = flag ∷ words
+
+-- these words begin with no such flag
+abbrev pub HaveNoFlag : List ℕ → List (List ℕ) → Type 0
+HaveNoFlag flag [] = Unit {0}
+HaveNoFlag flag (word ∷ words) = word ≢ flag
+
 -- the words say this row; no words say `try 1 6`
 abbrev pub AreWordsOf : List (List ℕ) → Row → Type 0
 AreWordsOf words (Try size) = (words ≡ codes "try" ∷ decimal size.pages ∷ decimal size.words ∷ [])
     ⊎ ((words ≡ []) × (size ≡ size_of 1 6))
 AreWordsOf words (Format size image) = words ≡ codes "format" ∷ decimal size.pages ∷ decimal size.words ∷ image ∷ []
-AreWordsOf words (Import false size dump image) =
-    words ≡ codes "import" ∷ decimal size.pages ∷ decimal size.words ∷ dump ∷ image ∷ []
-AreWordsOf words (Import true size dump image) =
-    words ≡ codes "import" ∷ codes "--pairs" ∷ decimal size.pages ∷ decimal size.words ∷ dump ∷ image ∷ []
-AreWordsOf words (Export false image dump) = words ≡ codes "export" ∷ image ∷ dump ∷ []
-AreWordsOf words (Export true image dump) = words ≡ codes "export" ∷ codes "--pairs" ∷ image ∷ dump ∷ []
-AreWordsOf words (ImportHex false size base dump image) = (digits : List ℕ) × HasBase digits base
-    × (words ≡ codes "import-hex" ∷ decimal size.pages ∷ decimal size.words ∷ digits ∷ dump ∷ image ∷ [])
-AreWordsOf words (ImportHex true size base dump image) = (digits : List ℕ) × HasBase digits base
-    × (words ≡ codes "import-hex" ∷ codes "--pairs" ∷ decimal size.pages ∷ decimal size.words ∷ digits ∷ dump ∷ image ∷ [])
-AreWordsOf words (ExportHex false image base dump) = (digits : List ℕ) × HasBase digits base
-    × (words ≡ codes "export-hex" ∷ image ∷ digits ∷ dump ∷ [])
-AreWordsOf words (ExportHex true image base dump) = (digits : List ℕ) × HasBase digits base
-    × (words ≡ codes "export-hex" ∷ codes "--pairs" ∷ image ∷ digits ∷ dump ∷ [])
+AreWordsOf words (Import pairs size dump image) =
+    words ≡ codes "import" ∷ with_flag pairs (codes "--pairs") (decimal size.pages ∷ decimal size.words ∷ dump ∷ image ∷ [])
+AreWordsOf words (Export pairs image dump) = words ≡ codes "export" ∷ with_flag pairs (codes "--pairs") (image ∷ dump ∷ [])
+AreWordsOf words (ImportHex pairs size base dump image) = (digits : List ℕ) × HasBase digits base
+    × (words ≡ codes "import-hex" ∷ with_flag pairs (codes "--pairs") (decimal size.pages ∷ decimal size.words ∷ digits ∷ dump ∷ image ∷ []))
+AreWordsOf words (ExportHex pairs image base dump) = (digits : List ℕ) × HasBase digits base
+    × (words ≡ codes "export-hex" ∷ with_flag pairs (codes "--pairs") (image ∷ digits ∷ dump ∷ []))
 AreWordsOf words (Inspect image) = words ≡ codes "inspect" ∷ image ∷ []
-AreWordsOf words (Run false image script) = words ≡ codes "run" ∷ image ∷ script ∷ []
-AreWordsOf words (Run true image script) = words ≡ codes "run" ∷ codes "--indexed" ∷ image ∷ script ∷ []
+AreWordsOf words (Run indexed image script) = words ≡ codes "run" ∷ with_flag indexed (codes "--indexed") (image ∷ script ∷ [])
 AreWordsOf words (Get image settings name) = words ≡ codes "get" ∷ image ∷ settings ∷ name ∷ []
 AreWordsOf words (Set image settings name value) =
     words ≡ codes "set" ∷ image ∷ settings ∷ name ∷ decimal value ∷ []
 AreWordsOf words (Apply image settings values) = words ≡ codes "apply" ∷ image ∷ settings ∷ values ∷ []
-AreWordsOf words (Header false settings) = words ≡ codes "header" ∷ settings ∷ []
-AreWordsOf words (Header true settings) = words ≡ codes "header" ∷ codes "--rust" ∷ settings ∷ []
+AreWordsOf words (Header rust settings) = words ≡ codes "header" ∷ with_flag rust (codes "--rust") (settings ∷ [])
 AreWordsOf words (Plan image script) = words ≡ codes "plan" ∷ image ∷ script ∷ []
 AreWordsOf words (Check image script certificate) =
     words ≡ codes "check" ∷ image ∷ script ∷ certificate ∷ []
@@ -152,6 +164,8 @@ AreWordsOf words (Wear image None) = words ≡ codes "wear" ∷ image ∷ []
 AreWordsOf words (Wear image (Some before)) = words ≡ codes "wear" ∷ image ∷ before ∷ []
 AreWordsOf words (States image) = words ≡ codes "states" ∷ image ∷ []
 AreWordsOf words (Clean image) = words ≡ codes "clean" ∷ image ∷ []
+AreWordsOf words (Rescue image) = words ≡ codes "rescue" ∷ image ∷ []
+AreWordsOf words (Clear image) = words ≡ codes "clear" ∷ image ∷ []
 AreWordsOf words (Stale image settings) = words ≡ codes "stale" ∷ image ∷ settings ∷ []
 AreWordsOf words (Tidy image settings) = words ≡ codes "tidy" ∷ image ∷ settings ∷ []
 AreWordsOf words (Listing image None) = words ≡ codes "list" ∷ image ∷ []
@@ -163,9 +177,9 @@ AreWordsOf words Help =
 AreWordsOf words Version = words ≡ codes "--version" ∷ []
 
 -- a job that is given is a row, which the words say
-abbrev pub IsSaid : List (List ℕ) → Option Job → Type 0
-IsSaid words given = IfSome given (λ job. IsRow (row_of job) × AreWordsOf words (row_of job))
+abbrev pub SpellsGiven : List (List ℕ) → Option Job → Type 0
+SpellsGiven words given = IfSome given (λ job. IsRow (row_of job) × AreWordsOf words (row_of job))
 
 -- a row that the words say is given
-abbrev pub IsFound : List (List ℕ) → Option Job → Type 0
-IsFound words given = (row : Row) → IsRow row → AreWordsOf words row → option_map row_of given ≡ Some row
+abbrev pub GivesSpelled : List (List ℕ) → Option Job → Type 0
+GivesSpelled words given = (row : Row) → IsRow row → AreWordsOf words row → option_map row_of given ≡ Some row

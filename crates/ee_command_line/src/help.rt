@@ -36,6 +36,8 @@ ee: flash EEPROM emulation over images as text, proved
   ee wear IMAGE [BEFORE]                   tells how often each page was erased
   ee states IMAGE                          tells the state of each page
   ee clean IMAGE                           erases the pages that wait for it
+  ee rescue IMAGE                          makes any image legal, without its bad words
+  ee clear IMAGE                           forgets all addresses
   ee --help, ee -h, ee help                tells this
   ee --version                             tells the version, and the toolchain that it is proved with
 

@@ -106,6 +106,14 @@ pub enum Job<'a> {
     Clean {
         image: &'a str,
     },
+    /// `rescue IMAGE`: makes the image legal, whatever stands in it, and tells the bad words.
+    Rescue {
+        image: &'a str,
+    },
+    /// `clear IMAGE`: forgets all addresses.
+    Clear {
+        image: &'a str,
+    },
     /// `stale IMAGE SETTINGS`: tells the settings whose stored value isn't in their range.
     Stale {
         image: &'a str,

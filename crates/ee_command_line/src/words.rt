@@ -1,7 +1,7 @@
 //! The words behind the program's name, read.
-ghost use Rattle.std.specs.Prelude.{◌≡◌, [], ◌∷◌, ◌<◌, ◌^◌, ℕ, Some, IfSome, option_map, decimal};
+ghost use Rattle.std.specs.Prelude.{◌≡◌, [], ◌∷◌, ◌<◌, ◌^◌, ℕ, Bool, List, Some, IfSome, IsSomeAnd, codes, option_map, decimal};
 ghost use Rattle.ee_flash.specs.Size.{IsWithinLimits, Size};
-ghost use Rattle.ee_command_line.specs.Job.{ArePageWords, AreWordsOf, EndsWithin, HasBase, IsBase, IsCount, IsFound, IsRow, IsSaid, Row, row_of, texts_of};
+ghost use Rattle.ee_command_line.specs.Job.{ArePageWords, EndsWithin, HasBase, HaveNoFlag, IsBase, IsCount, GivesSpelled, IsPlain, SpellsGiven, texts_of, with_flag};
 
 use super::jobs::Job;
 use ee_flash::Shape;
@@ -15,38 +15,172 @@ use hex::FromHex;
 /// Source: ours.
 pub fn job<'a>(words: &[&'a str]) -> Option<Job<'a>>
     // What is given is spelled so.
-    ensures found { IsSaid (texts_of words.now) result }
+    ensures found { SpellsGiven (texts_of words.now) result }
     // What is spelled so is given.
-    ensures only { IsFound (texts_of words.now) result }
+    ensures only { GivesSpelled (texts_of words.now) result }
 {
-    match *words {
-        [] => Some(Job::Try {
+    let Some((command, others)) = words.split_first() else {
+        return Some(Job::Try {
             shape: Shape::new(1, 6)?,
+        });
+    };
+    match *command {
+        "run" => run_job(others),
+        "header" => header_job(others),
+        "export" => export_job(others),
+        "export-hex" => export_hex_job(others),
+        "import" => import_job(others),
+        "import-hex" => import_hex_job(others),
+        command => match *others {
+            [] => job_of_one(command),
+            [first] => job_of_two(command, first),
+            [first, second] => job_of_three(command, first, second),
+            [first, second, third] => job_of_four(command, first, second, third),
+            [first, second, third, fourth] => job_of_five(command, first, second, third, fourth),
+            _ => None,
+        },
+    }
+}
+
+/// The words behind a flag, and whether it is given. None where it is given twice.
+fn split_flag<'w, 'a>(flag: &str, words: &'w [&'a str]) -> Option<(bool, &'w [&'a str])>
+    ensures found { IfSome result (λ split. HaveNoFlag flag.now (texts_of split.1.now)
+        × (texts_of words.now ≡ with_flag split.0 flag.now (texts_of split.1.now))) }
+    ensures only { (given : Bool) (operands : List (List ℕ)) → HaveNoFlag flag.now operands
+        → texts_of words.now ≡ with_flag given flag.now operands
+        → IsSomeAnd result (λ split. (split.0 ≡ given) × (texts_of split.1.now ≡ operands)) }
+{
+    let Some((first, operands)) = words.split_first() else {
+        return Some((false, words));
+    };
+    if *first != flag {
+        return Some((false, words));
+    }
+    match operands.split_first() {
+        None => Some((true, operands)),
+        Some((second, _)) if *second == flag => None,
+        Some(_) => Some((true, operands)),
+    }
+}
+
+/// The job of `run`.
+fn run_job<'a>(words: &[&'a str]) -> Option<Job<'a>>
+    ensures found { SpellsGiven (codes "run" ∷ texts_of words.now) result }
+    ensures only { GivesSpelled (codes "run" ∷ texts_of words.now) result }
+{
+    let (indexed, operands) = split_flag("--indexed", words)?;
+    match *operands {
+        [image, script] => Some(Job::Run {
+            indexed,
+            image,
+            script,
         }),
-        [command] => job_of_one(command),
-        [command, first] => job_of_two(command, first),
-        [command, first, second] => job_of_three(command, first, second),
-        [command, first, second, third] => job_of_four(command, first, second, third),
-        [command, first, second, third, fourth] => {
-            job_of_five(command, first, second, third, fourth)
-        }
-        [command, first, second, third, fourth, fifth] => {
-            job_of_six(command, first, second, third, fourth, fifth)
-        }
-        [command, first, second, third, fourth, fifth, sixth] => {
-            job_of_seven(command, first, second, third, fourth, fifth, sixth)
-        }
         _ => None,
     }
 }
 
+/// The job of `header`.
+fn header_job<'a>(words: &[&'a str]) -> Option<Job<'a>>
+    ensures found { SpellsGiven (codes "header" ∷ texts_of words.now) result }
+    ensures only { GivesSpelled (codes "header" ∷ texts_of words.now) result }
+{
+    let (rust, operands) = split_flag("--rust", words)?;
+    match *operands {
+        [settings] => Some(Job::Header { rust, settings }),
+        _ => None,
+    }
+}
+
+/// The job of `export`.
+fn export_job<'a>(words: &[&'a str]) -> Option<Job<'a>>
+    ensures found { SpellsGiven (codes "export" ∷ texts_of words.now) result }
+    ensures only { GivesSpelled (codes "export" ∷ texts_of words.now) result }
+{
+    let (pairs, operands) = split_flag("--pairs", words)?;
+    match *operands {
+        [image, dump] => Some(Job::Export { pairs, image, dump }),
+        _ => None,
+    }
+}
+
+/// The job of `export-hex`.
+fn export_hex_job<'a>(words: &[&'a str]) -> Option<Job<'a>>
+    ensures found { SpellsGiven (codes "export-hex" ∷ texts_of words.now) result }
+    ensures only { GivesSpelled (codes "export-hex" ∷ texts_of words.now) result }
+{
+    let (pairs, operands) = split_flag("--pairs", words)?;
+    match *operands {
+        [image, base, dump] => Some(Job::ExportHex {
+            pairs,
+            image,
+            base: base_of(base)?,
+            dump,
+        }),
+        _ => None,
+    }
+}
+
+/// The job of `import`.
+fn import_job<'a>(words: &[&'a str]) -> Option<Job<'a>>
+    ensures found { SpellsGiven (codes "import" ∷ texts_of words.now) result }
+    ensures only { GivesSpelled (codes "import" ∷ texts_of words.now) result }
+{
+    let Some((pairs, shape, files)) = split_part(words) else {
+        return None;
+    };
+    match *files {
+        [dump, image] => Some(Job::Import {
+            pairs,
+            shape,
+            dump,
+            image,
+        }),
+        _ => None,
+    }
+}
+
+/// The job of `import-hex`.
+fn import_hex_job<'a>(words: &[&'a str]) -> Option<Job<'a>>
+    ensures found { SpellsGiven (codes "import-hex" ∷ texts_of words.now) result }
+    ensures only { GivesSpelled (codes "import-hex" ∷ texts_of words.now) result }
+{
+    let Some((pairs, shape, others)) = split_part(words) else {
+        return None;
+    };
+    match *others {
+        [base, dump, image] => Some(Job::ImportHex {
+            pairs,
+            shape,
+            base: base_for(pairs, shape, base)?,
+            dump,
+            image,
+        }),
+        _ => None,
+    }
+}
+
+/// Whether `--pairs` is given, the shape behind it, and the words behind that.
+#[tactic(auto, using(crate::proofs::Flags::size_is_no_flag))]
+fn split_part<'w, 'a>(words: &'w [&'a str]) -> Option<(bool, Shape, &'w [&'a str])>
+    ensures found { IfSome result (λ split. IsWithinLimits split.1
+        × (texts_of words.now ≡ with_flag split.0 (codes "--pairs")
+        (decimal split.1.pages ∷ decimal split.1.words ∷ texts_of split.2.now))) }
+    ensures only { (pairs : Bool) (size : Size) (others : List (List ℕ)) → IsWithinLimits size
+        → texts_of words.now ≡ with_flag pairs (codes "--pairs")
+        (decimal size.pages ∷ decimal size.words ∷ others)
+        → IsSomeAnd result (λ split. (split.0 ≡ pairs) × (split.1 ≡ size)
+        × (texts_of split.2.now ≡ others)) }
+{
+    let (pairs, operands) = split_flag("--pairs", words)?;
+    let (pages, others) = operands.split_first()?;
+    let (page_words, others) = others.split_first()?;
+    Some((pairs, shape_of(pages, page_words)?, others))
+}
+
 /// The job that a word alone asks for.
 fn job_of_one<'a>(command: &'a str) -> Option<Job<'a>>
-    // Here and below `IsSaid` and `IsFound` are written out: so they take less time to prove.
-    ensures found { IfSome result (λ job. IsRow (row_of job)
-        × AreWordsOf (command.now ∷ []) (row_of job)) }
-    ensures only { (row : Row) → IsRow row → AreWordsOf (command.now ∷ []) row
-        → option_map row_of result ≡ Some row }
+    ensures found { SpellsGiven (command.now ∷ []) result }
+    ensures only { GivesSpelled (command.now ∷ []) result }
 {
     let job = match command {
         "--help" | "-h" | "help" => Job::Help,
@@ -56,33 +190,26 @@ fn job_of_one<'a>(command: &'a str) -> Option<Job<'a>>
     Some(job)
 }
 
-/// The job of a command on one text.
-fn job_of_two<'a>(command: &'a str, first: &'a str) -> Option<Job<'a>>
-    ensures found { IfSome result (λ job. IsRow (row_of job)
-        × AreWordsOf (command.now ∷ first.now ∷ []) (row_of job)) }
-    ensures only { (row : Row) → IsRow row → AreWordsOf (command.now ∷ first.now ∷ []) row
-        → option_map row_of result ≡ Some row }
+/// The job of a command on an image alone.
+fn job_of_two<'a>(command: &'a str, image: &'a str) -> Option<Job<'a>>
+    requires { IsPlain command.now }
+    ensures found { SpellsGiven (command.now ∷ image.now ∷ []) result }
+    ensures only { GivesSpelled (command.now ∷ image.now ∷ []) result }
 {
     let job = match command {
         "list" => Job::List {
-            image: first,
+            image,
             settings: None,
         },
         "wear" => Job::Wear {
-            image: first,
+            image,
             before: None,
         },
-        "states" => Job::States { image: first },
-        "inspect" => Job::Inspect { image: first },
-        "clean" => Job::Clean { image: first },
-        "header" => match first {
-            // This word says which constants, and names no settings.
-            "--rust" => return None,
-            settings => Job::Header {
-                rust: false,
-                settings,
-            },
-        },
+        "states" => Job::States { image },
+        "inspect" => Job::Inspect { image },
+        "clean" => Job::Clean { image },
+        "rescue" => Job::Rescue { image },
+        "clear" => Job::Clear { image },
         _ => return None,
     };
     Some(job)
@@ -90,32 +217,13 @@ fn job_of_two<'a>(command: &'a str, first: &'a str) -> Option<Job<'a>>
 
 /// The job of a command on two texts.
 fn job_of_three<'a>(command: &'a str, first: &'a str, second: &'a str) -> Option<Job<'a>>
-    ensures found { IfSome result (λ job. IsRow (row_of job)
-        × AreWordsOf (command.now ∷ first.now ∷ second.now ∷ []) (row_of job)) }
-    ensures only { (row : Row) → IsRow row → AreWordsOf (command.now ∷ first.now ∷ second.now ∷ []) row
-        → option_map row_of result ≡ Some row }
+    requires { IsPlain command.now }
+    ensures found { SpellsGiven (command.now ∷ first.now ∷ second.now ∷ []) result }
+    ensures only { GivesSpelled (command.now ∷ first.now ∷ second.now ∷ []) result }
 {
     let job = match command {
         "try" => Job::Try {
             shape: shape_of(first, second)?,
-        },
-        "run" => match first {
-            // This word says how to run, and names no image.
-            "--indexed" => return None,
-            image => Job::Run {
-                indexed: false,
-                image,
-                script: second,
-            },
-        },
-        "export" => match first {
-            // This word says what part it is, and names no image.
-            "--pairs" => return None,
-            image => Job::Export {
-                pairs: false,
-                image,
-                dump: second,
-            },
         },
         "plan" => Job::Plan {
             image: first,
@@ -137,13 +245,6 @@ fn job_of_three<'a>(command: &'a str, first: &'a str, second: &'a str) -> Option
             image: first,
             settings: second,
         },
-        "header" if first == "--rust" => match second {
-            "--rust" => return None,
-            settings => Job::Header {
-                rust: true,
-                settings,
-            },
-        },
         _ => return None,
     };
     Some(job)
@@ -156,31 +257,14 @@ fn job_of_four<'a>(
     second: &'a str,
     third: &'a str,
 ) -> Option<Job<'a>>
-    ensures found { IfSome result (λ job. IsRow (row_of job)
-        × AreWordsOf (command.now ∷ first.now ∷ second.now ∷ third.now ∷ []) (row_of job)) }
-    ensures only { (row : Row) → IsRow row → AreWordsOf (command.now ∷ first.now ∷ second.now ∷ third.now ∷ []) row
-        → option_map row_of result ≡ Some row }
+    requires { IsPlain command.now }
+    ensures found { SpellsGiven (command.now ∷ first.now ∷ second.now ∷ third.now ∷ []) result }
+    ensures only { GivesSpelled (command.now ∷ first.now ∷ second.now ∷ third.now ∷ []) result }
 {
     let job = match command {
         "format" => Job::Format {
             shape: shape_of(first, second)?,
             image: third,
-        },
-        "run" if first == "--indexed" => match second {
-            "--indexed" => return None,
-            image => Job::Run {
-                indexed: true,
-                image,
-                script: third,
-            },
-        },
-        "export" if first == "--pairs" => match second {
-            "--pairs" => return None,
-            image => Job::Export {
-                pairs: true,
-                image,
-                dump: third,
-            },
         },
         "get" => Job::Get {
             image: first,
@@ -197,15 +281,6 @@ fn job_of_four<'a>(
             script: second,
             certificate: third,
         },
-        "export-hex" => match first {
-            "--pairs" => return None,
-            image => Job::ExportHex {
-                pairs: false,
-                image,
-                base: base_of(second)?,
-                dump: third,
-            },
-        },
         _ => return None,
     };
     Some(job)
@@ -219,27 +294,13 @@ fn job_of_five<'a>(
     third: &'a str,
     fourth: &'a str,
 ) -> Option<Job<'a>>
-    ensures found { IfSome result (λ job. IsRow (row_of job)
-        × AreWordsOf (command.now ∷ first.now ∷ second.now ∷ third.now ∷ fourth.now ∷ []) (row_of job)) }
-    ensures only { (row : Row) → IsRow row → AreWordsOf (command.now ∷ first.now ∷ second.now ∷ third.now ∷ fourth.now ∷ []) row
-        → option_map row_of result ≡ Some row }
+    requires { IsPlain command.now }
+    ensures found { SpellsGiven
+        (command.now ∷ first.now ∷ second.now ∷ third.now ∷ fourth.now ∷ []) result }
+    ensures only { GivesSpelled
+        (command.now ∷ first.now ∷ second.now ∷ third.now ∷ fourth.now ∷ []) result }
 {
     let job = match command {
-        "import" => Job::Import {
-            pairs: false,
-            shape: shape_of(first, second)?,
-            dump: third,
-            image: fourth,
-        },
-        "export-hex" if first == "--pairs" => match second {
-            "--pairs" => return None,
-            image => Job::ExportHex {
-                pairs: true,
-                image,
-                base: base_of(third)?,
-                dump: fourth,
-            },
-        },
         "set" => Job::Set {
             image: first,
             settings: second,
@@ -252,75 +313,6 @@ fn job_of_five<'a>(
             cycles: count_of(third)?,
             runs: count_of(fourth)?,
         },
-        _ => return None,
-    };
-    Some(job)
-}
-
-/// The job of a command on five texts.
-fn job_of_six<'a>(
-    command: &'a str,
-    first: &'a str,
-    second: &'a str,
-    third: &'a str,
-    fourth: &'a str,
-    fifth: &'a str,
-) -> Option<Job<'a>>
-    ensures found { IfSome result (λ job. IsRow (row_of job)
-        × AreWordsOf (command.now ∷ first.now ∷ second.now ∷ third.now ∷ fourth.now ∷ fifth.now ∷ []) (row_of job)) }
-    ensures only { (row : Row) → IsRow row → AreWordsOf (command.now ∷ first.now ∷ second.now ∷ third.now ∷ fourth.now ∷ fifth.now ∷ []) row
-        → option_map row_of result ≡ Some row }
-{
-    let job = match command {
-        "import" if first == "--pairs" => Job::Import {
-            pairs: true,
-            shape: shape_of(second, third)?,
-            dump: fourth,
-            image: fifth,
-        },
-        "import-hex" => {
-            let shape = shape_of(first, second)?;
-            Job::ImportHex {
-                pairs: false,
-                shape,
-                base: base_for(false, shape, third)?,
-                dump: fourth,
-                image: fifth,
-            }
-        }
-        _ => return None,
-    };
-    Some(job)
-}
-
-/// The job of a command on six texts.
-fn job_of_seven<'a>(
-    command: &'a str,
-    first: &'a str,
-    second: &'a str,
-    third: &'a str,
-    fourth: &'a str,
-    fifth: &'a str,
-    sixth: &'a str,
-) -> Option<Job<'a>>
-    ensures found { IfSome result (λ job. IsRow (row_of job)
-        × AreWordsOf (command.now ∷ first.now ∷ second.now ∷ third.now ∷ fourth.now
-        ∷ fifth.now ∷ sixth.now ∷ []) (row_of job)) }
-    ensures only { (row : Row) → IsRow row → AreWordsOf (command.now ∷ first.now ∷ second.now ∷ third.now ∷ fourth.now
-        ∷ fifth.now ∷ sixth.now ∷ []) row
-        → option_map row_of result ≡ Some row }
-{
-    let job = match command {
-        "import-hex" if first == "--pairs" => {
-            let shape = shape_of(second, third)?;
-            Job::ImportHex {
-                pairs: true,
-                shape,
-                base: base_for(true, shape, fourth)?,
-                dump: fifth,
-                image: sixth,
-            }
-        }
         _ => return None,
     };
     Some(job)

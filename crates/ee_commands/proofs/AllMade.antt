@@ -8,7 +8,7 @@ use Rattle.ee_codec.specs.Words.{IsAddress}
 use Rattle.ee_pages.specs.Meaning.{Put}
 use Rattle.ee_pages.specs.Meaning as meaning
 use Rattle.ee_core.specs.Changes.{Appends, IsSpent, Moves, greatest_generation}
-use Rattle.ee_core.specs.Runs.{Call, Wrote, WroteAll, Forgot, Cleaned, DidRead, IsRun, is_cut, is_transfer, transfers}
+use Rattle.ee_core.specs.Runs.{Call, Wrote, WroteAll, Forgot, Cleared, Cleaned, DidRead, IsRun, is_cut, is_transfer, transfers}
 use Rattle.ee_core.specs.State.{State, state_of}
 use Rattle.ee_core.specs.declared.variables.ForgetFault.TheVariants as forget
 use Rattle.ee_core.specs.declared.variables.WriteFault.TheVariants as write
@@ -21,7 +21,7 @@ use Rattle.ee_check.specs.Schedule.{Append, Carry, Copy, EachMove, IsLate, IsPro
 use Rattle.ee_planner.proofs.Public.{keeps_tail}
 use Rattle.ee_plan.proofs.Public.{live_after_forget, live_after_put, appends, forgetting_fits, moves_on, not_full, start_stays}
 use Rattle.ee_plan.specs.Start.{AreLive, IsStartOf}
-use Rattle.ee_commands.specs.ToldSizes.{ForgetsLive, asked_by_calls, writes_list, made_by_calls, wants_memory}
+use Rattle.ee_commands.specs.ToldSizes.{ForgetsLive, asked_by_calls, is_of_several, made_by_calls, wants_memory}
 use Rattle.ee_commands.proofs.MadeRuns.{ArePlain, AreProper, counted, not_counted, plain_behind}
 use Rattle.ee_core.proofs.Public.{not_both}
 
@@ -188,7 +188,7 @@ all_made (Wrote address value (Err write.Memory) ∷ calls) old new run whole gi
 all_made (Wrote address value (Err write.Cut) ∷ calls) old new run whole given are =
     let cut : is_cut (Wrote address value (Err write.Cut)) ≡ false = (whole 0 (Wrote address value (Err write.Cut)) (omega arith)).0 in absurd cc
 all_made (WroteAll puts answer ∷ calls) old new run whole given are =
-    let listed : writes_list (WroteAll puts answer) ≡ false = (whole 0 (WroteAll puts answer) (omega arith)).1 in absurd cc
+    let listed : is_of_several (WroteAll puts answer) ≡ false = (whole 0 (WroteAll puts answer) (omega arith)).1 in absurd cc
 all_made (Forgot address (Ok Appended) ∷ calls) old new run whole given are =
     let call = Forgot address (Ok Appended) in
     appends_all old run.0 call calls (changes.Forget address) (meaning.Forget address) refl refl (forgets old address) refl run.1
@@ -204,6 +204,8 @@ all_made (Forgot address (Err forget.Spent) ∷ calls) old new run whole given a
     absurd (never_spent old now moves (changes.Forget address) (asked_by_calls calls) here run.1.2)
 all_made (Forgot address (Err forget.Cut) ∷ calls) old new run whole given are =
     let cut : is_cut (Forgot address (Err forget.Cut)) ≡ false = (whole 0 (Forgot address (Err forget.Cut)) (omega arith)).0 in absurd cc
+all_made (Cleared answer ∷ calls) old new run whole given are =
+    let several : is_of_several (Cleared answer) ≡ false = (whole 0 (Cleared answer) (omega arith)).1 in absurd cc
 all_made (Cleaned (Ok true) ∷ calls) old new run whole given are =
     let call = Cleaned (Ok true) in
     asks_nothing old run.0 call calls refl refl refl run.1.goes_on.same_power run.1.goes_on.same_size (ap (λ (s : State). s.map) run.1.state_is)

@@ -9,7 +9,7 @@ use Rattle.ee_pages.specs.Meaning as meaning
 use Rattle.ee_pages.proofs.Public.{live_to-suc, live_to-zero}
 use Rattle.ee_core.specs.Calls.{ErasesOne}
 use Rattle.ee_core.specs.Changes.{Appends, IsSpent, Moves}
-use Rattle.ee_core.specs.Runs.{Call, Wrote, WroteAll, Forgot, Cleaned, DidRead, Follows, IsRun, changes_of_call, is_transfer, transfers}
+use Rattle.ee_core.specs.Runs.{Call, Wrote, WroteAll, Forgot, Cleared, Cleaned, DidRead, Follows, IsRun, changes_of_call, is_transfer, transfers}
 use Rattle.ee_core.specs.State.{State, state_of}
 use Rattle.ee_core.specs.declared.variables.ForgetFault.TheVariants as forget
 use Rattle.ee_check.proofs.Public.{changed-le}
@@ -19,7 +19,7 @@ use Rattle.ee_check.specs.Live.{live_after_one}
 use Rattle.ee_check.specs.Schedule.{Append, Carry, Copy, EachMove, IsAllowed, IsProper, Move, Situation, after_move, changes_of, cost}
 use Rattle.ee_plan.proofs.Public.{live_after_forget, live_after_put, live_count_is, forgetting_fits}
 use Rattle.ee_plan.specs.Start.{AreLive}
-use Rattle.ee_commands.specs.ToldSizes.{asked_by_calls, writes_list}
+use Rattle.ee_commands.specs.ToldSizes.{asked_by_calls, is_of_several}
 use Rattle.ee_commands.proofs.MadeRuns.{ArePlain, AreProper, IsPlain, behind_proper, by_one_change, counted, live_after, not_counted, plain_behind, traced}
 
 -- ---- maps of which one has a value wherever the other has one
@@ -282,7 +282,7 @@ module _ (old mid : Device) (call : Call) (calls : List Call) where
 -- ---- a run
 
 -- a call that made a change asked for it
-asked_first : (call : Call) (calls : List Call) (change : meaning.Change) → writes_list call ≡ false → changes_of_call call ≡ change ∷ [] → asked_by_calls (call ∷ calls) ≡ traced change ∷ asked_by_calls calls
+asked_first : (call : Call) (calls : List Call) (change : meaning.Change) → is_of_several call ≡ false → changes_of_call call ≡ change ∷ [] → asked_by_calls (call ∷ calls) ≡ traced change ∷ asked_by_calls calls
 asked_first call calls change h1 h2 = search rules
 
 -- a call that left the device as it was, and what follows
@@ -302,6 +302,7 @@ unwritten (Forgot address (Err forget.Off)) calls old mid new plain done run who
 unwritten (Forgot address (Err forget.Spent)) calls old mid new plain done run whole are still none same later =
     none_follows old mid (Forgot address (Err forget.Spent)) calls still (no_more_moves calls mid new run whole (as_before old mid same (inr done.2)))
 unwritten (Forgot address (Err forget.Cut)) calls old mid new plain done run whole are still none same later = let uncut = plain.0 in absurd cc
+unwritten (Cleared answer) calls old mid new plain done run whole are still none same later = let unlisted = plain.1 in absurd cc
 unwritten (Cleaned answer) calls old mid new plain done run whole are still none same later = none_done old mid (Cleaned answer) calls refl still same (later are)
 unwritten (DidRead address answer) calls old mid new plain done run whole are still none same later =
     none_done old mid (DidRead address answer) calls refl still same (later are)

@@ -6,6 +6,8 @@ mod Pages
 mod PageStates
 mod Traces
 mod OneTask
+mod Rescued
+mod Cleared
 mod Planned
 mod Sizes
 mod MadeRuns

@@ -27,7 +27,7 @@ use Rattle.ee_plan.specs.Start.{AreLive, IsStartOf}
 use Rattle.ee_script.specs.declared.command.Command.{Command}
 use Rattle.ee_script.specs.declared.command.Command.TheVariants as command
 use Rattle.ee_commands.specs.Planning.{IsTraceCommand}
-use Rattle.ee_commands.specs.ToldSizes.{writes_list, made_by_calls}
+use Rattle.ee_commands.specs.ToldSizes.{is_of_several, made_by_calls}
 use Rattle.ee_image_store.specs.Trace.{trace_of}
 
 -- ---- the addresses of a script
@@ -139,9 +139,9 @@ carry_then old mid start call calls change meant one moved done is live fits fol
     subst (λ (size : Size). IsStartOf (slot_count size) (state_of mid) (after_move start (Carry change))) (sym done.goes_on.same_size) here in
     carry_first start call calls change one moved used fits (follows there kept)
 
--- power was not cut in the call, and it is not of a list
+-- power was not cut in the call, and it is not of a list, nor a clear
 abbrev pub IsPlain : Call → Type 0
-IsPlain call = (is_cut call ≡ false) × (writes_list call ≡ false)
+IsPlain call = (is_cut call ≡ false) × (is_of_several call ≡ false)
 
 abbrev pub ArePlain : List Call → Type 0
 ArePlain calls = All IsPlain calls
@@ -150,7 +150,7 @@ pub plain_behind : (call : Call) (calls : List Call) → ArePlain (call ∷ call
 plain_behind call calls whole = All-tail IsPlain call calls whole
 
 -- it made one change at the most
-one_made : (call : Call) → writes_list call ≡ false → length (changes_of_call call) ≤ 1
+one_made : (call : Call) → is_of_several call ≡ false → length (changes_of_call call) ≤ 1
 one_made call h1 = search (rules, arith)
 
 one_moved : (holds : Bool → List meaning.Change → Type 0) (old new : Device) (moved : List meaning.Change) → length moved ≤ 1 → Moves old moved new
@@ -174,7 +174,7 @@ traced (Put address value) = changes.Write address
 traced (meaning.Forget address) = changes.Forget address
 
 -- what a call made comes before what the calls behind it made
-made_first : (call : Call) (calls : List Call) → writes_list call ≡ false → made_by_calls (call ∷ calls) ≡ map traced (changes_of_call call) ++ made_by_calls calls
+made_first : (call : Call) (calls : List Call) → is_of_several call ≡ false → made_by_calls (call ∷ calls) ≡ map traced (changes_of_call call) ++ made_by_calls calls
 made_first call calls h1 = search rules
 
 pub behind_proper : (change : Change) (trace : List Change) → AreProper (change ∷ trace) → AreProper trace

@@ -19,7 +19,7 @@ use Rattle.ee_planner.specs.Rounds.{IsDemand, fresh, repeated_trace}
 use Rattle.ee_plan.specs.Start.{AreLive, IsStartOf}
 use Rattle.ee_planner.specs.declared.demand.Demand.{Demand}
 use Rattle.ee_planner.specs.declared.demand.Demand.TheVariants.{Transfers, NotFitting}
-use Rattle.ee_commands.specs.ToldSizes.{ForgetsLive, IsDemandOf, WearsAsTold, asked_by_calls, writes_list, made_by_calls, wants_memory}
+use Rattle.ee_commands.specs.ToldSizes.{ForgetsLive, IsDemandOf, WearsAsTold, asked_by_calls, is_of_several, made_by_calls, wants_memory}
 use Rattle.ee_commands.specs.Sizing.{AreDemands, IsSized, erases_for, is_spent_by, most_transfers}
 use Rattle.ee_commands.proofs.AllMade.{all_made}
 use Rattle.ee_commands.proofs.AskedRuns.{IsBelow, bounded}
@@ -116,7 +116,7 @@ wears cycles most calls blank old new formats whole few =
           omega (arith, few, leb-true (erases_for most) cycles (and_parts (leb most most_transfers) (leb (erases_for most) cycles) within).1, no_page_wears_more_lem calls old new page whole formats.store.legal none_waits h);
     }
 
-both_plain : (calls : List Call) → All (λ call. is_cut call ≡ false) calls → All (λ call. writes_list call ≡ false) calls → ArePlain calls
+both_plain : (calls : List Call) → All (λ call. is_cut call ≡ false) calls → All (λ call. is_of_several call ≡ false) calls → ArePlain calls
 both_plain calls whole unlisted = λ place call here. (whole place call here, unlisted place call here)
 
 -- the addresses of the script that is made so many times
@@ -125,7 +125,7 @@ all_proper words cycles runs text told some_enough sized = search (rules, repeat
 
 pub each_size_wears_as_told_lem : (text told : List ℕ) (cycles runs most : ℕ) (some_enough : Bool) (calls : List Call) (blank old new : Device)
     → (sized : IsSized old.size.words text cycles runs told some_enough) → IsDemandOf old.size.pages sized.demands (Transfers most)
-    → IsFormatted blank old → IsWholeRun calls old new → All (λ call. writes_list call ≡ false) calls
+    → IsFormatted blank old → IsWholeRun calls old new → All (λ call. is_of_several call ≡ false) calls
     → asked_by_calls calls ≡ repeated_trace runs sized.trace → WearsAsTold cycles most calls old new
 each_size_wears_as_told_lem text told cycles runs most some_enough calls blank old new sized line formats whole unlisted asked =
     let words = old.size.words in
@@ -138,7 +138,7 @@ each_size_wears_as_told_lem text told cycles runs most some_enough calls blank o
     wears cycles most calls blank old new formats whole (omega (arith, few, reached.2))
 
 pub each_size_moves_as_told_lem : (text told : List ℕ) (cycles runs : ℕ) (some_enough : Bool) (calls : List Call) (blank old new : Device)
-    → (sized : IsSized old.size.words text cycles runs told some_enough) → IsFormatted blank old → IsWholeRun calls old new → All (λ call. writes_list call ≡ false) calls
+    → (sized : IsSized old.size.words text cycles runs told some_enough) → IsFormatted blank old → IsWholeRun calls old new → All (λ call. is_of_several call ≡ false) calls
     → made_by_calls calls ≡ repeated_trace runs sized.trace
     → IsDemandOf old.size.pages sized.demands (Transfers (transfers calls)) × WearsAsTold cycles (transfers calls) calls old new
 each_size_moves_as_told_lem text told cycles runs some_enough calls blank old new sized formats whole unlisted made =
@@ -159,7 +159,7 @@ generations_left most device same left = search (rules, ltb-false)
 
 pub each_size_is_made_as_told_lem : (text told : List ℕ) (cycles runs most : ℕ) (some_enough : Bool) (calls : List Call) (blank old new : Device)
     → (sized : IsSized old.size.words text cycles runs told some_enough) → IsDemandOf old.size.pages sized.demands (Transfers most)
-    → IsFormatted blank old → IsOn old → IsWholeRun calls old new → All (λ call. writes_list call ≡ false) calls → All (λ call. wants_memory call ≡ false) calls
+    → IsFormatted blank old → IsOn old → IsWholeRun calls old new → All (λ call. is_of_several call ≡ false) calls → All (λ call. wants_memory call ≡ false) calls
     → asked_by_calls calls ≡ repeated_trace runs sized.trace → ForgetsLive [] (repeated_trace runs sized.trace) → is_spent_by most ≡ false
     → (made_by_calls calls ≡ repeated_trace runs sized.trace) × (transfers calls ≡ most)
 each_size_is_made_as_told_lem text told cycles runs most some_enough calls blank old new sized line formats on whole unlisted given asked held left =

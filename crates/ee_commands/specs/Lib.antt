@@ -1,4 +1,6 @@
 pub mod Images
+pub mod Rescuing
+pub mod Clearing
 pub mod Wear
 pub mod Planning
 pub mod Sizing

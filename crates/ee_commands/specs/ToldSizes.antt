@@ -4,7 +4,7 @@ use Rattle.std.specs.List.{All, Contains}
 use Rattle.ee_flash.specs.Device.{Device, IsOn, wear_at}
 use Rattle.ee_flash.specs.Size.{page_count}
 use Rattle.ee_core.specs.Openings.{IsFormatted}
-use Rattle.ee_core.specs.Runs.{Call, Wrote, WroteAll, Forgot, IsWholeRun, transfers}
+use Rattle.ee_core.specs.Runs.{Call, Wrote, WroteAll, Forgot, Cleared, IsWholeRun, transfers}
 use Rattle.ee_core.specs.declared.variables.WriteFault.TheVariants as write
 use Rattle.ee_check.specs.Live.{live_after_one}
 use Rattle.ee_check.specs.declared.change.Change.{Change}
@@ -14,10 +14,11 @@ use Rattle.ee_planner.specs.declared.demand.Demand.{Demand}
 use Rattle.ee_planner.specs.declared.demand.Demand.TheVariants.{Transfers}
 use Rattle.ee_commands.specs.Sizing.{IsSized, erases_for, is_enough, is_spent_by}
 
--- whether the call is of a list of values
-abbrev pub writes_list : Call → Bool
-writes_list (WroteAll puts answer) = true
-writes_list call = false
+-- whether the call is of a list of values, or a clear
+abbrev pub is_of_several : Call → Bool
+is_of_several (WroteAll puts answer) = true
+is_of_several (Cleared answer) = true
+is_of_several call = false
 
 -- the changes that calls of a store asked for one by one, as a trace, whatever they were answered
 abbrev pub asked_by_calls : List Call → List Change
@@ -60,13 +61,13 @@ pub record WearsAsTold (cycles most : ℕ) (calls : List Call) (old new : Device
       → (page : ℕ) → page < page_count old.size → wear_at new page ≤ wear_at old page + cycles
 
 -- Sizes were told for a script that is made so many times. A device was formatted, and the line of its size tells so many
--- transfers. Calls of its store, none of a list and none in which power is cut, asked for the changes of the script so many
--- times. Then it wears as was told, whatever the calls were answered, and whatever else they read and cleaned.
+-- transfers. Calls of its store, none of a list, none a clear and none in which power is cut, asked for the changes of the
+-- script so many times. Then it wears as was told, whatever the calls were answered, and whatever else they read and cleaned.
 abbrev pub EachSizeWearsAsTold : Type 0
 EachSizeWearsAsTold =
     (text told : List ℕ) (cycles runs most : ℕ) (some_enough : Bool) (calls : List Call) (blank old new : Device)
     → (sized : IsSized old.size.words text cycles runs told some_enough) → IsDemandOf old.size.pages sized.demands (Transfers most)
-    → IsFormatted blank old → IsWholeRun calls old new → All (λ call. writes_list call ≡ false) calls
+    → IsFormatted blank old → IsWholeRun calls old new → All (λ call. is_of_several call ≡ false) calls
     → asked_by_calls calls ≡ repeated_trace runs sized.trace → WearsAsTold cycles most calls old new
 
 -- Where they made the changes of the script so many times, and no others, the line of its size tells just as many transfers
@@ -74,7 +75,7 @@ EachSizeWearsAsTold =
 abbrev pub EachSizeMovesAsTold : Type 0
 EachSizeMovesAsTold =
     (text told : List ℕ) (cycles runs : ℕ) (some_enough : Bool) (calls : List Call) (blank old new : Device)
-    → (sized : IsSized old.size.words text cycles runs told some_enough) → IsFormatted blank old → IsWholeRun calls old new → All (λ call. writes_list call ≡ false) calls
+    → (sized : IsSized old.size.words text cycles runs told some_enough) → IsFormatted blank old → IsWholeRun calls old new → All (λ call. is_of_several call ≡ false) calls
     → made_by_calls calls ≡ repeated_trace runs sized.trace
     → IsDemandOf old.size.pages sized.demands (Transfers (transfers calls)) × WearsAsTold cycles (transfers calls) calls old new
 
@@ -84,6 +85,6 @@ abbrev pub EachSizeIsMadeAsTold : Type 0
 EachSizeIsMadeAsTold =
     (text told : List ℕ) (cycles runs most : ℕ) (some_enough : Bool) (calls : List Call) (blank old new : Device)
     → (sized : IsSized old.size.words text cycles runs told some_enough) → IsDemandOf old.size.pages sized.demands (Transfers most)
-    → IsFormatted blank old → IsOn old → IsWholeRun calls old new → All (λ call. writes_list call ≡ false) calls → All (λ call. wants_memory call ≡ false) calls
+    → IsFormatted blank old → IsOn old → IsWholeRun calls old new → All (λ call. is_of_several call ≡ false) calls → All (λ call. wants_memory call ≡ false) calls
     → asked_by_calls calls ≡ repeated_trace runs sized.trace → ForgetsLive [] (repeated_trace runs sized.trace) → is_spent_by most ≡ false
     → (made_by_calls calls ≡ repeated_trace runs sized.trace) × (transfers calls ≡ most)

@@ -4,7 +4,7 @@ use Rattle.ee_text.specs.Line.{line_of}
 use Rattle.ee_faults.specs.declared.fault.File.{File}
 use Rattle.ee_faults.specs.declared.fault.File.TheVariants.{Image, Before, Script, Certificate, Settings, Dump, Values}
 use Rattle.ee_faults.specs.declared.fault.Fault.{Fault}
-use Rattle.ee_faults.specs.declared.fault.Fault.TheVariants.{CannotRead, TooLong, CannotWriteImage, ImageChanged, CannotWriteDump, CannotWriteOutput, BadLine, BadShape, Unformatted, NoLiveSet, TwoLive, Foreign, SettingsText, BadName, BadField, BadRange, SameAddress, UnknownName, OutOfRange, Full, Spent, NotFitting, WrongStart, NotRising, WrongFrom, NotForced, OtherShape, Backwards, NoSizeEnough, DumpLength, LowPair, TornWord, Base, ValuesText, BadValue, UnknownValue, ValueOutOfRange, FullAt, SpentAt, Memory}
+use Rattle.ee_faults.specs.declared.fault.Fault.TheVariants.{CannotRead, TooLong, CannotWriteImage, ImageChanged, CannotWriteDump, CannotWriteOutput, BadLine, BadShape, Unformatted, NoLiveSet, TwoLive, Foreign, SettingsText, BadName, BadField, BadRange, SameAddress, UnknownName, OutOfRange, Full, Spent, NothingToRescue, NotFitting, WrongStart, NotRising, WrongFrom, NotForced, OtherShape, Backwards, NoSizeEnough, DumpLength, LowPair, TornWord, Base, ValuesText, BadValue, UnknownValue, ValueOutOfRange, FullAt, SpentAt, Memory}
 use Rattle.ee_image.specs.declared.fault.ImageFault.{ImageFault}
 use Rattle.ee_image.specs.declared.fault.ImageFault.TheVariants as image
 use Rattle.ee_pages.specs.declared.find.ScanFault.{ScanFault}
@@ -54,6 +54,7 @@ cause UnknownName = codes "unknown name"
 cause (OutOfRange min max) = codes "out of range " ++ decimal min ++ codes " " ++ decimal max
 cause Full = codes "full"
 cause Spent = codes "spent"
+cause NothingToRescue = codes "nothing to rescue"
 cause (NotFitting change) = codes "not fitting " ++ decimal change
 cause WrongStart = codes "wrong start"
 cause (NotRising stretch) = codes "not rising " ++ decimal stretch
@@ -84,6 +85,7 @@ status UnknownName = 4
 status (OutOfRange min max) = 4
 status Full = 4
 status Spent = 4
+status NothingToRescue = 4
 status (NotFitting change) = 4
 status WrongStart = 4
 status (NotRising stretch) = 4

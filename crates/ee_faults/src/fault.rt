@@ -109,9 +109,12 @@ pub enum Fault {
     /// The address has no value, and as many addresses have one as there are slots.
     #[error("full")]
     Full,
-    /// No slot is free, and no generation is left for a transfer.
+    /// A transfer is needed, and no generation is left for it.
     #[error("spent")]
     Spent,
+    /// No set of the image is begun: it has nothing that could be rescued.
+    #[error("nothing to rescue")]
+    NothingToRescue,
     /// This change of the trace, counted from 1, is the first that makes more addresses live than there are slots.
     #[error("not fitting {0}")]
     NotFitting(u64),
@@ -221,6 +224,7 @@ impl Fault {
             Fault::OutOfRange { .. } => "out of range ",
             Fault::Full => "full",
             Fault::Spent => "spent",
+            Fault::NothingToRescue => "nothing to rescue",
             Fault::NotFitting(_) => "not fitting ",
             Fault::WrongStart => "wrong start",
             Fault::NotRising(_) => "not rising ",
@@ -437,6 +441,7 @@ pub fn status_of(fault: &Fault) -> u8
         | Fault::OutOfRange { .. }
         | Fault::Full
         | Fault::Spent
+        | Fault::NothingToRescue
         | Fault::NotFitting(_)
         | Fault::WrongStart
         | Fault::NotRising(_)

@@ -3,4 +3,5 @@ mod OneCause
 mod Stores
 mod FileFaults
 mod Openings
+mod Told
 pub mod Public

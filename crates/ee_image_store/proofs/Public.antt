@@ -4,3 +4,4 @@ pub use Rattle.ee_image_store.proofs.FileFaults.{no_memory_for, one_file_fault, 
 pub use Rattle.ee_image_store.proofs.OneCause.{one_open_fault, same_at_rest, same_state, store_is_good}
 pub use Rattle.ee_image_store.proofs.Openings.{memory_or_not, no_memory_to_open, not_opened, opening_good, opening_named}
 pub use Rattle.ee_image_store.proofs.Stores.{formed_of, is_opened}
+pub use Rattle.ee_image_store.proofs.Told.{told_more, told_none}

@@ -4,3 +4,4 @@ pub mod Steps
 pub mod Trace
 pub mod Opening
 pub mod FileFaults
+pub mod Told

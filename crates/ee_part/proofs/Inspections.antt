@@ -1,5 +1,5 @@
 -- What is told of an image, a number, a slot or an address further.
-use Rattle.std.proofs.Common.{nat_lt, inl, inr, ◌≡◌, ◌∙◌, ◌+◌, ◌<◌, ◌≤◌, ℕ, zero, suc, Bool, true, false, not, cond, None, List, [], ◌∷◌, ◌++◌, length, get_or, take, drop, refl, sym, ap, arith, add-one, rules}
+use Rattle.std.proofs.Common.{nat_lt, inl, inr, ◌≡◌, ◌∙◌, ◌+◌, ◌<◌, ◌≤◌, ℕ, zero, suc, Bool, true, false, not, cond, None, List, [], ◌∷◌, ◌++◌, length, get_or, take, drop, refl, sym, ap, arith, rules}
 use Rattle.std.proofs.lemmas.Bool.{cases_Bool, le-ltb}
 use Rattle.std.proofs.Math.Bool.{or-false, or-true}
 use Rattle.std.proofs.lemmas.Grind.{common_steps}
@@ -17,7 +17,8 @@ use Rattle.ee_pages.specs.Page.{is_torn, is_written}
 use Rattle.ee_pages.specs.Sets.{fill_of, front, torn_of}
 use Rattle.ee_pages.specs.declared.find.Layout.{Layout}
 use Rattle.ee_pages.proofs.Public.{fill-front, later-none, length-slots, live_to-suc, live_to-zero, live_within_fill, slots_behind}
-use Rattle.ee_part.specs.Inspecting.{AreSpoken, doubt_line, doubt_lines, each_below, is_before, live_slots, speaks_of, up_to_last}
+use Rattle.ee_image_store.specs.Told.{each_below}
+use Rattle.ee_part.specs.Inspecting.{AreSpoken, doubt_line, doubt_lines, is_before, live_slots, speaks_of, up_to_last}
 
 -- four parts of a text, one behind another
 pub four_parts : (old a b given c d first second third fourth : List ℕ) → first ≡ old ++ a → second ≡ first ++ given → given ≡ b → third ≡ second ++ c
@@ -25,19 +26,6 @@ pub four_parts : (old a b given c d first second third fourth : List ℕ) → fi
 four_parts old a b given c d first second third fourth one two same three four = grind (arith, common_steps)
 
 -- ---- what is told of each number
-
-more_below : (n : ℕ) (text : ℕ → List ℕ) → each_below (n + 1) text ≡ each_below n text ++ text n
-unfolding each_below
-more_below n text = rw add-one refl
-
-pub told_none : (text : ℕ → List ℕ) (old : List ℕ) → old ≡ old ++ each_below 0 text
-unfolding each_below
-told_none text old = sym (append-nil old)
-
--- one number more
-pub told_more : (n : ℕ) (text : ℕ → List ℕ) (old out new : List ℕ) → out ≡ old ++ each_below n text → new ≡ out ++ text n
-    → new ≡ old ++ each_below (n + 1) text
-told_more n text old out new so_far written = grind (arith, common_steps, more_below)
 
 pub told_alike : (n : ℕ) (text other : ℕ → List ℕ) → ((k : ℕ) → k < n → text k ≡ other k) → each_below n text ≡ each_below n other
 unfolding each_below

@@ -1,6 +1,6 @@
 -- What `inspect` tells of an image: what a scan finds, how the live set is used, which words are torn, and of which
 -- addresses the latest change may be lost.
-use Rattle.std.specs.Prelude.{◌≡◌, ◌<◌, ◌+◌, ◌-◌, ◌&&◌, ℕ, zero, suc, nat_le, nat_lt, if◌then◌else◌, is_some, Bool, List, [], ◌∷◌, ◌++◌, length, slice_index_or, Option, Some, None, Result, Ok, Err, MatchResult, codes, decimal}
+use Rattle.std.specs.Prelude.{◌≡◌, ◌<◌, ◌+◌, ◌-◌, ◌&&◌, ℕ, suc, nat_le, nat_lt, if◌then◌else◌, is_some, Bool, List, [], ◌∷◌, ◌++◌, length, slice_index_or, Option, Some, None, Result, Ok, Err, MatchResult, codes, decimal}
 use Rattle.std.specs.List.{list_any}
 use Rattle.ee_text.specs.Field.{joined_fields}
 use Rattle.ee_text.specs.Line.{line_of}
@@ -18,12 +18,8 @@ use Rattle.ee_pages.specs.declared.side.Side.{Side}
 use Rattle.ee_pages.specs.declared.side.Side.TheVariants.{First, Second}
 use Rattle.ee_core.specs.State.{capacity, state_with}
 use Rattle.ee_image_store.specs.Opening.{SpellsDevice}
+use Rattle.ee_image_store.specs.Told.{each_below}
 use Rattle.ee_part.specs.declared.inspecting.Usage.{Usage}
-
--- what there is to say of each number below this one, by rising number
-unfoldable pub each_below : ℕ → (ℕ → List ℕ) → List ℕ
-each_below zero text = []
-each_below (suc number) text = each_below number text ++ text number
 
 -- ---- the scan
 

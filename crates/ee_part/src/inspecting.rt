@@ -7,7 +7,8 @@ ghost use Rattle.ee_pages.specs.Layout.{IsLayout};
 ghost use Rattle.ee_pages.specs.Meaning.{live_in, meaning};
 ghost use Rattle.ee_pages.specs.Page.{is_torn as torn};
 ghost use Rattle.ee_image_store.specs.FileFaults.{IsReadingFault};
-ghost use Rattle.ee_part.specs.Inspecting.{AreFindings, AreSpoken, IsInspected, doubt_line, doubt_lines, each_below, found_lines, gives_to, is_before, live_slots, parts_text, place_name, scan_words, set_number, set_text, slots_text, speaks_of, torn_line, torn_lines, up_to_last, usage_in};
+ghost use Rattle.ee_image_store.specs.Told.{each_below};
+ghost use Rattle.ee_part.specs.Inspecting.{AreFindings, AreSpoken, IsInspected, doubt_line, doubt_lines, found_lines, gives_to, is_before, live_slots, parts_text, place_name, scan_words, set_number, set_text, slots_text, speaks_of, torn_line, torn_lines, up_to_last, usage_in};
 ghost use Rattle.ee_faults.specs.Causes.{NamesEach};
 
 use crate::image::read_part;

@@ -7,7 +7,8 @@ use ee_by_name::{
 };
 use ee_command_line::{HELP, Job, VERSION, job, read_whole, write_whole};
 use ee_commands::{
-    check_script, clean_image, format_image, plan_script, size_parts, states_text, wear_text,
+    check_script, clean_image, clear_image, format_image, plan_script, rescue_image, size_parts,
+    states_text, wear_text,
 };
 use ee_faults::{Fault, File, fault_line, status_of};
 use ee_files::{FileLocks, save};
@@ -103,6 +104,8 @@ fn work<R: FileLocks + Input + Print + AllocGlobal>(rt: &R, job: &Job<'_>) -> Re
         Job::Wear { image, before } => tell_wear(rt, image, before),
         Job::States { image } => tell_states(rt, image),
         Job::Clean { image } => clean_file(rt, image),
+        Job::Rescue { image } => rescue_file(rt, image),
+        Job::Clear { image } => clear_file(rt, image),
         Job::Stale { image, settings } => tell_stale(rt, image, settings),
         Job::Tidy { image, settings } => tidy_file(rt, image, settings),
         Job::List { image, settings } => tell_values(rt, image, settings),
@@ -337,6 +340,20 @@ fn clean_file<R: FileLocks + Print + AllocGlobal>(rt: &R, image: &str) -> Result
     let before = read_file(rt, File::Image, image)?;
     let cleaned = clean_image(rt.alloc(), &before);
     write_changed(rt, image, &before, cleaned)
+}
+
+/// Makes an image legal, whatever stands in it, writes it in its place, and prints its bad words.
+fn rescue_file<R: FileLocks + Print + AllocGlobal>(rt: &R, image: &str) -> Result<(), Fault> {
+    let before = read_file(rt, File::Image, image)?;
+    let rescued = rescue_image(rt.alloc(), &before);
+    write_changed(rt, image, &before, rescued)
+}
+
+/// Forgets all addresses of an image, writes it in its place, and prints how many had a value.
+fn clear_file<R: FileLocks + Print + AllocGlobal>(rt: &R, image: &str) -> Result<(), Fault> {
+    let before = read_file(rt, File::Image, image)?;
+    let cleared = clear_image(rt.alloc(), &before);
+    write_changed(rt, image, &before, cleared)
 }
 
 /// Prints the settings whose stored value in an image isn't in their range.

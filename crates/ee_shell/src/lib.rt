@@ -33,7 +33,8 @@
 //! `tidied`, `list`, `wear`); of these nine each fault is the first that applies, and none is passed over (`fault`,
 //! `names`). What `format_image`, `clean_image` and `set_setting` leave is said word for word, as what formatting
 //! leaves of a new device, and as what an opening and the clean steps or the write leave (`formatted`, `cleaned`,
-//! `set`); `states_text` gives the state of each page (`states`; `fault`, `names`). `laws` joins what `size_parts`
+//! `set`); so is what `rescue_image` leaves of any image, which tells each bad word, and what `clear_image` leaves, in
+//! which no address has a value (`rescued`, `cleared`; `fault`, `names`); `states_text` gives the state of each page (`states`; `fault`, `names`). `laws` joins what `size_parts`
 //! tells to the store: one that is formatted and then asked, without cuts, for the changes of a script so many times
 //! moves the map no more often than the line of its size tells, and erases no page more often, whatever it answers
 //! (`each_size_wears_as_told`); it moves the map just as often where it makes all these changes and no others
@@ -48,8 +49,8 @@ pub use ee_by_name::{
     tidy_image,
 };
 pub use ee_commands::{
-    PartSizes, check_script, clean_image, format_image, plan_script, size_parts, states_text,
-    wear_text,
+    PartSizes, check_script, clean_image, clear_image, format_image, plan_script, rescue_image,
+    size_parts, states_text, wear_text,
 };
 pub use ee_image_store::ImageAndText;
 pub use ee_part::{Form, export_hex, export_image, import_hex, import_image, inspect_text};

@@ -8,8 +8,8 @@ use Rattle.ee_part.proofs.inspecting.count_live.Goals.{then-is_last_of, else-is_
 pub slots-init : goal.slots-init
 slots-init g c = search (rules, none_counted)
 
-pub slot_word-requires-clause-slot_in_range : goal.slot_word-requires-clause-slot_in_range
-slot_word-requires-clause-slot_in_range g c =
+pub slot_word-requires : goal.slot_word-requires
+slot_word-requires g c =
     slot_in_range (g.F.Flash.device c.args.flash.now) c.args.layout.now c.requires.layout c.slots.slot c.slots-test.true
 
 pub slots-preserved : goal.slots-preserved

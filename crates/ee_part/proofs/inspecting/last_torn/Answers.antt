@@ -4,8 +4,8 @@ use Rattle.ee_pages.proofs.Public.{length-slots}
 use Rattle.ee_part.proofs.Inspections.{last_in_fill, last_same, last_there, slot_in_range}
 use Rattle.ee_part.proofs.inspecting.last_torn.Goals as goal
 
-pub slot_word-requires-clause-slot_in_range : goal.slot_word-requires-clause-slot_in_range
-slot_word-requires-clause-slot_in_range g c = slot_in_range (g.F.Flash.device c.args.flash.now) c.args.layout.now c.requires c.slots.slot c.slots-test.true
+pub slot_word-requires : goal.slot_word-requires
+slot_word-requires g c = slot_in_range (g.F.Flash.device c.args.flash.now) c.args.layout.now c.requires c.slots.slot c.slots-test.true
 
 pub slots-preserved : goal.slots-preserved
 slots-preserved g c = search (rules, last_there, last_same, length-slots, slot_in_range)

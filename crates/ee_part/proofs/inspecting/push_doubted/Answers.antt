@@ -1,4 +1,5 @@
-use Rattle.ee_part.proofs.Inspections.{none_doubted, told_more, told_none}
+use Rattle.ee_image_store.proofs.Public.{told_more, told_none}
+use Rattle.ee_part.proofs.Inspections.{none_doubted}
 use Rattle.ee_part.proofs.inspecting.push_doubted.Goals as goal
 
 pub addresses-init : goal.addresses-init

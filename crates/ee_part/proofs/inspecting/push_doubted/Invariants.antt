@@ -1,5 +1,6 @@
 use Rattle.std.proofs.Common.{◌≡◌, ◌++◌, get_or}
-use Rattle.ee_part.specs.Inspecting.{doubt_line, each_below, is_before}
+use Rattle.ee_image_store.specs.Told.{each_below}
+use Rattle.ee_part.specs.Inspecting.{doubt_line, is_before}
 use Rattle.ee_part.proofs.inspecting.push_doubted.Given as goal
 
 -- the lines of the addresses so far are written

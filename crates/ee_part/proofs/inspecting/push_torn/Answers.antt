@@ -1,4 +1,4 @@
-use Rattle.ee_part.proofs.Inspections.{told_more, told_none}
+use Rattle.ee_image_store.proofs.Public.{told_more, told_none}
 use Rattle.ee_part.proofs.inspecting.push_torn.Goals as goal
 
 pub pages-init : goal.pages-init

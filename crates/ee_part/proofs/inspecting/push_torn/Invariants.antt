@@ -1,5 +1,6 @@
 use Rattle.std.proofs.Common.{◌≡◌, ◌++◌}
-use Rattle.ee_part.specs.Inspecting.{each_below, torn_line}
+use Rattle.ee_image_store.specs.Told.{each_below}
+use Rattle.ee_part.specs.Inspecting.{torn_line}
 use Rattle.ee_part.proofs.inspecting.push_torn.Given as goal
 
 -- the lines of the pages so far are written
