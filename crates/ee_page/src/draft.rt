@@ -135,6 +135,13 @@ impl<'w, 'l, K: Lent> Flash for DraftFlash<'w, 'l, K> {
         word
     }
 
+    fn run<'a>(&'a self, page: usize, at: usize, room: &'a mut [u64]) -> &'a [u64] {
+        for (behind, number) in room.iter_mut().enumerate() {
+            *number = self.word(page, at + behind).number();
+        }
+        room
+    }
+
     fn program(&mut self, page: usize, at: usize, value: u64) -> Result<(), Cut> {
         if !self.on {
             return Err(Cut);

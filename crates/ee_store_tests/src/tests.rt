@@ -9,6 +9,7 @@ mod formats;
 mod outside;
 mod pairs;
 mod refused_opening;
+mod rescues;
 mod tidying;
 
 use ee_codec::Address;

@@ -2,7 +2,7 @@
 use crate::tests::{address, opened, same, shape};
 use ee_fakes::ListFlash;
 use ee_flash::Flash;
-use ee_store::{IndexedStore, Variables, format};
+use ee_store::{Variables, format, open_indexed};
 use std::alloc::Global;
 use std::process::Abort;
 
@@ -32,9 +32,7 @@ fn read_often<V: Variables>(rt: &impl Abort, store: &V, number: u16, times: u32)
 fn by_index(rt: &impl Abort, memory: Global, number: u16, times: u32) -> u64 {
     let mut flash = filled(rt, memory);
     flash.power_on();
-    let store = IndexedStore::open(memory, flash)
-        .ok()
-        .expect(rt, "no store");
+    let store = open_indexed(memory, flash).ok().expect(rt, "no store");
     read_often(rt, &store, number, times);
     store.into_flash().reads()
 }

@@ -3,7 +3,7 @@ use crate::tests::{device, same, text_of};
 use ee_fakes::Refusing;
 use ee_fakes::images::ONE_MOVE;
 use ee_flash::{Flash, MemFlash};
-use ee_store::{IndexedFault, IndexedStore};
+use ee_store::{IndexedFault, open_indexed};
 use std::alloc::Global;
 use std::process::Abort;
 
@@ -17,7 +17,7 @@ const UNFINISHED: &[u8] = b"ee 1 6
 fn refused(rt: &impl Abort, memory: Global, mut flash: MemFlash) -> MemFlash {
     let heap = Refusing::new(memory, 1);
     flash.power_on();
-    match IndexedStore::open(&heap, flash) {
+    match open_indexed(&heap, flash) {
         Err((flash, IndexedFault::Memory)) => flash,
         _ => panic!(rt; "not refused"),
     }

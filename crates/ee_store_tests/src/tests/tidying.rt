@@ -4,7 +4,7 @@ use ee_codec::Address;
 use ee_fakes::images::{TIDIED, TWO_MOVES, VOLUME};
 use ee_flash::{Flash, Fuse, MemFlash, Tear};
 use ee_settings::{Reading, Schema, TidyFault};
-use ee_store::{IndexedStore, Store, Variables};
+use ee_store::{IndexedStore, Store, Variables, open_indexed};
 use std::alloc::Global;
 use std::process::Abort;
 
@@ -37,9 +37,7 @@ fn moved_twice(rt: &impl Abort, memory: Global, fuse: Option<Fuse>) -> MemFlash 
 // The store with an index of a device, with power turned on.
 fn reopened(rt: &impl Abort, memory: Global, mut flash: MemFlash) -> IndexedStore<MemFlash> {
     flash.power_on();
-    IndexedStore::open(memory, flash)
-        .ok()
-        .expect(rt, "no store")
+    open_indexed(memory, flash).ok().expect(rt, "no store")
 }
 
 // Whether the setting is the one that is stale, and reads as its default.

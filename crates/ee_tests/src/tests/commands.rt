@@ -29,6 +29,8 @@ const ROWS: &[(&str, &[&str])] = &[
     ("wear", &["IMAGE", "[BEFORE]"]),
     ("states", &["IMAGE"]),
     ("clean", &["IMAGE"]),
+    ("rescue", &["IMAGE"]),
+    ("clear", &["IMAGE"]),
     ("stale", &["IMAGE", "SETTINGS"]),
     ("tidy", &["IMAGE", "SETTINGS"]),
     ("list", &["IMAGE", "[SETTINGS]"]),
@@ -61,6 +63,8 @@ ee wear a.image
 ee wear a.image b.image
 ee states a.image
 ee clean a.image
+ee rescue a.image
+ee clear a.image
 ee stale a.image a.settings
 ee tidy a.image a.settings
 ee list a.image
@@ -331,6 +335,8 @@ fn told_of_parts<'a>(job: &Job<'a>) -> Told<'a> {
         Job::Wear { image, before } => ("wear", [Text(image), text_or_no(before), No, No, No, No]),
         Job::States { image } => ("states", [Text(image), No, No, No, No, No]),
         Job::Clean { image } => ("clean", [Text(image), No, No, No, No, No]),
+        Job::Rescue { image } => ("rescue", [Text(image), No, No, No, No, No]),
+        Job::Clear { image } => ("clear", [Text(image), No, No, No, No, No]),
         Job::Inspect { image } => ("inspect", [Text(image), No, No, No, No, No]),
         _ => ("", [No, No, No, No, No, No]),
     }

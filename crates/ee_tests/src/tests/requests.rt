@@ -87,6 +87,8 @@ const CALLS: &[(Call, u64)] = &[
     (Call::Text(Text::Inspect, SCAN), 3),
     (Call::Text(Text::Header, HEADER), 2),
     (Call::Change(Change::Clean), 4),
+    (Call::Change(Change::Rescue), 4),
+    (Call::Change(Change::Clear), 4),
     (Call::Change(Change::Set), 5),
     (Call::Change(Change::Tidy), 6),
     (Call::Change(Change::Apply), 5),

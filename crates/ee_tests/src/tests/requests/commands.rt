@@ -7,10 +7,10 @@ use ee_faults::{Fault, ReplayFault, fault_line};
 use ee_flash::Shape;
 use ee_pages::ScanFault;
 use ee_shell::{
-    Form, ImageAndText, Language, Replayed, apply_values, check_script, clean_image, export_hex,
-    export_image, format_image, get_setting, header_text, import_hex, import_image, inspect_text,
-    list_text, plan_script, replay, replay_indexed, replay_reader, set_setting, size_parts,
-    stale_text, states_text, tidy_image, try_script, wear_text,
+    Form, ImageAndText, Language, Replayed, apply_values, check_script, clean_image, clear_image,
+    export_hex, export_image, format_image, get_setting, header_text, import_hex, import_image,
+    inspect_text, list_text, plan_script, replay, replay_indexed, replay_reader, rescue_image,
+    set_setting, size_parts, stale_text, states_text, tidy_image, try_script, wear_text,
 };
 use std::alloc::{Allocator, Global};
 
@@ -34,6 +34,23 @@ pub fn gives<A: Allocator>(given: Result<Vec<u8, A>, Fault>, wanted: &[u8]) -> O
 pub const TEN: &[u8] = b"ee 1 6
 0 aaaaaaaa00000001 aaaaaaaaaaaaaaaa - - 0000000a00000001 -
 0 - - - - - -
+";
+
+/// The same, cleared.
+const CLEARED: &[u8] = b"ee 1 6
+0 aaaaaaaa00000001 aaaaaaaaaaaaaaaa - aaaaaaaaaaaaaaaa 0000000a00000001 -
+0 aaaaaaaa00000002 aaaaaaaaaaaaaaaa - - - -
+";
+
+/// The same, with a word that no store wrote, and rescued from that.
+const BAD: &[u8] = b"ee 1 6
+0 aaaaaaaa00000001 aaaaaaaaaaaaaaaa - - 0000000a00000001 0000000b00000000
+0 - - - - - -
+";
+
+const RESCUED: &[u8] = b"ee 1 6
+0 aaaaaaaa00000001 aaaaaaaaaaaaaaaa - aaaaaaaaaaaaaaaa 0000000a00000001 0000000b00000000
+0 aaaaaaaa00000002 aaaaaaaaaaaaaaaa - - 0000000a00000001 -
 ";
 
 /// The part of the formatted image, as bytes and as Intel HEX from 0807f000 on.
@@ -199,6 +216,8 @@ pub fn replays<A: Allocator>(
 #[derive(Clone, Copy)]
 pub enum Change {
     Clean,
+    Rescue,
+    Clear,
     Set,
     Tidy,
     Apply,
@@ -208,6 +227,11 @@ pub enum Change {
 pub fn change_given(change: Change, alloc: &Refusing<Global>, heap: Global) -> Option<bool> {
     let (given, image, text): (_, _, &[u8]) = match change {
         Change::Clean => (clean_image(alloc, ONE_MOVE), CLEANED, b"cleaned 1\n"),
+        Change::Rescue => {
+            let given = rescue_image(alloc, BAD);
+            (given, RESCUED, b"bad 0 5 slot\nrescued live 1 bad 1\n")
+        }
+        Change::Clear => (clear_image(alloc, TEN), CLEARED, b"cleared 1\n"),
         Change::Set => {
             let given = set_setting(alloc, heap, FORMATTED, VOLUME, "volume", 10);
             (given, TEN, b"set\n")

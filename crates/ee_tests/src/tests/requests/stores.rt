@@ -7,7 +7,7 @@ use ee_fakes::{ListFlash, Refusing};
 use ee_flash::{Flash, MemFlash};
 use ee_store::{
     Answer, Event, IndexedFault, IndexedStore, Put, Store, Variables, WriteAllFault, WriteFault,
-    Written, drive, format,
+    Written, drive, format, open_indexed,
 };
 use std::alloc::Global;
 use std::process::Abort;
@@ -114,7 +114,7 @@ pub fn index_opened(alloc: &Refusing<Global>, rt: &impl Abort, memory: Global) -
     same(rt, "written", are_written(rt, &mut store), Some(true));
     let mut flash = store.into_flash();
     flash.power_on();
-    match IndexedStore::open(alloc, flash) {
+    match open_indexed(alloc, flash) {
         Ok(store) => Some(has_all(&store)),
         Err((_, IndexedFault::Memory)) => None,
         Err(_) => Some(false),
@@ -129,7 +129,7 @@ fn empty_index<'a>(
 ) -> Option<IndexedStore<MemFlash, &'a Refusing<Global>>> {
     let mut flash = new_store(rt, memory).into_flash();
     flash.power_on();
-    IndexedStore::open(alloc, flash).ok()
+    open_indexed(alloc, flash).ok()
 }
 
 pub fn index_written(alloc: &Refusing<Global>, rt: &impl Abort, memory: Global) -> Option<bool> {
