@@ -1,0 +1,148 @@
+// Made by desk/erase from crates/ee_by_name/src/applying.rt. Change that file.
+//! The command that sets many values at once.
+use crate::rattle::prelude::*;
+
+use super::opening::{open_with_settings, read_table};
+use crate::ee_codec::Address;
+use crate::ee_core::{Store, Variables, WriteFault, Written};
+use crate::ee_faults::Fault;
+use crate::ee_flash::MemFlash;
+use crate::ee_image_store::{ImageAndText, text_left};
+use crate::ee_settings::{Numbers, Schema};
+use crate::rattle::alloc::{AllocError, Allocator, Global};
+use crate::rattle::toml::{Table, Value};
+
+/// Writes the values that a text spells for the settings that it names, into the image that a text
+/// spells, and gives the text of the image that this leaves, and what there is to print: `applied N of
+/// M`, N of M entries written. An entry is a setting's name and a whole number; they come by rising
+/// name, in the order of bytes. What is stored already is not written again. `settings` is the text of
+/// the settings. `heap` is for the trees of the texts alone: `toml` takes no other allocator.
+///
+/// Source: ours.
+///
+/// # Errors
+///
+/// The first that applies: the image is no device's, or not legal; the text of the settings is no TOML, or no schema;
+/// the text of the values is no TOML; or an entry, counted from 1, is no whole number, no setting has its name, it is
+/// not in the setting's range, or the store is full, or spent. `Memory` can come in place of any answer.
+pub fn apply_values<A: Allocator + Copy>(
+    alloc: A,
+    heap: Global,
+    image: &[u8],
+    settings: &[u8],
+    values: &[u8],
+) -> Result<ImageAndText<A>, Fault> {
+    let opened = open_with_settings(alloc, heap, image, settings)?;
+    let table = read_table(heap, values, Fault::ValuesText)?;
+    apply_left(alloc, opened.store, &opened.schema, &table)
+}
+
+/// Takes the entries of a table by a store whose power stays on, and gives what this leaves.
+fn apply_left<A: Allocator + Copy>(
+    alloc: A,
+    mut store: Store<MemFlash<A>>,
+    schema: &Schema<A>,
+    table: &Table,
+) -> Result<ImageAndText<A>, Fault> {
+    let counts = take_entries(&mut store, schema, table)?;
+    let image = text_left(alloc, store)?;
+    let text = applied_line(alloc, counts)?;
+    Ok(ImageAndText { image, text })
+}
+
+/// How many entries there are, and how many of them were written.
+#[derive(Clone, Copy)]
+struct Counts {
+    written: u64,
+    entries: u64,
+}
+
+/// Takes the entries of a table, by rising name. After an error those before it were taken.
+fn take_entries<A: Allocator>(
+    store: &mut Store<MemFlash<A>>,
+    schema: &Schema<A>,
+    table: &Table,
+) -> Result<Counts, Fault> {
+    let entries = table.len() as u64;
+    let mut number = 0;
+    let mut written = 0;
+    for (name, value) in table.iter() {
+        number += 1;
+        written += take_entry(store, schema, number, name.as_str(), value)?;
+    }
+    Ok(Counts { written, entries })
+}
+
+/// Takes an entry, and gives by how many writes: 1, or 0 where its value is stored already. `entry` is its
+/// number, counted from 1.
+fn take_entry<A: Allocator>(
+    store: &mut Store<MemFlash<A>>,
+    schema: &Schema<A>,
+    entry: u64,
+    name: &str,
+    value: &Value,
+) -> Result<u64, Fault> {
+    let value = match value.as_integer() {
+        Some(value) => value,
+        None => return Err(Fault::BadValue(entry)),
+    };
+    let numbers = match schema.find(name) {
+        Some(numbers) => numbers,
+        None => return Err(Fault::UnknownValue(entry)),
+    };
+    let Numbers {
+        address,
+        min,
+        max,
+        ..
+    } = numbers;
+    let value = match in_range(min, max, value) {
+        Some(value) => value,
+        None => return Err(Fault::ValueOutOfRange { entry, min, max }),
+    };
+    if has_value(store, address, value) {
+        return Ok(0);
+    }
+    write_on(store, address, value, entry)?;
+    Ok(1)
+}
+
+/// The number, if it is in the range.
+fn in_range(min: u32, max: u32, number: i64) -> Option<u32> {
+    let value = u32::try_from(number).ok()?;
+    if value < min || max < value {
+        return None;
+    }
+    Some(value)
+}
+
+/// Whether the address has this value.
+fn has_value<A: Allocator>(store: &Store<MemFlash<A>>, address: Address, value: u32) -> bool {
+    match store.read(address) {
+        Ok(stored) => stored == Some(value),
+        Err(_) => unreachable!("power stays on"),
+    }
+}
+
+/// Writes a value at an address for the entry of this number.
+fn write_on<A: Allocator>(
+    store: &mut Store<MemFlash<A>>,
+    address: Address,
+    value: u32,
+    number: u64,
+) -> Result<Written, Fault> {
+    match store.write(address, value) {
+        Ok(answer) => Ok(answer),
+        Err(WriteFault::Full) => Err(Fault::FullAt(number)),
+        Err(WriteFault::Spent) => Err(Fault::SpentAt(number)),
+        Err(WriteFault::Memory) => Err(Fault::Memory),
+        Err(WriteFault::Off | WriteFault::Cut) => unreachable!("power stays on"),
+    }
+}
+
+/// The line that says how many of the entries were written.
+fn applied_line<A: Allocator + Copy>(alloc: A, counts: Counts) -> Result<Vec<u8, A>, AllocError> {
+    let Counts { written, entries } = counts;
+    let line = format!(in alloc; "applied {written} of {entries}\n")?;
+    Ok(line.into_bytes())
+}

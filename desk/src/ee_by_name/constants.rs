@@ -1,0 +1,132 @@
+// Made by desk/erase from crates/ee_by_name/src/constants.rt. Change that file.
+//! The settings as constants of a program, in C or in Rust.
+use crate::rattle::prelude::*;
+
+use crate::ee_by_name::language::Language;
+use crate::ee_settings::{Numbers, Setting};
+use crate::rattle::alloc::{AllocError, Allocator};
+
+/// Writes the header of these settings in C. After an error there may be a part of it.
+pub(crate) fn push_c_header<A: Allocator + Copy>(
+    alloc: A,
+    out: &mut String<A>,
+    settings: &[Setting<A>],
+) -> Result<(), AllocError> {
+    out.push_str(
+        "/* Made by `ee header` from a file of settings. */\n\
+         #ifndef EE_SETTINGS_H\n\
+         #define EE_SETTINGS_H\n",
+    )?;
+    push_each_constant(alloc, out, settings, Language::C)?;
+    out.push_str("\n#define EE_SETTINGS(SETTING)")?;
+    push_rows(alloc, out, settings, Language::C)?;
+    out.push_str("\n\n#endif\n")
+}
+
+/// Writes the header of these settings in Rust. After an error there may be a part of it.
+pub(crate) fn push_rust_header<A: Allocator + Copy>(
+    alloc: A,
+    out: &mut String<A>,
+    settings: &[Setting<A>],
+) -> Result<(), AllocError> {
+    out.push_str("// Made by `ee header --rust` from a file of settings.\n")?;
+    push_each_constant(alloc, out, settings, Language::Rust)?;
+    push_rust_list_head(out, settings.len() as u64)?;
+    push_rows(alloc, out, settings, Language::Rust)?;
+    out.push_str("];\n")
+}
+
+/// Writes the constants of each setting. After an error there may be a part of them.
+fn push_each_constant<A: Allocator + Copy>(
+    alloc: A,
+    out: &mut String<A>,
+    settings: &[Setting<A>],
+    language: Language,
+) -> Result<(), AllocError> {
+    for setting in settings {
+        push_constants(alloc, out, setting, language)?;
+    }
+    Ok(())
+}
+
+/// Writes the constants of a setting. After an error there may be a part of them.
+fn push_constants<A: Allocator + Copy>(
+    alloc: A,
+    out: &mut String<A>,
+    setting: &Setting<A>,
+    language: Language,
+) -> Result<(), AllocError> {
+    let capitals = setting.name().to_ascii_uppercase_in(alloc)?;
+    let name = capitals.as_str();
+    let numbers = setting.numbers();
+    let address = u32::from(numbers.address.get());
+    out.push_str("\n")?;
+    push_constant(out, name, "ADDRESS", "u16", address, language)?;
+    push_constant(out, name, "LEAST", "u32", numbers.min, language)?;
+    push_constant(out, name, "MOST", "u32", numbers.max, language)?;
+    push_constant(out, name, "DEFAULT", "u32", numbers.default, language)
+}
+
+/// Writes a constant; `rust_type` is its type in Rust. After an error there may be a part of it.
+fn push_constant<A: Allocator>(
+    out: &mut String<A>,
+    name: &str,
+    kind: &str,
+    rust_type: &str,
+    number: u32,
+    language: Language,
+) -> Result<(), AllocError> {
+    match language {
+        Language::C => writeln!(out, "#define EE_{name}_{kind} {number}u"),
+        Language::Rust => writeln!(out, "pub const {name}_{kind}: {rust_type} = {number};"),
+    }
+}
+
+/// Writes how a list of so many rows begins in Rust. After an error there may be a part of it.
+fn push_rust_list_head<A: Allocator>(out: &mut String<A>, count: u64) -> Result<(), AllocError> {
+    out.push_str("\n// Name, address, least, most, default.\n")?;
+    writeln!(
+        out,
+        "pub const SETTINGS: [(&str, u16, u32, u32, u32); {count}] = ["
+    )
+}
+
+/// Writes the rows of the list. After an error there may be a part of them.
+fn push_rows<A: Allocator + Copy>(
+    alloc: A,
+    out: &mut String<A>,
+    settings: &[Setting<A>],
+    language: Language,
+) -> Result<(), AllocError> {
+    for setting in settings {
+        push_row(alloc, out, setting, language)?;
+    }
+    Ok(())
+}
+
+/// Writes a row of the list. After an error there may be a part of it.
+fn push_row<A: Allocator + Copy>(
+    alloc: A,
+    out: &mut String<A>,
+    setting: &Setting<A>,
+    language: Language,
+) -> Result<(), AllocError> {
+    let capitals = setting.name().to_ascii_uppercase_in(alloc)?;
+    let name = capitals.as_str();
+    let Numbers {
+        address,
+        min,
+        max,
+        default,
+    } = setting.numbers();
+    let address = address.get();
+    match language {
+        Language::C => {
+            write!(
+                out,
+                " \\\n    SETTING({name}, {address}u, {min}u, {max}u, {default}u)"
+            )
+        }
+        Language::Rust => { writeln!(out, "    (\"{name}\", {address}, {min}, {max}, {default}),") }
+    }
+}

@@ -1,0 +1,31 @@
+// Made by desk/erase from crates/ee_codec/src/address.rt. Change that file.
+//! The name of a variable: any number of 16 bits but the least and the greatest.
+use crate::rattle::prelude::*;
+
+/// The name of a variable: a number of 1 to 65534. Addresses are ordered by number.
+#[derive(Clone, Copy, Debug, PartialEq, Eq, PartialOrd, Ord, Hash)]
+pub struct Address {
+    number: u16,
+}
+
+impl Address {
+    /// The address of this number, or `None` if it is 0 or 65535.
+    pub const fn new(number: u16) -> Option<Address> {
+        if number == 0 || number == u16::MAX {
+            return None;
+        }
+        Some(Address { number })
+    }
+
+    /// The number, which is 1 to 65534.
+    pub fn get(self) -> u16 {
+        self.number
+    }
+}
+
+impl Default for Address {
+    /// The least address, 1.
+    fn default() -> Address {
+        Address { number: 1 }
+    }
+}

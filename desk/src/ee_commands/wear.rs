@@ -1,0 +1,98 @@
+// Made by desk/erase from crates/ee_commands/src/wear.rt. Change that file.
+//! How often each page of an image was erased.
+use crate::rattle::prelude::*;
+
+use crate::ee_faults::{Fault, File};
+use crate::ee_image::read_image;
+use crate::ee_text::push_number;
+use crate::ee_wear::Ledger;
+use crate::rattle::alloc::{AllocError, Allocator};
+
+/// How often each page of the image that a text spells was erased, a line for each page by rising
+/// page: `page I wear N`; and then `total T least A greatest B`. Where there is a text of the image
+/// before, the wear that came since. The images may be such that no store can work on.
+///
+/// Source: ours.
+///
+/// # Errors
+///
+/// The first that applies: the image is no device's; the one before is none; `OtherShape`, the two have not as many
+/// pages; `Backwards`, the lowest page that has less wear than before. `Memory` can come in place of any answer.
+pub fn wear_text<A: Allocator + Copy>(
+    alloc: A,
+    image: &[u8],
+    before: Option<&[u8]>,
+) -> Result<Vec<u8, A>, Fault> {
+    match before {
+        None => whole_wear(alloc, image),
+        Some(before) => wear_since(alloc, image, before),
+    }
+}
+
+/// The wear of the image that a text spells.
+fn whole_wear<A: Allocator + Copy>(alloc: A, image: &[u8]) -> Result<Vec<u8, A>, Fault> {
+    let ledger = read_ledger(alloc, File::Image, image)?;
+    Ok(text_of_ledger(alloc, &ledger)?)
+}
+
+/// The wear that came between the image before and this one.
+fn wear_since<A: Allocator + Copy>(
+    alloc: A,
+    image: &[u8],
+    before: &[u8],
+) -> Result<Vec<u8, A>, Fault> {
+    let ledger = read_ledger(alloc, File::Image, image)?;
+    let old = read_ledger(alloc, File::Before, before)?;
+    let since = ledger.since(alloc, &old)?;
+    Ok(text_of_ledger(alloc, &since)?)
+}
+
+/// The ledger of the image that the text of a file spells.
+fn read_ledger<A: Allocator + Copy>(alloc: A, file: File, image: &[u8]) -> Result<Ledger<A>, Fault> {
+    let flash = match read_image(alloc, image) {
+        Ok(flash) => flash,
+        Err(fault) => return Err(Fault::image(file, fault)),
+    };
+    Ok(Ledger::of(alloc, &flash)?)
+}
+
+/// A ledger's counts as text.
+fn text_of_ledger<A: Allocator + Copy>(
+    alloc: A,
+    ledger: &Ledger<A>,
+) -> Result<Vec<u8, A>, AllocError> {
+    let mut text = Vec::new(alloc);
+    push_counts(ledger, &mut text)?;
+    push_total(alloc, ledger, &mut text)?;
+    Ok(text)
+}
+
+/// Writes the lines of the pages. After an error there may be a part of them.
+fn push_counts<A: Allocator>(ledger: &Ledger<A>, out: &mut Vec<u8, A>) -> Result<(), AllocError> {
+    for page in 0..ledger.pages() {
+        push_count(out, page, ledger.wear(page))?;
+    }
+    Ok(())
+}
+
+/// Writes the line of a page. After an error there may be a part of it.
+fn push_count<A: Allocator>(out: &mut Vec<u8, A>, page: usize, count: u64) -> Result<(), AllocError> {
+    out.extend_from_slice(b"page ")?;
+    push_number(out, page as u64)?;
+    out.extend_from_slice(b" wear ")?;
+    push_number(out, count)?;
+    out.extend_from_slice(b"\n")
+}
+
+/// Writes the last line, of all pages together.
+fn push_total<A: Allocator + Copy>(
+    alloc: A,
+    ledger: &Ledger<A>,
+    out: &mut Vec<u8, A>,
+) -> Result<(), AllocError> {
+    let total = ledger.total();
+    let least = ledger.least();
+    let greatest = ledger.greatest();
+    let line = format!(in alloc; "total {total} least {least} greatest {greatest}\n")?;
+    out.extend_from_slice(line.as_bytes())
+}

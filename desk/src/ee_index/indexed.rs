@@ -1,0 +1,57 @@
+// Made by desk/erase from crates/ee_index/src/indexed.rt. Change that file.
+//! The store with an index: a read is one look in the index and one word of the flash.
+use crate::rattle::prelude::*;
+
+use crate::ee_index::slot_index::{SlotIndex, index_of};
+use crate::ee_core::Store;
+use crate::ee_core::inner::{finish, store_of};
+use crate::ee_flash::{Cut, Flash};
+use crate::ee_pages::{ScanFault, scan};
+use crate::rattle::alloc::{Allocator, Global};
+
+/// Why a device can't be opened with an index, the first cause that applies.
+///
+/// Source: ours.
+#[derive(Clone, Copy, Debug, PartialEq, Eq)]
+pub enum IndexedFault {
+    /// The image is not legal. Nothing changed.
+    Scan(ScanFault),
+    /// Memory ran out. Nothing changed.
+    Memory,
+    /// Power failed in setting a mark. The device is off; its variables are as before.
+    Cut,
+}
+
+/// Variables in a flash device, with an index in memory: the slot in which each live address stands.
+/// A read is one look in the index and one word of the flash.
+///
+/// Source: two sets, of which one takes the writes, AN4894; the rest is ours.
+pub type IndexedStore<F, A = Global> = Store<F, SlotIndex<A>>;
+
+/// Opens the store of a legal image, on a device that is on, and sets the marks that a cut left to
+/// set. The variables are as before. Where no mark was left it takes no step.
+///
+/// Source: ours.
+///
+/// # Errors
+///
+/// The device and the first `IndexedFault` that applies.
+pub fn open_indexed<F: Flash, A: Allocator + Copy>(
+    alloc: A,
+    flash: F,
+) -> Result<IndexedStore<F, A>, (F, IndexedFault)> {
+    let mut flash = flash;
+    let layout = match scan(&flash) {
+        Ok(layout) => layout,
+        Err(fault) => return Err((flash, IndexedFault::Scan(fault))),
+    };
+    // The index is made before the first step, so want of memory leaves the device as it was.
+    let index = match index_of(alloc, &flash, &layout) {
+        Ok(index) => index,
+        Err(_) => return Err((flash, IndexedFault::Memory)),
+    };
+    match finish(&mut flash, &layout) {
+        Ok(()) => Ok(store_of(flash, layout, index)),
+        Err(Cut) => Err((flash, IndexedFault::Cut)),
+    }
+}

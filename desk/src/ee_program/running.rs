@@ -1,0 +1,527 @@
+// Made by desk/erase from crates/ee_program/src/running.rt. Change that file.
+//! The jobs of the program: files are read whole, then the work is done, and what it gives is written.
+use crate::rattle::prelude::*;
+
+use crate::ee_by_name::{
+    Language, apply_values, get_setting, header_text, list_text, set_setting, stale_text,
+    tidy_image,
+};
+use crate::ee_command_line::{HELP, Job, VERSION, job, read_whole, write_whole};
+use crate::ee_commands::{
+    check_script, clean_image, clear_image, format_image, plan_script, rescue_image, size_parts,
+    states_text, wear_text,
+};
+use crate::ee_faults::{Fault, File, fault_line, status_of};
+use crate::ee_files::{FileLocks, save};
+use crate::ee_flash::Shape;
+use crate::ee_image_store::ImageAndText;
+use crate::ee_part::{Form, export_hex, export_image, import_hex, import_image, inspect_text};
+use crate::ee_replay::{replay, replay_indexed, try_script};
+use crate::rattle::alloc::Global;
+use crate::rattle::rt::Files;
+use crate::rattle::{fs, io};
+
+/// The status of a bad command line.
+pub const BAD_COMMAND_LINE: u8 = 2;
+
+/// The status of want of memory.
+pub const OUT_OF_MEMORY: u8 = 5;
+
+/// Does what the words ask for, and gives the status that the program ends with: 0 done, 2 bad
+/// command line, 3 bad file, 4 refused, 5 want of memory.
+///
+/// Files are read whole, in the order in which they are named, before anything is decided. An image
+/// is written only after all work succeeded, and its file is closed before anything is printed.
+pub fn run<R: FileLocks + Input + Print + Eprint + AllocGlobal>(rt: &R, words: &[String]) -> u8 {
+    let mut texts: Vec<&str> = Vec::new(rt.alloc());
+    for word in words {
+        if texts.push(word.as_str()).is_err() {
+            return out_of_memory(rt);
+        }
+    }
+    match job(texts.as_slice()) {
+        None => bad_command_line(rt),
+        Some(job) => match work(rt, &job) {
+            Ok(()) => 0,
+            Err(fault) => tell(rt, &fault),
+        },
+    }
+}
+
+/// Does a job.
+fn work<R: FileLocks + Input + Print + AllocGlobal>(rt: &R, job: &Job<'_>) -> Result<(), Fault> {
+    match *job {
+        Job::Try { shape } => try_input(rt, shape),
+        Job::Format { shape, image } => format_file(rt, shape, image),
+        Job::Import {
+            pairs,
+            shape,
+            dump,
+            image,
+        } => import_file(rt, pairs, shape, dump, image),
+        Job::Export { pairs, image, dump } => export_file(rt, pairs, image, dump),
+        Job::ImportHex {
+            pairs,
+            shape,
+            base,
+            dump,
+            image,
+        } => import_hex_file(rt, pairs, shape, base, dump, image),
+        Job::ExportHex {
+            pairs,
+            image,
+            base,
+            dump,
+        } => export_hex_file(rt, pairs, image, base, dump),
+        Job::Inspect { image } => tell_inside(rt, image),
+        Job::Run {
+            indexed,
+            image,
+            script,
+        } => run_files(rt, indexed, image, script),
+        Job::Get {
+            image,
+            settings,
+            name,
+        } => tell_setting(rt, image, settings, name),
+        Job::Set {
+            image,
+            settings,
+            name,
+            value,
+        } => set_file(rt, image, settings, name, value),
+        Job::Apply {
+            image,
+            settings,
+            values,
+        } => apply_file(rt, image, settings, values),
+        Job::Header { rust, settings } => tell_header(rt, rust, settings),
+        Job::Plan { image, script } => tell_plan(rt, image, script),
+        Job::Check {
+            image,
+            script,
+            certificate,
+        } => check_files(rt, image, script, certificate),
+        Job::Wear { image, before } => tell_wear(rt, image, before),
+        Job::States { image } => tell_states(rt, image),
+        Job::Clean { image } => clean_file(rt, image),
+        Job::Rescue { image } => rescue_file(rt, image),
+        Job::Clear { image } => clear_file(rt, image),
+        Job::Stale { image, settings } => tell_stale(rt, image, settings),
+        Job::Tidy { image, settings } => tidy_file(rt, image, settings),
+        Job::List { image, settings } => tell_values(rt, image, settings),
+        Job::Size {
+            words,
+            script,
+            cycles,
+            runs,
+        } => tell_sizes(rt, words, script, cycles, runs),
+        Job::Help => print(rt, HELP.as_bytes()),
+        Job::Version => print(rt, VERSION.as_bytes()),
+    }
+}
+
+/// Tries the script of standard input, and prints its report.
+fn try_input<R: Input + Print + AllocGlobal>(rt: &R, shape: Shape) -> Result<(), Fault> {
+    let script = match read_whole(rt.alloc(), &mut rt.reader()) {
+        Ok(script) => script,
+        Err(fault) => return Err(Fault::reading(File::Script, fault)),
+    };
+    let replayed = try_script(rt.alloc(), shape, &script)?;
+    print(rt, &replayed.report)
+}
+
+/// Writes a new image.
+fn format_file<R: FileLocks + Print + AllocGlobal>(
+    rt: &R,
+    shape: Shape,
+    image: &str,
+) -> Result<(), Fault> {
+    write_new(rt, image, format_image(rt.alloc(), shape), b"formatted\n")
+}
+
+/// How a part keeps its words: `pairs` says that each stands beside its complement.
+fn form_of(pairs: bool) -> Form {
+    if pairs { Form::Pairs } else { Form::Words }
+}
+
+/// Writes the image of a part, from its bytes.
+fn import_file<R: FileLocks + Print + AllocGlobal>(
+    rt: &R,
+    pairs: bool,
+    shape: Shape,
+    dump: &str,
+    image: &str,
+) -> Result<(), Fault> {
+    let bytes = read_file(rt, File::Dump, dump)?;
+    let imported = import_image(rt.alloc(), shape, form_of(pairs), &bytes);
+    write_new(rt, image, imported, b"imported\n")
+}
+
+/// Writes the bytes of the part of an image.
+fn export_file<R: FileLocks + Print + AllocGlobal>(
+    rt: &R,
+    pairs: bool,
+    image: &str,
+    dump: &str,
+) -> Result<(), Fault> {
+    let text = read_file(rt, File::Image, image)?;
+    let bytes = export_image(rt.alloc(), form_of(pairs), &text);
+    write_dump(rt, dump, bytes)
+}
+
+/// Writes the image of a part, from Intel HEX. The part begins at the base.
+fn import_hex_file<R: FileLocks + Print + AllocGlobal>(
+    rt: &R,
+    pairs: bool,
+    shape: Shape,
+    base: u32,
+    dump: &str,
+    image: &str,
+) -> Result<(), Fault> {
+    let lines = read_file(rt, File::Dump, dump)?;
+    let imported = import_hex(rt.alloc(), shape, form_of(pairs), base, &lines);
+    write_new(rt, image, imported, b"imported\n")
+}
+
+/// Writes the bytes of the part of an image as Intel HEX. The part begins at the base.
+fn export_hex_file<R: FileLocks + Print + AllocGlobal>(
+    rt: &R,
+    pairs: bool,
+    image: &str,
+    base: u32,
+    dump: &str,
+) -> Result<(), Fault> {
+    let text = read_file(rt, File::Image, image)?;
+    let lines = export_hex(rt.alloc(), form_of(pairs), &text, base);
+    write_dump(rt, dump, lines)
+}
+
+/// Prints what stands in an image, whatever it is.
+fn tell_inside<R: Files + Print + AllocGlobal>(rt: &R, image: &str) -> Result<(), Fault> {
+    let image = read_file(rt, File::Image, image)?;
+    print_text(rt, inspect_text(rt.alloc(), &image))
+}
+
+/// Answers a script on an image, writes the image that this leaves in its place, and prints the
+/// report. `indexed` says whether the store keeps an index in memory.
+fn run_files<R: FileLocks + Print + AllocGlobal>(
+    rt: &R,
+    indexed: bool,
+    image: &str,
+    script: &str,
+) -> Result<(), Fault> {
+    let before = read_file(rt, File::Image, image)?;
+    let lines = read_file(rt, File::Script, script)?;
+    let replayed = if indexed {
+        replay_indexed(rt.alloc(), &before, &lines)?
+    } else {
+        replay(rt.alloc(), &before, &lines)?
+    };
+    write_image(rt, image, Some(&before), &replayed.image)?;
+    print(rt, &replayed.report)
+}
+
+/// Prints what a setting reads as in an image.
+fn tell_setting<R: Files + Print + AllocGlobal>(
+    rt: &R,
+    image: &str,
+    settings: &str,
+    name: &str,
+) -> Result<(), Fault> {
+    let image = read_file(rt, File::Image, image)?;
+    let settings = read_file(rt, File::Settings, settings)?;
+    let text = get_setting(rt.alloc(), rt.alloc(), &image, &settings, name);
+    print_text(rt, text)
+}
+
+/// Gives a setting of an image a value, and writes the image in its place.
+fn set_file<R: FileLocks + Print + AllocGlobal>(
+    rt: &R,
+    image: &str,
+    settings: &str,
+    name: &str,
+    value: u32,
+) -> Result<(), Fault> {
+    let before = read_file(rt, File::Image, image)?;
+    let table = read_file(rt, File::Settings, settings)?;
+    let set = set_setting(rt.alloc(), rt.alloc(), &before, &table, name, value);
+    write_changed(rt, image, &before, set)
+}
+
+/// Gives settings of an image the values of a file, and writes the image in its place.
+fn apply_file<R: FileLocks + Print + AllocGlobal>(
+    rt: &R,
+    image: &str,
+    settings: &str,
+    values: &str,
+) -> Result<(), Fault> {
+    let before = read_file(rt, File::Image, image)?;
+    let applied = applied_to(rt, &before, settings, values);
+    write_changed(rt, image, &before, applied)
+}
+
+/// What giving settings of an image the values of a file makes of it.
+fn applied_to<R: Files + AllocGlobal>(
+    rt: &R,
+    image: &[u8],
+    settings: &str,
+    values: &str,
+) -> Result<ImageAndText<Global>, Fault> {
+    let table = read_file(rt, File::Settings, settings)?;
+    let given = read_file(rt, File::Values, values)?;
+    apply_values(rt.alloc(), rt.alloc(), image, &table, &given)
+}
+
+/// Prints the constants of settings, in Rust or in C.
+fn tell_header<R: Files + Print + AllocGlobal>(
+    rt: &R,
+    rust: bool,
+    settings: &str,
+) -> Result<(), Fault> {
+    let table = read_file(rt, File::Settings, settings)?;
+    let language = if rust { Language::Rust } else { Language::C };
+    print_text(rt, header_text(rt.alloc(), rt.alloc(), &table, language))
+}
+
+/// Prints the certificate of what a script changes on an image.
+fn tell_plan<R: Files + Print + AllocGlobal>(
+    rt: &R,
+    image: &str,
+    script: &str,
+) -> Result<(), Fault> {
+    let image = read_file(rt, File::Image, image)?;
+    let script = read_file(rt, File::Script, script)?;
+    let text = plan_script(rt.alloc(), &image, &script);
+    print_text(rt, text)
+}
+
+/// Checks a certificate of what a script changes on an image, and prints what it proves.
+fn check_files<R: Files + Print + AllocGlobal>(
+    rt: &R,
+    image: &str,
+    script: &str,
+    certificate: &str,
+) -> Result<(), Fault> {
+    let image = read_file(rt, File::Image, image)?;
+    let script = read_file(rt, File::Script, script)?;
+    let certificate = read_file(rt, File::Certificate, certificate)?;
+    let text = check_script(rt.alloc(), &image, &script, &certificate);
+    print_text(rt, text)
+}
+
+/// Prints how often the pages of an image were erased, since an image before it where one is named.
+fn tell_wear<R: Files + Print + AllocGlobal>(
+    rt: &R,
+    image: &str,
+    before: Option<&str>,
+) -> Result<(), Fault> {
+    let now = read_file(rt, File::Image, image)?;
+    let text = match before {
+        None => wear_text(rt.alloc(), &now, None),
+        Some(before) => wear_since(rt, &now, before),
+    };
+    print_text(rt, text)
+}
+
+/// How often the pages of an image were erased since the one of a file.
+fn wear_since<R: Files + AllocGlobal>(rt: &R, now: &[u8], before: &str) -> Result<Vec<u8>, Fault> {
+    let then = read_file(rt, File::Before, before)?;
+    wear_text(rt.alloc(), now, Some(&then))
+}
+
+/// Prints the state of each page of an image.
+fn tell_states<R: Files + Print + AllocGlobal>(rt: &R, image: &str) -> Result<(), Fault> {
+    let before = read_file(rt, File::Image, image)?;
+    print_text(rt, states_text(rt.alloc(), &before))
+}
+
+/// Erases the pages of an image that wait for it, writes the image in its place, and prints their number.
+fn clean_file<R: FileLocks + Print + AllocGlobal>(rt: &R, image: &str) -> Result<(), Fault> {
+    let before = read_file(rt, File::Image, image)?;
+    let cleaned = clean_image(rt.alloc(), &before);
+    write_changed(rt, image, &before, cleaned)
+}
+
+/// Makes an image legal, whatever stands in it, writes it in its place, and prints its bad words.
+fn rescue_file<R: FileLocks + Print + AllocGlobal>(rt: &R, image: &str) -> Result<(), Fault> {
+    let before = read_file(rt, File::Image, image)?;
+    let rescued = rescue_image(rt.alloc(), &before);
+    write_changed(rt, image, &before, rescued)
+}
+
+/// Forgets all addresses of an image, writes it in its place, and prints how many had a value.
+fn clear_file<R: FileLocks + Print + AllocGlobal>(rt: &R, image: &str) -> Result<(), Fault> {
+    let before = read_file(rt, File::Image, image)?;
+    let cleared = clear_image(rt.alloc(), &before);
+    write_changed(rt, image, &before, cleared)
+}
+
+/// Prints the settings whose stored value in an image isn't in their range.
+fn tell_stale<R: Files + Print + AllocGlobal>(
+    rt: &R,
+    image: &str,
+    settings: &str,
+) -> Result<(), Fault> {
+    let image = read_file(rt, File::Image, image)?;
+    let settings = read_file(rt, File::Settings, settings)?;
+    let text = stale_text(rt.alloc(), rt.alloc(), &image, &settings);
+    print_text(rt, text)
+}
+
+/// Forgets the addresses of an image that no setting has, writes the image in its place, and prints their number.
+fn tidy_file<R: FileLocks + Print + AllocGlobal>(
+    rt: &R,
+    image: &str,
+    settings: &str,
+) -> Result<(), Fault> {
+    let before = read_file(rt, File::Image, image)?;
+    let table = read_file(rt, File::Settings, settings)?;
+    let tidied = tidy_image(rt.alloc(), rt.alloc(), &before, &table);
+    write_changed(rt, image, &before, tidied)
+}
+
+/// Prints what each address of an image has, with the names of settings where their file is named.
+fn tell_values<R: Files + Print + AllocGlobal>(
+    rt: &R,
+    image: &str,
+    settings: Option<&str>,
+) -> Result<(), Fault> {
+    let image = read_file(rt, File::Image, image)?;
+    let text = match settings {
+        None => list_text(rt.alloc(), rt.alloc(), &image, None),
+        Some(settings) => named_values(rt, &image, settings),
+    };
+    print_text(rt, text)
+}
+
+/// What each address of an image has, with the names of a file's settings.
+fn named_values<R: Files + AllocGlobal>(
+    rt: &R,
+    image: &[u8],
+    settings: &str,
+) -> Result<Vec<u8>, Fault> {
+    let table = read_file(rt, File::Settings, settings)?;
+    list_text(rt.alloc(), rt.alloc(), image, Some(&table))
+}
+
+/// Prints for each number of pages whether it bears so many runs of a script. Where none does, that is told behind it.
+fn tell_sizes<R: Files + Print + AllocGlobal>(
+    rt: &R,
+    words: u16,
+    script: &str,
+    cycles: u32,
+    runs: u32,
+) -> Result<(), Fault> {
+    let script = read_file(rt, File::Script, script)?;
+    let sizes = size_parts(rt.alloc(), words, &script, cycles, runs)?;
+    print(rt, &sizes.text)?;
+    if sizes.some_enough {
+        return Ok(());
+    }
+    Err(Fault::NoSizeEnough)
+}
+
+/// All bytes of a file.
+fn read_file<R: Files + AllocGlobal>(rt: &R, file: File, path: &str) -> Result<Vec<u8>, Fault> {
+    let mut reader = match fs::open(rt, path) {
+        Ok(reader) => reader,
+        Err(_) => return Err(Fault::CannotRead(file)),
+    };
+    match read_whole(rt.alloc(), &mut reader) {
+        Ok(bytes) => Ok(bytes),
+        Err(fault) => Err(Fault::reading(file, fault)),
+    }
+}
+
+/// Writes an image in the place of its file, of which `before` was read, if it was: then only where the
+/// file still is that. Its file is closed afterwards.
+fn write_image<R: FileLocks + AllocGlobal>(
+    rt: &R,
+    path: &str,
+    before: Option<&[u8]>,
+    image: &[u8],
+) -> Result<(), Fault> {
+    match save(rt, path, before, image) {
+        Ok(()) => Ok(()),
+        Err(fault) => Err(fault.told()),
+    }
+}
+
+/// Writes the image that a command made, in the place of whatever its file was, and says so.
+fn write_new<R: FileLocks + Print + AllocGlobal>(
+    rt: &R,
+    path: &str,
+    image: Result<Vec<u8>, Fault>,
+    said: &[u8],
+) -> Result<(), Fault> {
+    write_image(rt, path, None, &image?)?;
+    print(rt, said)
+}
+
+/// Writes the image that a command left, in the place of its file, of which `before` was read, and prints its text.
+fn write_changed<R: FileLocks + Print + AllocGlobal>(
+    rt: &R,
+    path: &str,
+    before: &[u8],
+    changed: Result<ImageAndText, Fault>,
+) -> Result<(), Fault> {
+    let changed = changed?;
+    write_image(rt, path, Some(before), &changed.image)?;
+    print(rt, &changed.text)
+}
+
+/// Writes the dump that a command made, in the place of whatever its file was, and says so.
+fn write_dump<R: FileLocks + Print + AllocGlobal>(
+    rt: &R,
+    path: &str,
+    dump: Result<Vec<u8>, Fault>,
+) -> Result<(), Fault> {
+    match save(rt, path, None, &dump?) {
+        Ok(()) => print(rt, b"exported\n"),
+        Err(fault) => Err(fault.told_of_dump()),
+    }
+}
+
+/// Prints the text that a command made.
+fn print_text<R: Print>(rt: &R, text: Result<Vec<u8>, Fault>) -> Result<(), Fault> {
+    print(rt, &text?)
+}
+
+/// Prints on standard output.
+fn print<R: Print>(rt: &R, text: &[u8]) -> Result<(), Fault> {
+    match write_whole(&mut io::writer(rt), text) {
+        Ok(()) => Ok(()),
+        Err(_) => Err(Fault::CannotWriteOutput),
+    }
+}
+
+/// Prints the line of a fault on standard error, and gives its status.
+fn tell<R: Eprint + AllocGlobal>(rt: &R, fault: &Fault) -> u8 {
+    match fault_line(rt.alloc(), fault) {
+        Ok(line) => {
+            eprint_bytes(rt, &line);
+            status_of(fault)
+        }
+        Err(_) => out_of_memory(rt),
+    }
+}
+
+/// Says that the words can't be read, and gives the status.
+pub fn bad_command_line<R: Eprint>(rt: &R) -> u8 {
+    eprint_bytes(rt, b"ee: bad command line\n");
+    BAD_COMMAND_LINE
+}
+
+/// Says that memory ran out, with no memory, and gives the status.
+pub fn out_of_memory<R: Eprint>(rt: &R) -> u8 {
+    eprint_bytes(rt, b"ee: out of memory\n");
+    OUT_OF_MEMORY
+}
+
+/// Prints a line on standard error. Where that fails there is nobody left to tell.
+fn eprint_bytes<R: Eprint>(rt: &R, line: &[u8]) {
+    if let Ok(text) = str::from_utf8(line) {
+        let _ = rt.eprint(text);
+    }
+}
