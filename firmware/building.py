@@ -19,6 +19,8 @@ CONDITIONS = {
     "thumbv6m-none-eabi": ["thumb", "thumb_1"],
     "thumbv7m-none-eabi": ["thumb"],
     "thumbv7em-none-eabi": ["thumb"],
+    "riscv32imc-unknown-none-elf": [],
+    "aarch64-unknown-linux-gnu": [],
 }
 
 

@@ -12,41 +12,66 @@
  * not have.
  *
  * Every call answers a status: one of its own list below, or, before these, EE_NULL, EE_OFF, EE_WRONG_SHAPE or EE_WRONG_NUMBER,
- * by which a call refuses its pointers, its store, its flash or an address. Pointers that are NULL are refused with EE_NULL; all others must be good. No call may be
- * made from inside one of the three functions, nor from an interrupt or a thread that may break into a call on the same
- * store.
+ * by which a call refuses its pointers, its store, its flash or an address. Pointers that are NULL are refused with EE_NULL; all
+ * others must be good. No call may be made from inside one of the three functions, nor from an interrupt or a thread that may
+ * break into a call on the same store.
  *
  * Nothing here calls itself, no memory is asked for, and each loop has an end. At most so many words are read, words
  * programmed and pages erased in a call, with P pages in a set, S = P * (page_words - 4) slots, W = 2 * P * page_words words
- * of the flash, and N = S * (S / 16 + 1):
+ * of the flash, and N = S * (S / 28 + 1):
  *
  *                                       words read       programmed       erased
  *     ee_start                          3 * W            2 * P            2 * P
  *     ee_open                           3 * W            2 * P            0
- *     ee_format                         W + 2            2                2 * P
+ *     ee_format                         W + 2 * P + 2    2                2 * P
  *     ee_write   where a slot is free   2                3                0
  *                else                   2 * N + 2 * W    S + 3 * P + 1    P
  *     ee_write_all   of n values        2 * N + 2 * W    S + 3 * P + 1    P
  *                                       + n * S
  *     ee_forget  where a slot is free   S + 2            3                0
  *                else                   N + 2 * W        S + 3 * P + 1    P
- *     ee_clean                          W / 2            0                1
+ *     ee_clear                          2 * W            P + 2            P
+ *     ee_clean                          W / 2 + P        0                1
  *     ee_read                           S                0                0
  *     ee_next                           N                0                0
  *     ee_counts                         N + W            0                0
+ *     ee_rescue                         N + 3 * W        S + 3 * P + 1    P
+ *     ee_bad_words                      2 * W            0                0
  *
- * With `pairs` a word read or programmed is two numbers, and ee_start, ee_open and ee_format read W words more.
+ * With `pairs` a word read or programmed is two numbers, ee_open and ee_format read W words more, and ee_start 2 * W. For each
+ * torn word, which a cut left half written, ee_start and ee_open read 17 words more.
+ *
+ * A watchdog is fed in your own three functions: in the loop in which `program` and `erase` wait for the end of a step, and in
+ * `word` where so many words as above take long to read. Between two calls of the three the library does some hundred
+ * instructions; but ee_write_all first compares each two addresses of its list.
  *
  * The stack that a call takes stands in the head of ee.s, beside what the three functions take. README.md has more of this.
  */
 #ifndef EE_H
 #define EE_H
 
+#include <stdbool.h>
 #include <stdint.h>
+
+/* The version of the library. */
+#define EE_VERSION_MAJOR 0
+#define EE_VERSION_MINOR 1
+#define EE_VERSION_PATCH 0
+#define EE_VERSION "0.1.0"
+
+#ifdef __GNUC__
+#define EE_COPY __builtin_memcpy /* takes no header, and no call */
+#else
+#include <string.h>
+#define EE_COPY memcpy
+#endif
 
 #ifdef __cplusplus
 extern "C" {
 #endif
+
+/* What a call answers: one of the EE_ numbers below, of EE_OK to EE_TWICE. */
+typedef uint32_t ee_result;
 
 /* A flash. It stays where it is, and as it is, while a store is open on it; it may be a constant. */
 typedef struct ee_flash {
@@ -63,26 +88,66 @@ typedef struct ee_flash {
     uint32_t (*program)(void *context, uint32_t page, uint32_t place, uint64_t value);
     /* Erases a page. 0 once every word of it reads as erased; any other number where it failed. */
     uint32_t (*erase)(void *context, uint32_t page);
-    /* 0 where the flash has words, as above. 1 where it has numbers, for a part without error correction: `word` and `program`
-     * are asked for numbers, of which a page has 2 * page_words. Any other is refused with EE_WRONG_SHAPE.
+    /* 0 where the flash has words, as above. 1 or 2 where it has numbers, for a part without error correction: `word` and
+     * `program` are asked for numbers, of which a page has 2 * page_words. Any other is refused with EE_WRONG_SHAPE.
      *
      * With 1 this is what the part owes: cells go one way, from one to zero while a number is programmed and from zero to one
      * while a page is erased. So a cut in `program` leaves a number with every bit of the one asked for, and a cut in `erase`
      * leaves each number of the page with every bit that it had. A number may be programmed by parts, in any order.
      *
+     * With 2 an erase may clear the cells of its page first, as many serial flashes do. A cut in `program` leaves the same, and
+     * a cut in `erase` any numbers. That no two of a word are a value and its complement that weren't is a premise: chance
+     * makes them of 64 bits, and of a word that a cut `program` tore of the few that it lacks.
+     *
      * A number reads the same until it is written, and `word` answers 0. Where it answers another number than EE_READ_FAILED,
      * that number of the flash counts as 0, which stands in no word of a store: the word is torn, or is none of the store's, and the next opening
      * may say EE_FOREIGN. */
     uint32_t pairs;
+    /* NULL, or for speed alone: where `count` words of a page stand in memory, from a place on; all are in the page. They are 1
+     * to EE_RUN, with `pairs` 2 to 2 * EE_RUN numbers. Each reads as by `word`: all ones is an erased one. NULL as an answer where one of
+     * them can't be read, where a read failed, or where they stand in no memory: then `word` is asked for each. They are looked
+     * at before one of these functions is called again, so they may stand in a buffer, the same each time. */
+    const uint64_t *(*words)(void *context, uint32_t page, uint32_t place, uint32_t count);
 } ee_flash;
 
+/* The most words that `words` is asked for at once; of numbers twice as many. */
+#define EE_RUN 16
+
 /* What `word` answers where the read itself failed. */
-enum { EE_READ_FAILED = 0x00ee00ee };
+#define EE_READ_FAILED UINT32_C(0x00ee00ee)
+
+/* Private: what a store keeps. */
+struct ee_shape {
+    uint32_t pages;
+    uint32_t words;
+};
+struct ee_device {
+    const ee_flash **power; /* where the pointer to the flash stands, which is NULL while the store is off */
+    struct ee_shape shape;
+};
+struct ee_layout {
+    uint32_t side;
+    uint32_t generation;
+    uint32_t fill;
+    uint32_t current;
+};
+struct ee_kept {
+    struct ee_device flash;
+    struct ee_layout layout;
+};
 
 /* A store, in memory that the caller lends, which stays where it is. ee_start, ee_open or ee_format comes before every other
  * call on it. One of zeros is off, and so is a copy of one. */
 typedef struct ee_store {
-    uintptr_t words[8];
+    /* Private. Its size is part of what the files of assembly take: eight pointers. The members are those of ee.c. */
+    union {
+        uintptr_t words[8];
+        uint32_t numbers[8]; /* as large where a pointer has 16 bits */
+        struct {
+            struct ee_kept store;
+            const ee_flash *flash; /* NULL while the store is off */
+        } parts;
+    } memory;
 } ee_store;
 
 enum {
@@ -126,45 +191,170 @@ typedef struct ee_numbers {
     uint32_t generation; /* of the live set: 1 to 4294967294, one more with each move */
 } ee_numbers;
 
+/* How often a page was erased follows from the generation. An empty store has generation 1, so it made `generation - 1` moves,
+ * and each set's pages are erased for every second move. So since the store was made no page was erased more often than
+ * `generation / 2` times, and once more for each power cut in a move. Hold that against the cycles that the part's datasheet
+ * tells. What was erased before the store was made, and by ee_format, is not in it. */
+
 /* The call to make at each start. Opens the store that the flash holds, as ee_open, or makes the first one: where no set is
  * live and no word behind the header of a page can be read; with `pairs`, where every number is all ones but the first four of
  * page 0. A first start in which power was cut is made again; no stored value is erased. EE_OK; EE_NO_LIVE_SET, EE_TWO_LIVE,
  * EE_FOREIGN, EE_DRIVER. */
-uint32_t ee_start(ee_store *store, const ee_flash *flash);
+ee_result ee_start(ee_store *store, const ee_flash *flash);
 
 /* Opens the store that the flash holds. Where power was cut it sets the marks that were left to set, else it writes nothing.
  * EE_OK; EE_UNFORMATTED, EE_NO_LIVE_SET, EE_TWO_LIVE, EE_FOREIGN, EE_DRIVER. */
-uint32_t ee_open(ee_store *store, const ee_flash *flash);
+ee_result ee_open(ee_store *store, const ee_flash *flash);
 
 /* Makes a store with nothing in it, whatever the flash held: each page that is not blank is erased. Where it is cut on a flash
  * that held values, that may hold no store, or one with a part of those values, or with older ones: format again. EE_OK;
  * EE_DRIVER. */
-uint32_t ee_format(ee_store *store, const ee_flash *flash);
+ee_result ee_format(ee_store *store, const ee_flash *flash);
 
 /* Gives an address a value. Where no slot is free all variables move to the other set. EE_OK; EE_FULL, EE_SPENT, EE_DRIVER. */
-uint32_t ee_write(ee_store *store, uint16_t address, uint32_t value);
+ee_result ee_write(ee_store *store, uint16_t address, uint32_t value);
 
 /* Gives addresses their values at once, each address once: wherever this call is cut, all of them are there afterwards or none.
  * The list has `count` entries, stays the caller's and may be a constant. For two and more all variables move to the other set,
  * whether a slot is free or not; a list of one is as ee_write, and an empty one changes nothing. The first that applies:
  * EE_TWICE, EE_FULL, EE_SPENT, EE_DRIVER; or EE_OK. */
-uint32_t ee_write_all(ee_store *store, const ee_value *values, uint32_t count);
+ee_result ee_write_all(ee_store *store, const ee_value *values, uint32_t count);
 
 /* Takes the value of an address away. EE_OK; EE_ABSENT, EE_SPENT, EE_DRIVER. */
-uint32_t ee_forget(ee_store *store, uint16_t address);
+ee_result ee_forget(ee_store *store, uint16_t address);
+
+/* Takes the values of all addresses away at once, as for a factory reset: wherever this call is cut, each address has its value
+ * afterwards or none has one. Where a slot is used it makes the other set the live one, with nothing in it; else it writes
+ * nothing. The old values' words stay in the flash until their set is erased: call ee_clean until it answers EE_NOTHING.
+ * EE_OK; EE_SPENT, EE_DRIVER. */
+ee_result ee_clear(ee_store *store);
 
 /* Erases one page that waits for it, so that a later move finds less to do. EE_OK, EE_NOTHING; EE_DRIVER. */
-uint32_t ee_clean(ee_store *store);
+ee_result ee_clean(ee_store *store);
 
 /* The value of an address. EE_OK, EE_NOTHING; EE_DRIVER. `value` is written with EE_OK alone. */
-uint32_t ee_read(const ee_store *store, uint16_t address, uint32_t *value);
+ee_result ee_read(const ee_store *store, uint16_t address, uint32_t *value);
 
 /* The next address above `*address` that has a value, with the value; the first of all where `*address` is 0. EE_OK,
  * EE_NOTHING; EE_DRIVER. Both are written with EE_OK alone. */
-uint32_t ee_next(const ee_store *store, uint16_t *address, uint32_t *value);
+ee_result ee_next(const ee_store *store, uint16_t *address, uint32_t *value);
 
 /* How the store stands. EE_OK; EE_DRIVER. `numbers` is written with EE_OK alone. */
-uint32_t ee_counts(const ee_store *store, ee_numbers *numbers);
+ee_result ee_counts(const ee_store *store, ee_numbers *numbers);
+
+/* The two calls behind an opening that is refused, since a word of the flash went bad. A program that calls neither has no
+ * byte of them.
+ *
+ * Makes a store of what the slots still say, whatever the flash holds: the values move to the other set, as in a write that
+ * finds no free slot. One word that went bad costs its own value, and no more; docs/PROMISES.md says of which words, and where
+ * nothing is promised. Where it is cut or a step fails, call it again. ee_counts says how many values are there then.
+ *
+ * With `pairs` two numbers that no store wrote are a bad word too. Then call ee_clean behind it until that answers EE_NOTHING:
+ * where they stand in the other set, ee_start and ee_open refuse the flash until that page is erased. Of a page that has such
+ * numbers nothing is promised if power is cut in its erase.
+ *
+ * EE_OK; EE_NOTHING where no set is begun, EE_SPENT, EE_DRIVER. All but EE_OK and EE_DRIVER leave the flash as it was. */
+ee_result ee_rescue(ee_store *store, const ee_flash *flash);
+
+/* How many words are bad of the set that a rescue would take: they can't be read, or may not stand where they stand. 0 where
+ * no set is begun. A word in whose step power was cut is one of them too, and refuses no opening. It takes no store and writes
+ * nothing. EE_OK; EE_DRIVER, or EE_NULL and EE_WRONG_SHAPE. `count` is written with EE_OK alone. */
+ee_result ee_bad_words(const ee_flash *flash, uint32_t *count);
+
+/* Helpers, made of the calls above. A program that calls none of them is the same as without them, byte by byte. */
+
+/* Gives an address a value as ee_write, but writes nothing where it has that value already: this saves a slot, and takes the
+ * time of an ee_read. What ee_write answers; where the value can't be read, what ee_read answers. */
+static inline ee_result ee_update(ee_store *store, uint16_t address, uint32_t value) {
+    uint32_t found = 0;
+    ee_result status = ee_read(store, address, &found);
+    if (status == EE_OK && found == value) return EE_OK;
+    if (status != EE_OK && status != EE_NOTHING) return status;
+    return ee_write(store, address, value);
+}
+
+/* The value of an address, or `otherwise` where it has none. It is `otherwise` too where the call was refused or a read
+ * failed; ee_read tells these apart. After a read that failed the store is off, so a write of what was made of `otherwise`
+ * is refused with EE_OFF. */
+static inline uint32_t ee_read_or(const ee_store *store, uint16_t address, uint32_t otherwise) {
+    uint32_t value = otherwise;
+    return ee_read(store, address, &value) == EE_OK ? value : otherwise;
+}
+
+/* The 32 bits that stand for a signed number, a float or a bool: a value for any call above. */
+static inline uint32_t ee_int(int32_t number) { return (uint32_t)number; }
+
+static inline uint32_t ee_float(float number) {
+    uint32_t value;
+    EE_COPY(&value, &number, sizeof value);
+    return value;
+}
+
+static inline uint32_t ee_bool(bool truth) { return truth ? 1u : 0u; }
+
+typedef char ee_float_has_32_bits[sizeof(float) == sizeof(uint32_t) ? 1 : -1];
+
+/* What a value stands for, the other way round. Of a bool each value but 0 is true. */
+static inline int32_t ee_as_int(uint32_t value) {
+    int32_t number;
+    EE_COPY(&number, &value, sizeof number);
+    return number;
+}
+
+static inline float ee_as_float(uint32_t value) {
+    float number;
+    EE_COPY(&number, &value, sizeof number);
+    return number;
+}
+
+static inline bool ee_as_bool(uint32_t value) { return value != 0; }
+
+/* Read what stands for a signed number, a float or a bool. They answer as ee_read, and write the last with EE_OK alone: so it
+ * may hold a default before. */
+static inline ee_result ee_read_int(const ee_store *store, uint16_t address, int32_t *number) {
+    uint32_t value = 0;
+    ee_result status = ee_read(store, address, number ? &value : 0);
+    if (status == EE_OK) *number = ee_as_int(value);
+    return status;
+}
+
+static inline ee_result ee_read_float(const ee_store *store, uint16_t address, float *number) {
+    uint32_t value = 0;
+    ee_result status = ee_read(store, address, number ? &value : 0);
+    if (status == EE_OK) *number = ee_as_float(value);
+    return status;
+}
+
+static inline ee_result ee_read_bool(const ee_store *store, uint16_t address, bool *truth) {
+    uint32_t value = 0;
+    ee_result status = ee_read(store, address, truth ? &value : 0);
+    if (status == EE_OK) *truth = ee_as_bool(value);
+    return status;
+}
+
+/* A few words on a status, for a log. */
+static inline const char *ee_status_text(ee_result status) {
+    switch (status) {
+    case EE_OK: return "done";
+    case EE_NOTHING: return "there is nothing";
+    case EE_FULL: return "more addresses than slots";
+    case EE_SPENT: return "the last generation is used";
+    case EE_ABSENT: return "the address has no value";
+    case EE_UNFORMATTED: return "the flash is erased";
+    case EE_NO_LIVE_SET: return "no set is live";
+    case EE_TWO_LIVE: return "two sets are live";
+    case EE_FOREIGN: return "a word is not the store's";
+    case EE_DRIVER: return "the flash failed, and the store is off";
+    case EE_OFF: return "the store is off";
+    case EE_WRONG_SHAPE: return "pages, page_words or pairs is out of range";
+    case EE_WRONG_NUMBER: return "the address is 0 or 65535";
+    case EE_NULL: return "a pointer is NULL";
+    case EE_TWICE: return "an address stands twice in the list";
+    default: return "no status of ee";
+    }
+}
+
+#undef EE_COPY
 
 #ifdef __cplusplus
 }

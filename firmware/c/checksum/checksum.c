@@ -1,7 +1,8 @@
 /* Each call on a store of zeros, and then two and a half thousand calls on flash in an array: writes for the most part, and some of each other call, of ee_write_all
  * but with LISTS 0. One step in
  * fifty or so is cut, torn in some way, and the store opened again. Then each word of the flash is damaged in turn, and a
- * variable is read. With PAIRS the flash has numbers, two for each word, and a cut leaves some of their bits. */
+ * variable is read. With PAIRS the flash has numbers, two for each word, and a cut leaves some of their bits. With MAPPED
+ * words are looked at where they stand, but where one of them can't be read. */
 #include "checksum.h"
 
 #include "../ee.h"
@@ -12,8 +13,11 @@
 #ifndef LISTS
 #define LISTS 1
 #endif
+#ifndef MAPPED
+#define MAPPED 0
+#endif
 
-enum { SHAPES = 5, CALLS = 500, MOST_PAGES = 8, MOST_WORDS = 128, MOST_ADDRESSES = 100, MOST_LISTED = 6 };
+enum { SHAPES = 5, CALLS = 500, MOST_WORDS = 256, MOST_ADDRESSES = 100, MOST_LISTED = 6 };
 
 static const struct {
     uint32_t pages, page_words;
@@ -21,8 +25,8 @@ static const struct {
 
 const unsigned char *checksum_frame;
 static uint64_t sum, seed;
-static uint64_t words[MOST_PAGES * MOST_WORDS << PAIRS];
-static uint8_t torn[MOST_PAGES * MOST_WORDS << PAIRS];
+static uint64_t words[MOST_WORDS << PAIRS];
+static uint8_t torn[MOST_WORDS << PAIRS];
 static ee_flash flash;
 static ee_store store;
 static uint32_t steps_left;
@@ -53,6 +57,17 @@ static uint32_t word(void *context, uint32_t page, uint32_t place, uint64_t *val
     *value = words[i];
     return torn[i];
 }
+
+#if MAPPED
+static const uint64_t *several(void *context, uint32_t page, uint32_t place, uint32_t count) {
+    uint32_t first = first_of(page) + place;
+    (void)context;
+    for (uint32_t i = first; i < first + count; i++) {
+        if (torn[i]) return 0;
+    }
+    return &words[first];
+}
+#endif
 
 /* What a cut leaves of a word that was to become `value`. */
 static void tear(uint32_t i, uint64_t value) {
@@ -173,7 +188,7 @@ static void read_damaged(uint32_t count) {
         uint64_t was = words[i];
         words[i] = 7;
         add_read(1);
-        words[i] = 1u << 16;
+        words[i] = UINT64_C(1) << 16;
         add(make(OPEN, 0, 0));
         words[i] = was;
         add(make(OPEN, 0, 0));
@@ -221,6 +236,9 @@ uint64_t checksum(void) {
     for (int shape = 0; shape < SHAPES; shape++) {
         flash.pages = shapes[shape].pages, flash.page_words = shapes[shape].page_words;
         flash.word = word, flash.program = program, flash.erase = erase, flash.pairs = PAIRS;
+#if MAPPED
+        flash.words = several;
+#endif
         if (!run()) return 0;
     }
     return sum;

@@ -1,11 +1,14 @@
 /* Prints how many ticks of the core's timer four calls take: a write into a free slot, a read that looks through all
  * slots, an opening, and a write that moves. The flash is in memory: two sets of one page of 256 words, with 50
- * variables. With PAIRS it has numbers, two for each word. With QEMU's -icount a tick is so many instructions. */
+ * variables. With PAIRS it has numbers, two for each word. With MAPPED words are looked at where they stand. With QEMU's -icount a tick is so many instructions. */
 #include "../ee.h"
-#include "semihosting.h"
+#include "core.h"
 
 #ifndef PAIRS
 #define PAIRS 0
+#endif
+#ifndef MAPPED
+#define MAPPED 0
 #endif
 
 enum { PAGE_WORDS = 256, VARIABLES = 50, SLOTS = PAGE_WORDS - 4, PLACES = PAGE_WORDS << PAIRS };
@@ -20,6 +23,14 @@ static uint32_t word(void *context, uint32_t page, uint32_t place, uint64_t *val
     return 0;
 }
 
+#if MAPPED
+static const uint64_t *several(void *context, uint32_t page, uint32_t place, uint32_t count) {
+    (void)context;
+    (void)count;
+    return words + page * PLACES + place;
+}
+#endif
+
 static uint32_t program(void *context, uint32_t page, uint32_t place, uint64_t value) {
     (void)context;
     words[page * PLACES + place] = value;
@@ -33,10 +44,10 @@ static uint32_t erase(void *context, uint32_t page) {
 }
 
 static const ee_flash flash = {
+#if MAPPED
+    .words = several,
+#endif
     .pages = 1, .page_words = PAGE_WORDS, .word = word, .program = program, .erase = erase, .pairs = PAIRS};
-
-/* SysTick: control, reload and the count, which falls through 24 bits. */
-static volatile uint32_t *const timer = (volatile uint32_t *)0xe000e010;
 
 static void check(uint32_t status) {
     if (status != EE_OK) end(0);
@@ -44,7 +55,7 @@ static void check(uint32_t status) {
 
 /* Notes the ticks since the timer had this count. */
 static void note(uint32_t since) {
-    uint32_t ticks = (since - timer[2]) & 0xffffff;
+    uint32_t ticks = (since - count()) & 0xffffff;
     line_end = put_decimal(line_end, ticks);
     *line_end++ = ' ';
 }
@@ -55,27 +66,24 @@ static void fill(void) {
 }
 
 static void measure(void) {
-    uint32_t value = 0, since = timer[2];
+    uint32_t value = 0, since = count();
     check(ee_write(&store, VARIABLES, 1));
     note(since);
-    since = timer[2];
+    since = count();
     check(ee_read(&store, 1, &value));
     note(since);
-    since = timer[2];
+    since = count();
     check(ee_open(&store, &flash));
     note(since);
-    since = timer[2];
+    since = count();
     check(ee_write(&store, VARIABLES, 2));
     note(since);
 }
 
-void reset(void);
-
 void reset(void) {
     ee_numbers numbers;
     line_end = line;
-    timer[1] = 0xffffff;
-    timer[0] = 5;
+    start_timer();
     check(ee_format(&store, &flash));
     fill();
     measure();
@@ -85,12 +93,3 @@ void reset(void) {
     ask(SYS_WRITE0, (uintptr_t)line);
     end(numbers.generation == 2 && numbers.live == VARIABLES && numbers.fill == VARIABLES);
 }
-
-static void fault(void) { end(0); }
-
-extern unsigned char stack_top[];
-
-__attribute__((section(".vectors"), used)) static const struct {
-    unsigned char *stack;
-    void (*handlers[15])(void);
-} vectors = {stack_top, {reset, fault, fault, fault, fault, fault}};

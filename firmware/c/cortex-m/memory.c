@@ -1,4 +1,4 @@
-/* What ee.s asks of a C library, for a program that has none. */
+/* What ee.s and ee.c ask of a C library, for a program that has none. */
 #include <stddef.h>
 
 void *memcpy(void *restrict to, const void *restrict from, size_t count) {
@@ -7,6 +7,15 @@ void *memcpy(void *restrict to, const void *restrict from, size_t count) {
     while (count-- > 0) {
         *at++ = *next++;
         __asm__ volatile("" ::: "memory"); /* so that no compiler makes a call of memcpy of it */
+    }
+    return to;
+}
+
+void *memset(void *to, int byte, size_t count) {
+    unsigned char *at = to;
+    while (count-- > 0) {
+        *at++ = (unsigned char)byte;
+        __asm__ volatile("" ::: "memory");
     }
     return to;
 }

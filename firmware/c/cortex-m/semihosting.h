@@ -15,12 +15,25 @@ enum {
     FAILED = 0x20024
 };
 
+#ifdef __riscv
+static inline int ask(int operation, uintptr_t with) {
+    register int a0 __asm__("a0") = operation;
+    register uintptr_t a1 __asm__("a1") = with;
+    /* QEMU knows the call by these three instructions, none of them short, within one page. */
+    __asm__ volatile(".balign 16\n\t.option push\n\t.option norvc\n\tslli x0, x0, 0x1f\n\tebreak\n\tsrai x0, x0, 7\n\t.option pop"
+                     : "+r"(a0)
+                     : "r"(a1)
+                     : "memory");
+    return a0;
+}
+#else
 static inline int ask(int operation, uintptr_t with) {
     register int r0 __asm__("r0") = operation;
     register uintptr_t r1 __asm__("r1") = with;
     __asm__ volatile("bkpt 0xab" : "+r"(r0) : "r"(r1) : "memory");
     return r0;
 }
+#endif
 
 static inline void end(int is_well) {
     for (;;) ask(SYS_EXIT, is_well ? ENDED : FAILED);

@@ -1,11 +1,11 @@
-/* Starts a Cortex-M, runs the checksum, and prints it with the bytes of stack that the deepest call took. */
+/* Starts a core, runs the checksum, and prints it with the bytes of stack that the deepest call took. */
 #include "../checksum/checksum.h"
-#include "semihosting.h"
+#include "core.h"
 
 enum { UNTOUCHED = 0xa5, LEFT_ALONE = 128 };
 
 /* What link.ld names. */
-extern unsigned char bss_start[], bss_end[], stack_low[], stack_top[];
+extern unsigned char bss_start[], bss_end[], stack_low[];
 
 static char *put_hex(char *at, uint64_t number) {
     for (int shift = 60; shift >= 0; shift -= 4) *at++ = "0123456789abcdef"[(number >> shift) & 15];
@@ -27,8 +27,6 @@ static void mark_stack(void) {
     for (volatile unsigned char *at = stack_low; (uintptr_t)at < end; at++) *at = UNTOUCHED;
 }
 
-void reset(void);
-
 void reset(void) {
     for (unsigned char *at = bss_start; at < bss_end; at++) *at = 0;
     mark_stack();
@@ -38,10 +36,3 @@ void reset(void) {
     print(sum, (uint32_t)(checksum_frame - low));
     end(sum != 0 && low > stack_low);
 }
-
-static void fault(void) { end(0); }
-
-__attribute__((section(".vectors"), used)) static const struct {
-    unsigned char *stack;
-    void (*handlers[15])(void);
-} vectors = {stack_top, {reset, fault, fault, fault, fault, fault}};

@@ -2,9 +2,14 @@
 
 #include "../cortex-m/semihosting.h"
 
-enum { PAGE_WORDS = 16, WORDS = 2 * PAGE_WORDS, READ_AND_WRITE = 3 /* "r+b" */, MAKE = 7 /* "w+b" */ };
+#ifndef FLASH_FILE
+#define FLASH_FILE "flash.bin"
+#define FLASH_PAGE_WORDS 16
+#endif
 
-static const char name[] = "flash.bin";
+enum { PAGE_WORDS = FLASH_PAGE_WORDS, WORDS = 2 * PAGE_WORDS, READ_AND_WRITE = 3 /* "r+b" */, MAKE = 7 /* "w+b" */ };
+
+static const char name[] = FLASH_FILE;
 static int file;
 
 static int opened(int mode) {

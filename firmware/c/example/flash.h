@@ -1,5 +1,6 @@
-/* The flash of the example: two sets of one page of 16 words, kept in the file flash.bin of the computer that runs QEMU. On a
- * part this is what reaches its flash controller, as ../port has it for an STM32G4. */
+/* The flash of the examples: two sets of one page, kept in a file of the computer that runs QEMU; flash.bin with pages of 16
+ * words, where the Makefile names no other. On a part this is what reaches its flash controller, as ../port has it for an
+ * STM32G4. */
 #ifndef FLASH_H
 #define FLASH_H
 

@@ -71,6 +71,13 @@ static uint32_t word(void *context, uint32_t page, uint32_t place, uint64_t *val
     return 0;
 }
 
+/* The flash is memory: they stand there. */
+static const uint64_t *words(void *context, uint32_t page, uint32_t place, uint32_t count) {
+    const rp2040 *part = context;
+    (void)count;
+    return (const uint64_t *)(uintptr_t)(part->flash + 2 * (page * NUMBERS + place));
+}
+
 static uint32_t program(void *context, uint32_t page, uint32_t place, uint64_t value) {
     const rp2040 *part = context;
     uint8_t bytes[PROGRAM]; /* those that are all ones leave what stands there */
@@ -100,7 +107,8 @@ ee_flash rp2040_flash(rp2040 *part, uint32_t pages) {
         .word = word,
         .program = program,
         .erase = erase,
-        .pairs = 1,
+        .pairs = 2,
+        .words = words,
     };
     return flash;
 }

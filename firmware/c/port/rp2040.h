@@ -1,7 +1,8 @@
 /* An example of a port: a store in the flash of an RP2040's board, which has no error correction, so its words are pairs of
  * numbers. It was tested on a computer against a model of the boot ROM's functions, of the flash and of the XIP cache
  * (tests/rp2040.c), and never on a board: rp2040_find_rom was never run. Nothing of it is proved. A flash chip that has error
- * correction of its own doesn't fit, since 32 numbers are programmed into the same 256 bytes one after the other.
+ * correction of its own doesn't fit, since 32 numbers are programmed into the same 256 bytes one after the other. `pairs` is 2,
+ * since many serial flashes clear a sector before they erase it, and which one is on a board no port knows.
  *
  * While flash is written nothing is read from it: the port turns interrupts off, and what runs then stands in RAM, in the
  * section .time_critical, which the linker scripts of the Pico SDK put there. The other core is yours to hold off flash. The

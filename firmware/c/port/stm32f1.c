@@ -16,6 +16,11 @@
 #endif
 #endif
 
+/* What is done in each turn of the loop that waits for a step's end: yours, as feeding a watchdog. */
+#ifndef STM32F1_WAIT
+#define STM32F1_WAIT() ((void)0)
+#endif
+
 enum {
     KEY_1 = 0x45670123,
     KEY_2 = (int32_t)0xcdef89ab,
@@ -33,6 +38,7 @@ enum {
 static int is_ready(stm32f1_registers *registers) {
     for (uint32_t turn = 0; turn < STM32F1_MOST_TURNS; turn++) {
         if ((STM32F1_GET(&registers->sr) & SR_BSY) == 0) return 1;
+        STM32F1_WAIT();
     }
     return 0;
 }
@@ -68,6 +74,12 @@ static uint32_t word(void *context, uint32_t page, uint32_t place, uint64_t *val
     *value = 0;
     for (int i = HALVES - 1; i >= 0; i--) *value = *value << 16 | STM32F1_GET_HALF(&at[i]);
     return 0;
+}
+
+/* The flash is memory: they stand there. */
+static const uint64_t *words(void *context, uint32_t page, uint32_t place, uint32_t count) {
+    (void)count;
+    return (const uint64_t *)(uintptr_t)number_at(context, page, place);
 }
 
 /* Programs the half words of a number, but for those that stay erased. Whether there was no error. */
@@ -117,6 +129,7 @@ ee_flash stm32f1_flash(stm32f1 *part, uint32_t pages) {
         .program = program,
         .erase = erase,
         .pairs = 1,
+        .words = words,
     };
     return flash;
 }

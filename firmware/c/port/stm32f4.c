@@ -14,6 +14,11 @@
 #endif
 #endif
 
+/* What is done in each turn of the loop that waits for a step's end: yours, as feeding a watchdog. */
+#ifndef STM32F4_WAIT
+#define STM32F4_WAIT() ((void)0)
+#endif
+
 enum {
     KEY_1 = 0x45670123,
     KEY_2 = (int32_t)0xcdef89ab,
@@ -33,6 +38,7 @@ static const uint32_t CR_LOCK = 1u << 31;
 static int is_ready(stm32f4_registers *registers) {
     for (uint32_t turn = 0; turn < STM32F4_MOST_TURNS; turn++) {
         if ((STM32F4_GET(&registers->sr) & SR_BSY) == 0) return 1;
+        STM32F4_WAIT();
     }
     return 0;
 }
@@ -99,6 +105,12 @@ static int program_halves(stm32f4_registers *registers, volatile uint32_t *at, u
     return 1;
 }
 
+/* The flash is memory: they stand there. */
+static const uint64_t *words(void *context, uint32_t page, uint32_t place, uint32_t count) {
+    (void)count;
+    return (const uint64_t *)(uintptr_t)number_at(context, page, place);
+}
+
 static uint32_t programmed(stm32f4 *part, uint32_t page, uint32_t place, uint64_t value) {
     uint64_t found;
     if (!begin(part->registers)) return 1;
@@ -149,6 +161,7 @@ ee_flash stm32f4_flash(stm32f4 *part) {
         .program = program,
         .erase = erase,
         .pairs = 1,
+        .words = words,
     };
     return flash;
 }

@@ -1,5 +1,7 @@
 #include "stm32g4.h"
 
+#include <stddef.h>
+
 /* What a test puts in place of the part. On the part these are plain reads and writes, and a barrier behind which all of them
  * are done, and an NMI that they raise has come. */
 #ifndef STM32G4_SET
@@ -12,6 +14,11 @@
 #else
 #define STM32G4_BARRIER() ((void)0)
 #endif
+#endif
+
+/* What is done in each turn of the loop that waits for a step's end: yours, as feeding a watchdog. */
+#ifndef STM32G4_WAIT
+#define STM32G4_WAIT() ((void)0)
 #endif
 
 enum {
@@ -36,6 +43,7 @@ static const uint32_t ECCR_ECCC2 = 1u << 28, ECCR_ECCD2 = 1u << 29, ECCR_ECCC = 
 static int is_ready(stm32g4_registers *registers) {
     for (uint32_t turn = 0; turn < STM32G4_MOST_TURNS; turn++) {
         if ((STM32G4_GET(&registers->sr) & SR_BSY) == 0) return 1;
+        STM32G4_WAIT();
     }
     return 0;
 }
@@ -122,6 +130,15 @@ static uint32_t word(void *context, uint32_t page, uint32_t place, uint64_t *val
     return status;
 }
 
+/* Reads words into the port's room, up to the first that can't be read. */
+static const uint64_t *words(void *context, uint32_t page, uint32_t place, uint32_t count) {
+    stm32g4 *part = context;
+    uint32_t acr = cache_off(part->registers), read = 0;
+    while (read < count && look(part, page, place + read, &part->run[read]) == 0) read++;
+    STM32G4_SET(&part->registers->acr, acr);
+    return read == count ? part->run : NULL;
+}
+
 static uint32_t programmed(stm32g4 *part, uint32_t page, uint32_t place, uint64_t value) {
     volatile uint32_t *at = word_at(part, page, place);
     uint64_t found;
@@ -175,6 +192,7 @@ ee_flash stm32g4_flash(stm32g4 *part, uint32_t pages) {
         .program = program,
         .erase = erase,
         .pairs = 0,
+        .words = words,
     };
     part->pages = 2 * pages;
     return flash;

@@ -1,5 +1,7 @@
 #include "stm32u5.h"
 
+#include <stddef.h>
+
 /* What a test puts in place of the part. On the part these are plain reads and writes, and a barrier behind which all of them
  * are done, and an NMI that they raise has come. */
 #ifndef STM32U5_SET
@@ -12,6 +14,11 @@
 #else
 #define STM32U5_BARRIER() ((void)0)
 #endif
+#endif
+
+/* What is done in each turn of the loop that waits for a step's end: yours, as feeding a watchdog. */
+#ifndef STM32U5_WAIT
+#define STM32U5_WAIT() ((void)0)
 #endif
 
 enum {
@@ -37,6 +44,7 @@ static const uint32_t CACHE_EN = 1u << 0, CACHE_CACHEINV = 1u << 1, CACHE_BUSYF 
 static int is_ready(stm32u5_registers *registers) {
     for (uint32_t turn = 0; turn < STM32U5_MOST_TURNS; turn++) {
         if ((STM32U5_GET(&registers->nssr) & SR_BUSY) == 0) return 1;
+        STM32U5_WAIT();
     }
     return 0;
 }
@@ -128,6 +136,14 @@ static uint32_t word(void *context, uint32_t page, uint32_t place, uint64_t *val
     return half[0] == UINT64_MAX ? half[1] != UINT64_MAX : half[1] != ~half[0];
 }
 
+/* Reads words into the port's room, up to the first that can't be read. */
+static const uint64_t *words(void *context, uint32_t page, uint32_t place, uint32_t count) {
+    stm32u5 *part = context;
+    uint32_t read = 0;
+    while (read < count && word(context, page, place + read, &part->run[read]) == 0) read++;
+    return read == count ? part->run : NULL;
+}
+
 static uint32_t programmed(stm32u5 *part, uint32_t page, uint32_t place, uint64_t value) {
     volatile uint32_t *at = unit_at(part, page, place);
     uint64_t found;
@@ -185,6 +201,7 @@ ee_flash stm32u5_flash(stm32u5 *part, uint32_t pages) {
         .program = program,
         .erase = erase,
         .pairs = 0,
+        .words = words,
     };
     part->pages = 2 * pages;
     return flash;

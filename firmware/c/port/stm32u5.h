@@ -44,6 +44,7 @@ typedef struct stm32u5 {
     volatile uint32_t is_reading; /* whether `word` reads */
     volatile uint32_t error;      /* ECCR at the last error in these pages that can't be corrected */
     uint32_t corrected;           /* ECCR when the flag of a corrected error was last taken away: yours to look at */
+    uint64_t run[EE_RUN];         /* the words that were read at once */
 } stm32u5;
 
 /* The flash of the store: two sets of so many pages of 8 KB, each of 512 words. */

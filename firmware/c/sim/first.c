@@ -1,10 +1,11 @@
 /* A first test with the flash in memory: power is cut in each step of a few writes, in each way, and the store opened again.
- * Each variable then has the value before the write that was cut, or the one behind it. So it is of words, and of pairs. */
+ * Each variable then has the value before the write that was cut, or the one behind it. So it is of words, of pairs, and of
+ * pairs whose erase clears cells first. */
 #include <stdlib.h>
 
 #include "sim.h"
 
-enum { WRITES = 5 };
+enum { WRITES = 5, KINDS = 3 };
 
 static const struct {
     uint16_t address;
@@ -40,10 +41,10 @@ static uint32_t wanted(uint16_t address, int count) {
 static int is_as_after(int count) { return value_of(1) == wanted(1, count) && value_of(2) == wanted(2, count); }
 
 /* Makes the writes on a new part with room for two changes, and cuts power in one step. How many were made before that. */
-static int writes_made(int pairs, uint32_t step, sim_tear leaves) {
+static int writes_made(int kind, uint32_t step, sim_tear leaves) {
     int made = 0;
-    if (pairs) sim_new_pairs(&part, 1, 6);
-    else sim_new(&part, 1, 6);
+    static void (*const made_new[KINDS])(sim *, uint32_t, uint32_t) = {sim_new, sim_new_pairs, sim_new_clearing};
+    made_new[kind](&part, 1, 6);
     part.seed = step;
     flash = sim_flash(&part);
     check(ee_start(&store, &flash) == EE_OK, "a new part was not started");
@@ -53,9 +54,9 @@ static int writes_made(int pairs, uint32_t step, sim_tear leaves) {
 }
 
 /* Cuts power in each step in a way. How many steps there are. */
-static unsigned cut_each_step(int pairs, sim_tear leaves) {
+static unsigned cut_each_step(int kind, sim_tear leaves) {
     for (uint32_t step = 1;; step++) {
-        int made = writes_made(pairs, step, leaves);
+        int made = writes_made(kind, step, leaves);
         if (part.cuts == 0) return step - 1;
         sim_power(&part);
         check(ee_start(&store, &flash) == EE_OK, "the store was not opened after a cut");
@@ -65,10 +66,10 @@ static unsigned cut_each_step(int pairs, sim_tear leaves) {
 
 int main(void) {
     static const sim_tear ways[4] = {SIM_NOTHING, SIM_DONE, SIM_TORN, SIM_MIXED};
-    unsigned cuts[2] = {0, 0};
-    for (int pairs = 0; pairs < 2; pairs++)
-        for (int way = 0; way < 4; way++) cuts[pairs] += cut_each_step(pairs, ways[way]);
-    printf("%u cuts of words and %u of pairs, and no value was lost\n", cuts[0], cuts[1]);
+    unsigned cuts[KINDS] = {0};
+    for (int kind = 0; kind < KINDS; kind++)
+        for (int way = 0; way < 4; way++) cuts[kind] += cut_each_step(kind, ways[way]);
+    printf("%u cuts of words, %u of pairs and %u where erases clear first, and no value was lost\n", cuts[0], cuts[1], cuts[2]);
     writes_made(0, 9, SIM_TORN);
     printf("power cut in the ninth step of words, which left this:\n");
     sim_write(&part, stdout);

@@ -64,6 +64,12 @@ static void erase_half(sim *part, uint64_t *pair) {
     else pair[1] &= ~lowest_zero(second);
 }
 
+/* What a cut leaves of a pair whose cells an erase clears first: some cleared, or all and some set again. No value is made. */
+static void clear_half(sim *part, uint64_t *pair, int sets) {
+    for (int i = 0; i < 2; i++) pair[i] = sets ? picked(part) : pair[i] & picked(part);
+    if (is_value(pair) || is_erased_pair(pair)) pair[0] = pair[1] = 0;
+}
+
 /* Whether power is cut in the step that begins. */
 static int is_cut(sim *part) {
     if (part->cut_in == 0 || --part->cut_in > 0) return 0;
@@ -101,11 +107,12 @@ static sim_tear tear_of(const sim *part, uint32_t place) {
     return part->tear == SIM_MIXED ? mixed[place % 3] : part->tear;
 }
 
-/* Leaves a word of a page that is erased so. */
-static void leave(sim *part, uint32_t page, uint32_t place, sim_tear left) {
+/* Leaves a word of a page that is erased so; a torn one where cells are set, or still cleared. */
+static void leave(sim *part, uint32_t page, uint32_t place, sim_tear left, int sets) {
     uint64_t *at = &part->words[page][place << part->pairs];
     if (left == SIM_DONE) memset(at, 0xff, sizeof *at << part->pairs);
-    if (left == SIM_TORN && part->pairs) erase_half(part, at);
+    if (left == SIM_TORN && part->clears_first) clear_half(part, at, sets);
+    else if (left == SIM_TORN && part->pairs) erase_half(part, at);
     else if (left != SIM_NOTHING) part->torn[page][place] = left == SIM_TORN;
 }
 
@@ -116,7 +123,9 @@ static uint32_t erase(void *context, uint32_t page) {
     part->erased++;
     if (part->wear[page] < UINT64_MAX) part->wear[page]++;
     int cut = is_cut(part);
-    for (uint32_t place = 0; place < part->page_words; place++) leave(part, page, place, cut ? tear_of(part, place) : SIM_DONE);
+    int sets = part->clears_first && (picked(part) & 1);
+    for (uint32_t place = 0; place < part->page_words; place++)
+        leave(part, page, place, cut ? tear_of(part, place) : SIM_DONE, sets);
     return (uint32_t)cut;
 }
 
@@ -144,9 +153,14 @@ ee_flash sim_flash(sim *part) {
         .word = word,
         .program = program,
         .erase = erase,
-        .pairs = part->pairs,
+        .pairs = part->pairs << part->clears_first,
     };
     return flash;
+}
+
+void sim_new_clearing(sim *part, uint32_t pages, uint32_t page_words) {
+    sim_new_pairs(part, pages, page_words);
+    part->clears_first = 1;
 }
 
 void sim_cut(sim *part, uint32_t step, sim_tear leaves) {

@@ -3,7 +3,8 @@
  * for ee.h, in the same folder or by -I.
  *
  *     sim part;
- *     sim_new(&part, 1, 16);              two sets of one page of 16 words, all erased; sim_new_pairs: of pairs of numbers
+ *     sim_new(&part, 1, 16);              two sets of one page of 16 words, all erased; sim_new_pairs: of pairs of numbers;
+ *                                         sim_new_clearing: of pairs whose erase clears cells first
  *     ee_flash flash = sim_flash(&part);
  *     sim_cut(&part, 3, SIM_TORN);        the third further step is cut, and leaves torn words
  *     ..                                  calls; the one that is cut answers EE_DRIVER
@@ -31,11 +32,12 @@ extern "C" {
 #endif
 
 /* What the step leaves in which power is cut, by the letter of a script. Of pairs, cells go one way: a number that is programmed
- * keeps every bit of the one asked for, and one that is erased every bit that it had. Which other bits it has is picked. */
+ * keeps every bit of the one asked for, and one that is erased every bit that it had. Where an erase clears first, torn pairs
+ * have any bits. Which bits those are is picked. */
 typedef enum sim_tear {
     SIM_NOTHING = 'n', /* what was there */
     SIM_DONE = 'd',    /* the whole step */
-    SIM_TORN = 't',    /* words that can't be read; a pair that an erase finds erased stays so */
+    SIM_TORN = 't',    /* words that can't be read; a pair that an erase finds erased stays so, unless it clears first */
     SIM_MIXED = 'm'    /* of an erased page the words 0, 3, 6 .. as they were, 1, 4, 7 .. erased and 2, 5, 8 .. torn; else torn */
 } sim_tear;
 
@@ -43,6 +45,7 @@ typedef enum sim_tear {
 typedef struct sim {
     uint32_t pages, page_words; /* of a set; of a page */
     uint32_t pairs;             /* 1: a word is two numbers, those at 2 * place and behind it */
+    uint32_t clears_first;      /* 1: an erase clears the cells of its page before it sets them */
     uint64_t words[2 * SIM_MOST_PAGES][2 * SIM_MOST_WORDS]; /* or numbers; all ones: erased, if it isn't torn */
     unsigned char torn[2 * SIM_MOST_PAGES][SIM_MOST_WORDS]; /* 1: it can't be read; of pairs none is */
     uint64_t wear[2 * SIM_MOST_PAGES];                      /* how often each page was erased, cut or not */
@@ -59,6 +62,9 @@ void sim_new(sim *part, uint32_t pages, uint32_t page_words);
 
 /* The same without error correction: it has numbers, and its `ee_flash` has `pairs`. */
 void sim_new_pairs(sim *part, uint32_t pages, uint32_t page_words);
+
+/* The same where an erase clears the cells of its page first, as many serial flashes do: `pairs` of its `ee_flash` is 2. */
+void sim_new_clearing(sim *part, uint32_t pages, uint32_t page_words);
 
 /* What the store reaches the part by. */
 ee_flash sim_flash(sim *part);

@@ -5,10 +5,12 @@ use core::cell::Cell;
 use core::ffi::c_void;
 use core::mem::MaybeUninit;
 use core::ptr::{eq, null};
+use core::slice::from_raw_parts;
 use ee_store::proved::{self, Cut, Flash as _, Pairs};
 use ee_store::{Shape, Word};
 
 type WordCall = unsafe extern "C" fn(*mut c_void, u32, u32, *mut u64) -> u32;
+type WordsCall = unsafe extern "C" fn(*mut c_void, u32, u32, u32) -> *const u64;
 type ProgramCall = unsafe extern "C" fn(*mut c_void, u32, u32, u64) -> u32;
 type EraseCall = unsafe extern "C" fn(*mut c_void, u32) -> u32;
 
@@ -22,6 +24,7 @@ pub struct Flash {
     pub program: Option<ProgramCall>,
     pub erase: Option<EraseCall>,
     pub pairs: u32,
+    pub words: Option<WordsCall>,
 }
 
 impl Flash {
@@ -62,7 +65,7 @@ impl Device {
     }
 
     /// C's flash, while it is on.
-    fn flash(&self) -> Option<&Flash> {
+    pub(crate) fn flash(&self) -> Option<&Flash> {
         // SAFETY: as of `new`; and C keeps what it shows while the store is open.
         unsafe { self.power().get().as_ref() }
     }
@@ -101,13 +104,56 @@ impl Device {
         Some(unsafe { value.assume_init() })
     }
 
-    /// A read ended with this number: whether the read itself failed.
+    /// So many words or numbers of a page from a place on, where C has them in memory.
+    #[inline(always)]
+    pub(crate) fn seen(
+        &self,
+        flash: &Flash,
+        page: usize,
+        at: usize,
+        count: usize,
+    ) -> Option<&[u64]> {
+        let call = flash.words?;
+        // SAFETY: as of `new`. C says that so many stand there until the next call of its functions, and the store looks at each
+        // run before it asks for more.
+        unsafe {
+            let words = call(flash.context, page as u32, at as u32, count as u32).as_ref()?;
+            Some(from_raw_parts(words, count))
+        }
+    }
+
+    /// Asks for each word of a run. One that can't be read is 0.
+    #[inline(never)]
+    fn fill(&self, flash: &Flash, page: usize, at: usize, room: &mut [u64]) {
+        if flash.pairs != 0 {
+            // They stand in the room: the flash has no words in memory, but two numbers for each.
+            Pairs::known(self.numbers_of(flash)).run(page, at, room);
+            return;
+        }
+        for (place, number) in (at..).zip(room) {
+            // SAFETY: as of `new`.
+            let failed = unsafe {
+                let call = flash.word.unwrap_unchecked();
+                call(flash.context, page as u32, place as u32, number)
+            };
+            if failed != 0 {
+                *number = 0;
+                // No read follows one that failed, and what the room has then counts for nothing.
+                if self.unread(failed) {
+                    return;
+                }
+            }
+        }
+    }
+
+    /// A read ended with this number: whether the read itself failed, which turns the device off.
     #[cold]
     #[inline(never)]
-    pub(crate) fn unread(&self, failed: u32) {
+    pub(crate) fn unread(&self, failed: u32) -> bool {
         if failed == READ_FAILED {
             self.turn_off();
         }
+        failed == READ_FAILED
     }
 
     /// A word that is two numbers, of a flash that is on. It stays out of the reading of words, which is short.
@@ -193,6 +239,23 @@ impl proved::Flash for Device {
             return self.pair(page, at);
         }
         self.found(flash, page, at).map_or(Word::Torn, Word::from)
+    }
+
+    // As of `word`: only a page that is looked through from its first word on may be none of the flash.
+    #[inline(never)]
+    fn run<'a>(&'a self, page: usize, at: usize, room: &'a mut [u64]) -> &'a [u64] {
+        match self.flash() {
+            Some(flash) if at != 0 || flash.has(page) => {
+                if flash.pairs == 0 {
+                    if let Some(words) = self.seen(flash, page, at, room.len()) {
+                        return words;
+                    }
+                }
+                self.fill(flash, page, at, room);
+            }
+            _ => self.turn_off(),
+        }
+        room
     }
 
     // Steps stay out of the calls that make them: a call costs nothing beside a step of flash, and there are several.

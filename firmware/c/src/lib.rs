@@ -1,6 +1,6 @@
 //! The store for C: `ee.h` says what each function does, and what C owes. The files of this folder are the only ones with
-//! `unsafe`: this one, `opening.rs` and `values.rs` read the pointers that C gives, and `flash.rs` calls the functions of C's
-//! driver.
+//! `unsafe`: this one, `opening.rs`, `rescuing.rs` and `values.rs` read the pointers that C gives, and `flash.rs` calls the
+//! functions of C's driver.
 //!
 //! C's flash is a device of the proved store itself, not a driver of the package: it has no error to carry, and a store of
 //! eight pointers has room for the one pointer that says whether it is on.
@@ -11,6 +11,7 @@
 mod flash;
 mod numbers;
 mod opening;
+mod rescuing;
 mod values;
 
 use core::mem::{size_of, MaybeUninit};
@@ -146,6 +147,10 @@ pub unsafe extern "C" fn ee_write_all(store: *mut Memory, values: *const Value, 
         Ok(values) => values,
         Err(status) => return status,
     };
+    // A list of one is written as by `ee_write`, whose code is there already.
+    if let [put] = values {
+        return unsafe { ee_write(store, put.address.get(), put.value) };
+    }
     let status = match running.store.write_all(values) {
         Ok(Written::Appended) => return EE_OK,
         Ok(Written::Moved) => EE_OK,
@@ -169,6 +174,20 @@ pub unsafe extern "C" fn ee_forget(store: *mut Memory, address: u16) -> u32 {
         Ok(Written::Appended) => return EE_OK,
         Ok(Written::Moved) => EE_OK,
         Err(ForgetFault::Absent) => EE_ABSENT,
+        Err(_) => EE_SPENT,
+    };
+    running.status(status)
+}
+
+#[no_mangle]
+pub unsafe extern "C" fn ee_clear(store: *mut Memory) -> u32 {
+    let running = match unsafe { running(store) } {
+        Ok(running) => running,
+        Err(status) => return status,
+    };
+    let status = match running.store.clear() {
+        Ok(_) => EE_OK,
+        // Or it was cut, and is broken.
         Err(_) => EE_SPENT,
     };
     running.status(status)

@@ -1,7 +1,6 @@
 //! C's flash of numbers, two for each word, as the proved words take them.
 
 use crate::flash::{Device, Flash};
-use core::cell::Cell;
 use ee_store::proved::{Cut, Flash as _, Nor};
 use ee_store::Shape;
 
@@ -17,6 +16,10 @@ impl Nor for Numbers<'_> {
         self.device.shape
     }
 
+    fn clears_first(&self) -> bool {
+        self.flash.pairs == 2
+    }
+
     fn wear(&self, page: usize) -> u64 {
         self.device.wear(page)
     }
@@ -25,10 +28,18 @@ impl Nor for Numbers<'_> {
         self.device.is_on()
     }
 
-    /// A number that can't be read is taken as 0: no word of a store is 0, so none is made of it.
-    #[inline(always)]
+    /// A number that can't be read is taken as 0: no word of a store is 0, so none is made of it. No read follows one that
+    /// failed. While the device is on it has the flash that it had.
+    #[inline(never)]
     fn read(&self, page: usize, at: usize) -> u64 {
-        self.device.found(self.flash, page, at).unwrap_or(0)
+        match self.device.flash() {
+            Some(flash) => self.device.found(flash, page, at).unwrap_or(0),
+            None => 0,
+        }
+    }
+
+    fn window(&self, page: usize, at: usize, count: usize) -> Option<&[u64]> {
+        self.device.seen(self.flash, page, at, count)
     }
 
     #[inline(always)]
@@ -58,53 +69,4 @@ pub enum How {
     Open,
     Start,
     Format,
-}
-
-/// Numbers that are looked at before an opening, with a note.
-pub struct Looked<'a> {
-    pub numbers: Numbers<'a>,
-    /// `Open` once a number was found that is not all ones, but for the first four of page 0.
-    pub how: Cell<How>,
-}
-
-impl Nor for Looked<'_> {
-    fn shape(&self) -> Shape {
-        self.numbers.shape()
-    }
-
-    fn wear(&self, page: usize) -> u64 {
-        self.numbers.wear(page)
-    }
-
-    fn is_on(&self) -> bool {
-        self.numbers.is_on()
-    }
-
-    // Of an opening, which costs little beside this; out of `Pairs`, which asks for a number in several places.
-    #[inline(never)]
-    fn read(&self, page: usize, at: usize) -> u64 {
-        let number = self.numbers.read(page, at);
-        if number != u64::MAX && (page | at >> 2) != 0 {
-            self.how.set(How::Open);
-        }
-        number
-    }
-
-    fn program(&mut self, page: usize, at: usize, number: u64) -> Result<(), Cut> {
-        self.numbers.program(page, at, number)
-    }
-
-    fn erase(&mut self, page: usize) -> Result<(), Cut> {
-        self.numbers.erase(page)
-    }
-
-    fn cuts(&self) -> u64 {
-        self.numbers.cuts()
-    }
-
-    fn cuts_left(&self) -> Option<u64> {
-        self.numbers.cuts_left()
-    }
-
-    fn power_on(&mut self) {}
 }

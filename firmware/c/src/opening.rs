@@ -1,15 +1,14 @@
 //! The calls that open a store.
 
 use crate::flash::{Device, Flash};
-use crate::numbers::{How, Looked, Numbers};
+use crate::numbers::{How, Numbers};
 use crate::{
     Kept, Memory, EE_DRIVER, EE_FOREIGN, EE_NO_LIVE_SET, EE_NULL, EE_OK, EE_TWO_LIVE,
     EE_UNFORMATTED, EE_WRONG_SHAPE,
 };
-use core::cell::Cell;
 use core::mem::MaybeUninit;
 use core::ptr::{addr_of, addr_of_mut, null};
-use ee_store::proved::{self, OpenFault, Pairs};
+use ee_store::proved::{self, Nor as _, OpenFault, Pairs};
 use ee_store::{ScanFault, Shape};
 
 /// Keeps what an opening gave in the store of the memory that C lends, and gives its status.
@@ -30,20 +29,17 @@ fn kept(lent: &mut MaybeUninit<Kept>, opened: Result<Kept, (Device, OpenFault)>)
 
 /// Prepares a flash of numbers, and says how it is opened then, or the status that refuses it. One that holds more than a
 /// first start that was cut leaves is opened, and no first store made there: `ee_store::start` does so too.
-fn prepared(numbers: Numbers, how: How) -> Result<How, u32> {
-    let looked = Looked {
-        numbers,
-        how: Cell::new(how),
-    };
+fn prepared(device: &Device, numbers: Numbers, how: How) -> Result<How, u32> {
+    let clears_first = numbers.clears_first();
     if how == How::Format {
         // Where it fails the device goes off.
-        let _ = Pairs::wipe(looked);
-        return Ok(how);
+        let _ = Pairs::wipe(numbers);
+    } else if Pairs::of(numbers).is_err() {
+        return Err(EE_FOREIGN);
+    } else if how == How::Start && proved::holds_more(device, clears_first) {
+        return Ok(How::Open);
     }
-    match Pairs::of(looked) {
-        Ok(pairs) => Ok(pairs.into_nor().how.get()),
-        Err(_) => Err(EE_FOREIGN),
-    }
+    Ok(how)
 }
 
 /// Opens a store over C's flash, and keeps it in the memory that C lends. Pointers are null or good.
@@ -61,7 +57,7 @@ unsafe fn opened(lent: *mut Memory, flash: *const Flash, how: How) -> u32 {
         return EE_NULL;
     }
     let shape = Shape::new(given.pages as usize, given.page_words as usize);
-    let (Some(shape), 0..=1) = (shape, given.pairs) else {
+    let (Some(shape), 0..=2) = (shape, given.pairs) else {
         return EE_WRONG_SHAPE;
     };
     power.set(flash);
@@ -70,7 +66,7 @@ unsafe fn opened(lent: *mut Memory, flash: *const Flash, how: How) -> u32 {
     let numbers = device.numbers();
     // The device looks at the power while the store is written.
     let memory = unsafe { &mut *addr_of_mut!((*lent).store) };
-    let status = match numbers.map_or(Ok(how), |numbers| prepared(numbers, how)) {
+    let status = match numbers.map_or(Ok(how), |numbers| prepared(&device, numbers, how)) {
         Ok(How::Open) => kept(memory, proved::open(device)),
         Ok(How::Start) => kept(memory, proved::start(device)),
         Ok(How::Format) => match proved::format(device) {

@@ -1,7 +1,7 @@
 /* A flash that answers anything: whatever its functions say, the library asks for no page and no word that it doesn't have. A
  * look gives what stands there, or now and then anything that a store might have written, another number, a torn word or
- * EE_READ_FAILED; a step is made, fails, or does nothing. The argument is how many calls are made, on words and as many on
- * pairs of numbers. */
+ * EE_READ_FAILED; a step is made, fails, or does nothing. The argument is how many calls are made, on words, as many on
+ * pairs of numbers, and as many on pairs whose erase clears first. */
 #define MOST_PAGES 6
 #define MOST_WORDS 12
 #include "part.h"
@@ -36,7 +36,7 @@ static uint64_t anything(void) {
 }
 
 static void check(uint32_t page, uint32_t place) {
-    CHECK(page < 2 * flash.pages && place < flash.page_words << flash.pairs);
+    CHECK(page < 2 * flash.pages && place < flash.page_words << (flash.pairs != 0));
 }
 
 static uint32_t word(void *context, uint32_t page, uint32_t place, uint64_t *value) {
@@ -45,6 +45,15 @@ static uint32_t word(void *context, uint32_t page, uint32_t place, uint64_t *val
     if (fails()) return EE_READ_FAILED;
     *value = below(odds) ? words[page][place] : anything();
     return below(8 * odds) == 0;
+}
+
+/* Now and then what stands there, for any place and any count that the flash has. */
+static const uint64_t *several(void *context, uint32_t page, uint32_t place, uint32_t count) {
+    (void)context;
+    CHECK(count >= 1 && count <= 16u << (flash.pairs != 0));
+    check(page, place);
+    check(page, place + count - 1);
+    return below(4) ? &words[page][place] : NULL;
 }
 
 static uint32_t program(void *context, uint32_t page, uint32_t place, uint64_t value) {
@@ -85,7 +94,8 @@ static void run(uint32_t pairs, unsigned long calls) {
     unsigned long made = 0, opened = 0;
     while (made < calls) {
         memset(words, 0xff, sizeof words);
-        flash = (ee_flash){0, 1 + below(3), 5 + below(6), word, program, erase, pairs};
+        flash = (ee_flash){.pages = 1 + below(3), .page_words = 5 + below(6), .word = word, .program = program, .erase = erase,
+                           .pairs = pairs, .words = below(2) ? several : NULL};
         odds = some_odds[below(5)], faults = some_faults[below(4)];
         for (int round = 0; round < 4; round++) {
             uint32_t how = below(4);
@@ -101,5 +111,6 @@ int main(int count, char **argument) {
     unsigned long calls = count > 1 ? strtoul(argument[1], NULL, 10) : 200000;
     run(0, calls);
     run(1, calls);
+    run(2, calls);
     return 0;
 }

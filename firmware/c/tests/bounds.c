@@ -6,7 +6,7 @@
 #include "part.h"
 
 enum { SHAPES = 5, CALLS = 3000 };
-enum kind { START, OPEN, FORMAT, WRITE, WRITE_ALL, FORGET, CLEAN, READ, NEXT, COUNTS };
+enum kind { START, OPEN, FORMAT, WRITE, WRITE_ALL, FORGET, CLEAR, CLEAN, READ, NEXT, COUNTS, RESCUE, BAD_WORDS };
 
 static const uint32_t shapes[SHAPES][2] = {{1, 5}, {1, 40}, {2, 7}, {3, 20}, {8, 5}};
 static part device;
@@ -40,25 +40,46 @@ static uint32_t made(enum kind kind, uint16_t address) {
     case WRITE: return ee_write(&store, address, value);
     case WRITE_ALL: return ee_write_all(&store, list, listed);
     case FORGET: return ee_forget(&store, address);
+    case CLEAR: return ee_clear(&store);
     case CLEAN: return ee_clean(&store);
     case READ: return ee_read(&store, address, &value);
     case NEXT: return ee_next(&store, &address, &value);
-    default: return ee_counts(&store, &numbers);
+    case COUNTS: return ee_counts(&store, &numbers);
+    case RESCUE: return ee_rescue(&store, &flash);
+    default: return ee_bad_words(&flash, &value);
     }
+}
+
+/* How many words of the flash are torn. */
+static uint32_t torn_words(void) {
+    uint32_t torn = 0;
+    for (uint32_t page = 0; page < 2 * device.pages; page++) {
+        for (uint32_t at = 0; at < device.page_words; at++) {
+            const uint64_t *numbers = &device.words[page][2 * at];
+            int is_erased = numbers[0] == UINT64_MAX && numbers[1] == UINT64_MAX;
+            int is_held = numbers[0] != UINT64_MAX && numbers[1] == ~numbers[0];
+            torn += device.pairs ? !is_erased && !is_held : device.torn[page][at];
+        }
+    }
+    return torn;
 }
 
 /* Makes a call, and sees that it stays below the table. */
 static uint32_t counted(enum kind kind, uint16_t address, int is_room) {
-    uint32_t p = device.pages, s = p * (device.page_words - 4), w = 2 * p * device.page_words, n = s * (s / 16 + 1);
+    uint32_t p = device.pages, s = p * (device.page_words - 4), w = 2 * p * device.page_words, n = s * (s / 28 + 1);
     if (kind == WRITE_ALL) make_list(address, s);
     const uint32_t most[][3] = {
         [START] = {3 * w, 2 * p, 2 * p}, [OPEN] = {3 * w, 2 * p, 0},
-        [FORMAT] = {w + 2, 2, 2 * p},    [WRITE] = {is_room ? 2 : 2 * n + 2 * w, is_room ? 3 : s + 3 * p + 1, is_room ? 0 : p},
+        [FORMAT] = {w + 2 * p + 2, 2, 2 * p},
+        [WRITE] = {is_room ? 2 : 2 * n + 2 * w, is_room ? 3 : s + 3 * p + 1, is_room ? 0 : p},
         [WRITE_ALL] = {2 * n + 2 * w + listed * s, s + 3 * p + 1, p},
         [FORGET] = {is_room ? s + 2 : n + 2 * w, is_room ? 3 : s + 3 * p + 1, is_room ? 0 : p},
-        [CLEAN] = {w / 2, 0, 1},         [READ] = {s, 0, 0},
-        [NEXT] = {n, 0, 0},              [COUNTS] = {n + w, 0, 0}};
-    uint32_t looked_at = device.pairs && kind <= FORMAT ? w : 0;
+        [CLEAR] = {2 * w, p + 2, p},     [CLEAN] = {w / 2 + p, 0, 1},
+        [READ] = {s, 0, 0},              [NEXT] = {n, 0, 0},
+        [COUNTS] = {n + w, 0, 0},        [RESCUE] = {n + 3 * w, s + 3 * p + 1, p},
+        [BAD_WORDS] = {2 * w, 0, 0}};
+    uint32_t looked_at = !device.pairs || kind > FORMAT ? 0 : kind == START ? 2 * w : w;
+    if (kind <= OPEN) looked_at += 17 * torn_words();
     device.read = device.programmed = device.erased = 0;
     uint32_t status = made(kind, address);
     CHECK(device.read <= (most[kind][0] + looked_at) << device.pairs);
@@ -68,9 +89,10 @@ static uint32_t counted(enum kind kind, uint16_t address, int is_room) {
 }
 
 /* Opens the store again after a cut, or formats again. */
-static void opened_again(int is_format) {
+static void opened_again(enum kind kind) {
     device.cut_in = 0;
-    CHECK(counted(is_format ? FORMAT : below(2) ? OPEN : START, 0, 0) == EE_OK);
+    if (kind == FORMAT) CHECK(counted(FORMAT, 0, 0) == EE_OK);
+    else CHECK(counted(below(3) == 0 ? RESCUE : below(2) ? OPEN : START, 0, 0) == EE_OK);
 }
 
 /* Whether a slot is free, of a store that is on. */
@@ -82,15 +104,16 @@ static int is_room(void) {
 static void run(uint32_t pages, uint32_t page_words, uint32_t addresses, uint32_t pairs) {
     blank(&device, pages, page_words);
     device.pairs = pairs;
+    device.runs = (enum runs)below(RUN_KINDS);
     flash = flash_of(&device);
     CHECK(counted(OPEN, 0, 0) == EE_UNFORMATTED && counted(START, 0, 0) == EE_OK);
     for (int i = 0; i < CALLS; i++) {
-        enum kind kind = below(50) == 0 ? FORMAT : below(4) == 0 ? (enum kind)below(COUNTS + 1) : below(3) ? WRITE : below(3) ? FORGET : WRITE_ALL;
+        enum kind kind = below(50) == 0 ? FORMAT : below(4) == 0 ? (enum kind)below(BAD_WORDS + 1) : below(3) ? WRITE : below(3) ? FORGET : WRITE_ALL;
         device.steps = 0;
         device.cut_in = below(4) == 0 ? 1 + below(12) : 0;
         device.tear = (enum tear)below(TEARS);
         if (counted(kind, (uint16_t)(1 + below(addresses)), is_room()) == EE_DRIVER) {
-            opened_again(kind == FORMAT);
+            opened_again(kind);
         }
         device.cut_in = 0;
     }

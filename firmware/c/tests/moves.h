@@ -78,6 +78,21 @@ static inline uint32_t changed(ee_store *store, values *all) {
     return ee_write_all(store, list, 2);
 }
 
+/* Some words of the flash at once are what `word` says of each, and are not answered where one of them can't be read. */
+static inline void check_run(const ee_flash *flash) {
+    uint32_t shift = flash->pairs != 0, places = flash->page_words << shift, page = below(2 * flash->pages), place = below(places);
+    uint32_t most = (uint32_t)EE_RUN << shift, rest = places - place, count = 1 + below(rest < most ? rest : most);
+    const uint64_t *run = flash->words(flash->context, page, place, count);
+    uint64_t found[2 * EE_RUN], value;
+    int is_torn = 0;
+    if (run) memcpy(found, run, count * sizeof *run);
+    for (uint32_t i = 0; i < count; i++) {
+        if (flash->word(flash->context, page, place + i, &value) != 0) is_torn = 1;
+        else CHECK(!run || found[i] == value);
+    }
+    CHECK(is_torn == !run);
+}
+
 /* Power comes back, and the store is opened until no cut comes. */
 static inline void start(ee_store *store, const ee_flash *flash, const model *part, int with_cuts) {
     uint32_t status;
@@ -89,12 +104,15 @@ static inline void start(ee_store *store, const ee_flash *flash, const model *pa
     } while (part->is_cut());
 }
 
-/* A thousand moves on a part that is erased. EE_DRIVER is answered in a cut alone, and what was stored is there. */
-static inline void moves(const ee_flash *flash, const model *part, int with_cuts) {
+/* A thousand moves on a part that is erased, which is read by runs or word by word. EE_DRIVER is answered in a cut alone, and what was stored is there. */
+static inline void moves(const ee_flash *given, const model *part, int with_cuts) {
+    ee_flash by_word = *given;
+    const ee_flash *flash = given;
     ee_store store;
     ee_numbers numbers;
     values before, after;
     memset(&before, 0, sizeof before);
+    by_word.words = NULL;
     start(&store, flash, part, with_cuts);
     do {
         after = before;
@@ -102,7 +120,11 @@ static inline void moves(const ee_flash *flash, const model *part, int with_cuts
         uint32_t status = below(5) ? changed(&store, &after) : ee_clean(&store);
         CHECK(status == EE_OK || status == EE_NOTHING || (status == EE_DRIVER && part->is_cut()));
         int was_cut = part->is_cut();
-        if (was_cut || below(50) == 0) start(&store, flash, part, with_cuts);
+        if (was_cut || below(50) == 0) {
+            flash = below(3) ? given : &by_word;
+            start(&store, flash, part, with_cuts);
+        }
+        check_run(given);
         values found = values_of(&store);
         CHECK(is_same(found, after) || (was_cut && is_same(found, before)));
         before = found;

@@ -1,9 +1,10 @@
-/* Random calls against an array, lists of values among them, each with power cut in every step and in every way, and some with
- * a read that fails, each in turn, on flashes of words and of pairs of numbers. On each it asks the library more than a million
- * calls. */
+/* Random calls against an array, lists of values and clears among them, each with power cut in every step and in every way,
+ * and some with a read that fails, each in turn, on flashes of words, of pairs of numbers, and of pairs
+ * whose erase clears first. They are read one at a time, and also in runs in two ways. On each of those that are read one at a
+ * time it asks the library more than a million calls, and on the others a share of that; with an argument on all of them. */
 #include "part.h"
 
-enum { ADDRESSES = 8, STORES = 120, CALLS = 60 };
+enum { ADDRESSES = 8, STORES = 150, MANY = 160, SHARE = 30, CALLS = 60 };
 
 typedef struct map {
     uint32_t values[ADDRESSES];
@@ -11,6 +12,7 @@ typedef struct map {
 } map;
 
 static uint64_t dice = 88172645463325252u;
+static unsigned long calls; /* that change something, or look at each address */
 
 static uint32_t below(uint32_t end) {
     dice ^= dice << 13;
@@ -27,6 +29,7 @@ static uint32_t live_in(const map *m) {
 
 static map held(const ee_store *store) {
     map m;
+    calls += ADDRESSES;
     memset(&m, 0, sizeof m);
     for (int i = 0; i < ADDRESSES; i++) {
         uint32_t status = ee_read(store, (uint16_t)(i + 1), &m.values[i]);
@@ -39,7 +42,7 @@ static map held(const ee_store *store) {
 static int same(const map *a, const map *b) { return memcmp(a, b, sizeof *a) == 0; }
 
 typedef struct call {
-    enum { WRITE, FORGET, CLEAN, WRITE_ALL, KINDS } kind;
+    enum { WRITE, FORGET, CLEAN, WRITE_ALL, CLEAR } kind;
     uint16_t address;
     uint32_t value;
     uint32_t count;
@@ -47,7 +50,7 @@ typedef struct call {
 } call;
 
 static call drawn(void) {
-    call c = {.kind = below(KINDS), .address = (uint16_t)(1 + below(ADDRESSES)), .value = below(UINT32_MAX)};
+    call c = {.kind = below(32) ? below(CLEAR) : CLEAR, .address = (uint16_t)(1 + below(ADDRESSES)), .value = below(UINT32_MAX)};
     if (c.kind == WRITE_ALL) c.count = below(2) ? below(4) : below(ADDRESSES + 1);
     uint16_t step = (uint16_t)(2 * below(ADDRESSES / 2) + 1);
     for (uint32_t i = 0; i < c.count; i++) {
@@ -59,10 +62,12 @@ static call drawn(void) {
 }
 
 static uint32_t made(ee_store *store, call c) {
+    calls++;
     switch (c.kind) {
     case WRITE: return ee_write(store, c.address, c.value);
     case FORGET: return ee_forget(store, c.address);
     case CLEAN: return ee_clean(store);
+    case CLEAR: return ee_clear(store);
     default: return ee_write_all(store, c.values, c.count);
     }
 }
@@ -87,6 +92,7 @@ static uint32_t expected(const call *c, const map *old, uint32_t slots, uint32_t
     case WRITE: return there || live_in(old) < slots ? EE_OK : EE_FULL;
     case FORGET: return there ? EE_OK : EE_ABSENT;
     case CLEAN: return pending > 0 ? EE_OK : EE_NOTHING;
+    case CLEAR: return EE_OK;
     default: return !with_list(&new, c) ? EE_TWICE : live_in(&new) > slots ? EE_FULL : EE_OK;
     }
 }
@@ -96,6 +102,7 @@ static map after(map m, const call *c) {
     if (c->kind == WRITE) put(&m, c->address, c->value);
     if (c->kind == FORGET) m.there[c->address - 1] = 0, m.values[c->address - 1] = 0;
     if (c->kind == WRITE_ALL) with_list(&m, c);
+    if (c->kind == CLEAR) memset(&m, 0, sizeof m);
     return m;
 }
 
@@ -142,6 +149,13 @@ static void fail_everywhere(const part *before, const map *old, call c, const ma
     }
 }
 
+/* A clear leaves no slot used, in the next generation; where none was used it took no step. */
+static void emptied(const ee_store *store, const ee_numbers *before, int moved) {
+    ee_numbers numbers;
+    CHECK(ee_counts(store, &numbers) == EE_OK && numbers.fill == 0 && numbers.live == 0);
+    CHECK(moved == (before->fill > 0) && numbers.generation == before->generation + (uint32_t)moved);
+}
+
 static void play(part *p, ee_store *store, map *m) {
     call c = drawn();
     ee_numbers numbers;
@@ -150,9 +164,11 @@ static void play(part *p, ee_store *store, map *m) {
     map next = status == EE_OK ? after(*m, &c) : *m;
     cut_everywhere(p, m, c, &next);
     if (++plays % 4 == 0) fail_everywhere(p, m, c, &next);
+    unsigned long steps = p->steps;
     CHECK(made(store, c) == status);
     *m = held(store);
     CHECK(same(m, &next));
+    if (c.kind == CLEAR) emptied(store, &numbers, p->steps != steps);
     uint16_t address = 0;
     uint32_t value, listed = 0;
     while (ee_next(store, &address, &value) == EE_OK) {
@@ -162,23 +178,28 @@ static void play(part *p, ee_store *store, map *m) {
     CHECK(listed == live_in(m));
 }
 
-static void run(uint32_t pairs) {
-    cuts = failures = 0;
-    for (int i = 0; i < STORES; i++) {
+static void run(uint32_t pairs, int clears_first, enum runs runs, int stores) {
+    cuts = failures = calls = 0;
+    for (int i = 0; i < stores; i++) {
         part p;
         blank(&p, 1 + below(3), 5 + below(4));
-        p.pairs = pairs;
+        p.pairs = pairs, p.clears_first = clears_first, p.runs = runs;
         ee_flash flash = flash_of(&p);
         ee_store store;
         CHECK(ee_format(&store, &flash) == EE_OK);
         map m = held(&store);
         for (int j = 0; j < CALLS; j++) play(&p, &store, &m);
     }
-    CHECK(cuts > 80000 && failures > 15000);
+    CHECK(cuts > 500u * (unsigned)stores && failures > 120u * (unsigned)stores);
+    if (stores != SHARE) CHECK(calls > 1000000);
 }
 
-int main(void) {
-    run(0);
-    run(1);
+int main(int count, char **argument) {
+    (void)argument;
+    for (uint32_t kind = 0; kind < 3; kind++) {
+        for (int runs = NO_RUNS; runs < RUN_KINDS; runs++) {
+            run(kind > 0, kind == 2, (enum runs)runs, runs == NO_RUNS ? STORES : count > 1 ? MANY : SHARE);
+        }
+    }
     return 0;
 }

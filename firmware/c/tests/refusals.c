@@ -18,6 +18,7 @@ static void zeros(void) {
         CHECK(ee_counts(&never, &numbers) == EE_OFF && value == 99 && address == 1);
         CHECK(ee_write(&never, 1, 1) == EE_OFF && ee_forget(&never, 1) == EE_OFF && ee_clean(&never) == EE_OFF);
         CHECK(ee_write_all(&never, list, 2) == EE_OFF && ee_write_all(&never, list, 0) == EE_OFF);
+        CHECK(ee_clear(&never) == EE_OFF);
         /* So is one whose opening was refused. */
         ee_flash flash = flash_of(&p);
         CHECK(ee_open(&never, &flash) == EE_UNFORMATTED);
@@ -34,7 +35,7 @@ static void copies(void) {
     CHECK(ee_read(&copy, 1, &value) == EE_OFF && ee_next(&copy, &address, &value) == EE_OFF);
     CHECK(ee_counts(&copy, &numbers) == EE_OFF && value == 99 && address == 0);
     CHECK(ee_write(&copy, 1, 11) == EE_OFF && ee_forget(&copy, 1) == EE_OFF && ee_clean(&copy) == EE_OFF);
-    CHECK(ee_write_all(&copy, list, 2) == EE_OFF);
+    CHECK(ee_write_all(&copy, list, 2) == EE_OFF && ee_clear(&copy) == EE_OFF);
     CHECK(ee_read(&store, 1, &value) == EE_OK && value == 10);
     CHECK(ee_open(&copy, &flash) == EE_OK && ee_read(&copy, 1, &value) == EE_OK && value == 10);
 }
@@ -51,8 +52,12 @@ static void nulls(void) {
     CHECK(ee_format(&store, &lacking) == EE_NULL);
     lacking = flash, lacking.erase = NULL;
     CHECK(ee_format(&store, &lacking) == EE_NULL);
+    CHECK(ee_rescue(NULL, &flash) == EE_NULL && ee_rescue(&store, NULL) == EE_NULL && ee_rescue(&store, &lacking) == EE_NULL);
+    CHECK(ee_bad_words(NULL, &value) == EE_NULL && ee_bad_words(&flash, NULL) == EE_NULL);
+    CHECK(ee_bad_words(&lacking, &value) == EE_NULL);
     CHECK(ee_write(&store, 1, 1) == EE_OFF);
     CHECK(ee_read(&store, 1, &value) == EE_OFF);
+    CHECK(ee_clear(&store) == EE_OFF && ee_clear(NULL) == EE_NULL);
     CHECK(ee_write(NULL, 1, 1) == EE_NULL);
     CHECK(ee_write_all(&store, list, 2) == EE_OFF && ee_write_all(&store, list, 0) == EE_OFF);
     CHECK(ee_write_all(NULL, list, 2) == EE_NULL);
@@ -76,13 +81,16 @@ static void shapes(void) {
         flash.pages = wrong[i][0];
         flash.page_words = wrong[i][1];
         CHECK(ee_open(&store, &flash) == EE_WRONG_SHAPE);
-        CHECK(ee_format(&store, &flash) == EE_WRONG_SHAPE);
+        CHECK(ee_format(&store, &flash) == EE_WRONG_SHAPE && ee_rescue(&store, &flash) == EE_WRONG_SHAPE);
+        CHECK(ee_bad_words(&flash, &value) == EE_WRONG_SHAPE);
         CHECK(ee_write(&store, 1, 1) == EE_OFF);
     }
     ee_flash flash = flash_of(&p);
-    for (flash.pairs = 2; flash.pairs != 0; flash.pairs <<= 1) {
+    for (flash.pairs = 4; flash.pairs != 0; flash.pairs <<= 1) {
         CHECK(ee_start(&store, &flash) == EE_WRONG_SHAPE && ee_format(&store, &flash) == EE_WRONG_SHAPE);
     }
+    flash.pairs = 3;
+    CHECK(ee_start(&store, &flash) == EE_WRONG_SHAPE && ee_rescue(&store, &flash) == EE_WRONG_SHAPE);
 }
 
 static void statuses(void) {
@@ -147,6 +155,15 @@ static void no_store(void) {
     CHECK(ee_open(&store, &flash) == EE_OK);
     CHECK(ee_write(&store, 1, 1) == EE_SPENT && ee_forget(&store, 1) == EE_SPENT);
     CHECK(ee_write_all(&store, list, 2) == EE_SPENT && ee_write_all(&store, list, 1) == EE_SPENT);
+    part before = p;
+    CHECK(ee_clear(&store) == EE_SPENT && ee_rescue(&store, &flash) == EE_SPENT && holds_same(&before, &p));
+    CHECK(ee_read(&store, 1, &value) == EE_OFF);
+    p.words[0][4] = p.words[0][5] = UINT64_MAX;
+    CHECK(ee_open(&store, &flash) == EE_OK && ee_clear(&store) == EE_OK);
+    blank(&p, 1, 6);
+    CHECK(ee_rescue(&store, &flash) == EE_NOTHING && ee_clear(&store) == EE_OFF);
+    value = 99;
+    CHECK(ee_bad_words(&flash, &value) == EE_OK && value == 0);
 }
 
 /* A first start is cut in each of its steps in each way, again and again, and ends with an empty store. */
@@ -170,10 +187,10 @@ static void first_starts(void) {
 }
 
 /* So it is on pairs of numbers, of which a cut leaves any bits that it may. */
-static void first_starts_on_pairs(unsigned long cuts) {
+static void first_starts_on_pairs(unsigned long cuts, int clears_first) {
     unsigned long made = 0;
     blank(&p, 2, 6);
-    p.pairs = 1;
+    p.pairs = 1, p.clears_first = clears_first;
     ee_flash flash = flash_of(&p);
     while (cuts > 0) {
         p.steps = 0, p.cut_in = 1 + (uint32_t)(any_bits() >> 40) % 7, p.tear = (enum tear)((any_bits() >> 40) % TEARS);
@@ -185,7 +202,7 @@ static void first_starts_on_pairs(unsigned long cuts) {
         CHECK(status == EE_OK && ee_counts(&store, &numbers) == EE_OK && numbers.live == 0 && numbers.generation == 1);
         made++;
         blank(&p, 2, 6);
-        p.pairs = 1;
+        p.pairs = 1, p.clears_first = clears_first;
     }
     CHECK(made > 100);
 }
@@ -225,6 +242,35 @@ static void foreign_numbers(void) {
     }
 }
 
+/* Where an erase clears first they are what a cut leaves in the set that waits: it opens, and is cleaned. So in page 0 before a
+ * first start; in any other page they are no store's. In a slot of the live set one is torn. */
+static void low_numbers(void) {
+    for (uint32_t page = 0; page < 4; page++) {
+        blank(&p, 2, 6);
+        p.pairs = 1, p.clears_first = 1;
+        ee_flash flash = flash_of(&p);
+        for (uint32_t place = 0; place < 12; place++) p.words[page][place] = 5 + place;
+        CHECK(ee_start(&store, &flash) == (page == 0 ? EE_OK : EE_NO_LIVE_SET));
+    }
+    for (uint32_t page = 0; page < 4; page++) {
+        blank(&p, 2, 6);
+        p.pairs = 1, p.clears_first = 1;
+        ee_flash flash = flash_of(&p);
+        CHECK(ee_start(&store, &flash) == EE_OK && ee_write(&store, 1, 10) == EE_OK);
+        for (uint32_t place = page == 0 ? 10 : 0; place < 12; place++) p.words[page][place] = 5 + place;
+        flash.pairs = 1;
+        CHECK(ee_start(&store, &flash) == EE_FOREIGN);
+        flash.pairs = 2;
+        if (page == 1) CHECK(ee_start(&store, &flash) != EE_OK && ee_rescue(&store, &flash) == EE_OK);
+        else CHECK(ee_start(&store, &flash) == EE_OK && ee_counts(&store, &numbers) == EE_OK);
+        if (page == 0) CHECK(numbers.torn == 1);
+        while (ee_clean(&store) == EE_OK) {}
+        CHECK(ee_read(&store, 1, &value) == EE_OK && value == 10);
+        flash.pairs = 1;
+        CHECK(ee_start(&store, &flash) == (page == 0 ? EE_FOREIGN : EE_OK));
+    }
+}
+
 /* What looks like no store at all is refused too, if a first start didn't leave it, and nothing is written: data all of whose
  * numbers have the top bit set, and a store of words with great values. */
 static void data(void) {
@@ -260,7 +306,7 @@ static void failed_reads(void) {
         ee_flash flash = flash_of(&p);
         CHECK(ee_start(&store, &flash) == EE_OK && ee_write(&store, 1, 10) == EE_OK && ee_write(&store, 2, 20) == EE_OK);
         part before = p;
-        for (uint32_t call = 0; call < 8; call++) {
+        for (uint32_t call = 0; call < 10; call++) {
             unsigned long last = 0;
             for (unsigned long read = 1; read != last; read++) {
                 p = before;
@@ -273,7 +319,9 @@ static void failed_reads(void) {
                                   : call == 4 ? ee_next(&store, &address, &value)
                                   : call == 5 ? ee_counts(&store, &numbers)
                                   : call == 6 ? ee_write_all(&store, list, 1)
-                                              : ee_forget(&store, 2);
+                                  : call == 7 ? ee_forget(&store, 2)
+                                  : call == 8 ? ee_clear(&store)
+                                              : ee_rescue(&store, &flash);
                 if (!p.failed) last = read + 1;
                 else CHECK(status == EE_DRIVER && ee_read(&store, 1, &value) == EE_OFF && ee_clean(&store) == EE_OFF);
             }
@@ -323,7 +371,9 @@ int main(int count, char **argument) {
     lists();
     no_store();
     first_starts();
-    first_starts_on_pairs(count > 1 ? strtoul(argument[1], NULL, 10) : 20000);
+    first_starts_on_pairs(count > 1 ? strtoul(argument[1], NULL, 10) : 20000, 0);
+    first_starts_on_pairs(20000, 1);
+    low_numbers();
     blank(&p, 1, 6);
     failing();
     foreign_numbers();

@@ -18,7 +18,7 @@ static uint32_t lines[SETS][WAYS][2], line_of[SETS][WAYS];
 static enum state state;
 static enum fault fault;
 static uint32_t steps, fails_in;
-static int is_off;
+static int is_off, sets; /* whether the erase that is cut sets cells, behind clearing them */
 
 static void empty_cache(void) {
     for (int set = 0; set < SETS; set++) line_of[set][0] = line_of[set][1] = NO_LINE;
@@ -34,19 +34,20 @@ static void exit_xip(void) {
     state = COMMANDS;
 }
 
-/* What a step leaves that is asked for a byte. */
+/* What a step leaves that is asked for a byte. An erase clears all bytes of its sector first. */
 static uint8_t left(uint8_t old, uint8_t asked, int is_erase) {
     if (is_off) return old;
     if (fault == NONE || steps != fails_in) return asked;
     if (fault == NOTHING) return old;
-    return (uint8_t)(is_erase ? old | any_bits() : asked | (old & any_bits()));
+    if (!is_erase) return (uint8_t)(asked | (old & any_bits()));
+    return (uint8_t)(sets ? any_bits() : old & any_bits());
 }
 
 /* A step of so many bytes, none given where they are erased. Behind the one that is cut power is off, and steps do nothing. */
 static void step(uint32_t offset, const uint8_t *given, size_t count) {
     CHECK(state == COMMANDS && offset >= OFFSET && offset + count <= OFFSET + sizeof memory);
     uint8_t *bytes = (uint8_t *)memory + (offset - OFFSET);
-    steps++;
+    steps++, sets = (int)(any_bits() & 1);
     for (size_t i = 0; i < count; i++) bytes[i] = left(bytes[i], given ? bytes[i] & given[i] : 0xff, given == NULL);
     is_off |= fault == POWER && steps == fails_in;
 }

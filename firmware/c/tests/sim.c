@@ -12,7 +12,7 @@
 enum { WORDS = 12, RUNS = 20000 };
 
 static sim part, before, again;
-static unsigned seen[2]; /* whether some number of a torn pair was left as it was, and some was done */
+static unsigned lows, seen[2]; /* whether some number of a torn pair was left as it was, and some was done */
 
 static int is_torn_pair(const uint64_t *pair) { return !is_erased_pair(pair) && !is_value(pair); }
 
@@ -49,10 +49,11 @@ static void cut_erase(sim_tear tear) {
     for (uint32_t place = 0; place < WORDS; place++) {
         const uint64_t *pair = &part.words[1][2 * place], *old = &before.words[1][2 * place];
         sim_tear left = tear == SIM_MIXED ? mixed[place % 3] : tear;
-        CHECK((pair[0] & old[0]) == old[0] && (pair[1] & old[1]) == old[1]);
+        if (!part.clears_first) CHECK((pair[0] & old[0]) == old[0] && (pair[1] & old[1]) == old[1]);
         if (left == SIM_NOTHING) CHECK(pair[0] == old[0] && pair[1] == old[1]);
         if (left == SIM_DONE) CHECK(is_erased_pair(pair));
-        if (left == SIM_TORN) CHECK(is_erased_pair(old) ? is_erased_pair(pair) : is_torn_pair(pair));
+        if (left == SIM_TORN) CHECK(is_erased_pair(old) && !part.clears_first ? is_erased_pair(pair) : is_torn_pair(pair));
+        lows += pair[0] + pair[1] < pair[0] ? 0 : pair[0] + pair[1] != UINT64_MAX;
     }
 }
 
@@ -77,11 +78,11 @@ int main(void) {
     static const sim_tear ways[4] = {SIM_NOTHING, SIM_DONE, SIM_TORN, SIM_MIXED};
     for (uint64_t run = 0; run < RUNS; run++) {
         sim_new_pairs(&part, 1, WORDS);
-        part.seed = run;
+        part.seed = run, part.clears_first = run / 8 % 2;
         if (run % 2) cut_erase(ways[run / 2 % 4]);
         else cut_program(ways[run / 2 % 4], run % 3 ? picked(&part) | 1 : UINT64_MAX - ((uint64_t)1 << run % 64));
     }
-    CHECK(seen[0] && seen[1]);
+    CHECK(seen[0] && seen[1] && lows > RUNS / 4);
     sim_new_pairs(&part, 1, WORDS);
     cut_erase(SIM_TORN);
     check_image();

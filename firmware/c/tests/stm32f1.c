@@ -13,6 +13,8 @@ static void barrier(void);
 #define STM32F1_GET_HALF(address) get_half(address)
 #define STM32F1_BARRIER() barrier()
 #define STM32F1_MOST_TURNS 1000
+#define STM32F1_WAIT() (waited++)
+static uint32_t waited; /* turns of the port's loop */
 #include "../port/stm32f1.c"
 
 enum { PAGES = 4, WORDS = 16, OF_PAGE = WORDS * 2 * HALVES, COUNT = PAGES * OF_PAGE };
@@ -163,5 +165,6 @@ int main(void) {
     }
     read_back();
     for (enum fault kind = WRITE_PROTECTED; kind <= STAYS_LOCKED; kind++) failing(kind);
+    CHECK(waited > 0);
     return 0;
 }

@@ -8,6 +8,8 @@ static void barrier(void);
 #define STM32F4_GET(address) get(address)
 #define STM32F4_BARRIER() barrier()
 #define STM32F4_MOST_TURNS 1000
+#define STM32F4_WAIT() (waited++)
+static uint32_t waited; /* turns of the port's loop */
 #include "../port/stm32f4.c"
 
 enum { WORDS = 16, SECTOR = 4096, FIRST = 2, CACHE_LINES = 8, LINE = 4 /* halves of a line: 16 bytes */, NO_LINE = 2 * SECTOR };
@@ -216,5 +218,6 @@ int main(void) {
     }
     for (updates = 0; updates < 2; updates++) read_back();
     for (enum fault kind = WRITE_PROTECTED; kind <= STAYS_LOCKED; kind++) failing(kind);
+    CHECK(waited > 0);
     return 0;
 }

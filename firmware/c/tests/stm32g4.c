@@ -8,6 +8,8 @@ static void barrier(void);
 #define STM32G4_GET(address) get(address)
 #define STM32G4_BARRIER() barrier()
 #define STM32G4_MOST_TURNS 1000
+#define STM32G4_WAIT() (waited++)
+static uint32_t waited; /* turns of the port's loop */
 #include "../port/stm32g4.c"
 
 enum { FIRST = 60, MOST_WORDS = 1024, CACHE_LINES = 8, CACHE_WORDS = 4 /* of a line: 32 bytes */ };
@@ -325,5 +327,6 @@ int main(void) {
     for (hides = 0; hides < 2; hides++) torn(256), torn(512);
     addresses();
     for (enum fault kind = WRITE_PROTECTED; kind <= STAYS_LOCKED; kind++) failing(kind);
+    CHECK(waited > 0);
     return 0;
 }

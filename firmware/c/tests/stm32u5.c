@@ -9,6 +9,8 @@ static void barrier(void);
 #define STM32U5_GET(address) get(address)
 #define STM32U5_BARRIER() barrier()
 #define STM32U5_MOST_TURNS 1000
+#define STM32U5_WAIT() (waited++)
+static uint32_t waited; /* turns of the port's loop */
 #include "../port/stm32u5.c"
 
 enum { PAGES = 4, WORDS = 512, FIRST = 200, BANK = 1, UNITS = PAGES * WORDS, NO_UNIT = UNITS };
@@ -340,5 +342,6 @@ int main(void) {
     halves();
     addresses();
     for (enum fault kind = WRITE_PROTECTED; kind <= CACHE_STAYS_BUSY; kind++) failing(kind);
+    CHECK(waited > 0);
     return 0;
 }

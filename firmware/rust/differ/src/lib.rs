@@ -3,13 +3,21 @@
 
 pub mod image;
 
-use ee_store::{Driver, NumberDriver, Pairs, Shape, Word};
+use ee_store::{Driver, NumberDriver, Pairs};
+pub use ee_store::{Shape, Word};
 use std::cell::RefCell;
+use std::fmt;
 use std::rc::Rc;
 
 /// Power was cut in a step.
 #[derive(Clone, Copy, Debug, PartialEq, Eq)]
 pub struct PowerCut;
+
+impl fmt::Display for PowerCut {
+    fn fmt(&self, f: &mut fmt::Formatter<'_>) -> fmt::Result {
+        f.write_str("power was cut")
+    }
+}
 
 /// What a step that is cut leaves of its word, or of the words of its page.
 #[derive(Clone, Copy, Debug, PartialEq, Eq)]
@@ -41,6 +49,8 @@ pub struct Part {
     pub pages: Vec<Vec<Word>>,
     /// The numbers of each page, where it has numbers: two for each word.
     pub numbers: Vec<Vec<u64>>,
+    /// Whether an erase of numbers clears the cells of its page before it sets them.
+    pub clears_first: bool,
     /// How often each page was erased.
     pub wear: Vec<u64>,
     /// How many further steps pass before one is cut, and what that one leaves.
@@ -58,6 +68,7 @@ impl Part {
             shape,
             pages: vec![vec![Word::Erased; shape.words()]; 2 * shape.pages()],
             numbers: Vec::new(),
+            clears_first: false,
             wear: vec![0; 2 * shape.pages()],
             fuse: None,
             steps: 0,
@@ -157,10 +168,14 @@ impl Part {
         tear.map_or(Ok(()), |_| Err(PowerCut))
     }
 
-    /// Erases a page of numbers. Where it is cut each has every bit that it had.
+    /// Erases a page of numbers. Where it is cut each has every bit that it had, or any where it clears first.
     pub fn erase_numbers(&mut self, page: usize) -> Result<(), PowerCut> {
         let tear = self.begin();
         self.wear[page] = self.wear[page].saturating_add(1);
+        if self.clears_first && matches!(tear, Some(Tear::Torn | Tear::Mixed)) {
+            self.clear_numbers(page);
+            return Err(PowerCut);
+        }
         for at in 0..self.numbers[page].len() {
             let bits = self.any_bits();
             let number = &mut self.numbers[page][at];
@@ -171,6 +186,23 @@ impl Part {
             };
         }
         tear.map_or(Ok(()), |_| Err(PowerCut))
+    }
+
+    // What a cut leaves of a page whose cells were being cleared, or set behind that. A value that didn't stand there is a
+    // premise not to be made.
+    fn clear_numbers(&mut self, page: usize) {
+        let sets = self.any_bits() & 1 == 1;
+        for at in (0..self.numbers[page].len()).step_by(2) {
+            let old = [self.numbers[page][at], self.numbers[page][at + 1]];
+            let bits = [self.any_bits(), self.any_bits()];
+            let new = match sets {
+                true => bits,
+                false => [old[0] & bits[0], old[1] & bits[1]],
+            };
+            let is_made = new != old && new[0] == !new[1];
+            self.numbers[page][at] = if is_made { 0 } else { new[0] };
+            self.numbers[page][at + 1] = if is_made { 0 } else { new[1] };
+        }
     }
 
     /// Erases a page.
@@ -226,6 +258,10 @@ impl NumberDriver for Numbers {
         self.0 .0.borrow().shape
     }
 
+    fn clears_first(&self) -> bool {
+        self.0 .0.borrow().clears_first
+    }
+
     fn read(&self, page: usize, at: usize) -> Result<u64, PowerCut> {
         Ok(self.0 .0.borrow().numbers[page][at])
     }
@@ -268,6 +304,10 @@ impl Driver for Shared {
     }
 
     fn keeps_erased(&self) -> bool {
-        self.0.borrow().has_numbers()
+        self.0.borrow().has_numbers() && !self.0.borrow().clears_first
+    }
+
+    fn clears_first(&self) -> bool {
+        self.0.borrow().clears_first
     }
 }

@@ -36,6 +36,27 @@ pub trait Driver {
     /// the store: it ends with this error, and the store is off then, as after an error of `program`.
     fn word(&self, page: usize, at: usize) -> Result<Word, Self::Error>;
 
+    /// So many words of a page from a place on, where they stand in memory: all ones is an erased one. It is for speed alone,
+    /// and a driver of a flash that is mapped has it. `None` where one of them can't be read, or where they stand in none;
+    /// then [`read_run`](Driver::read_run) is asked.
+    fn window(&self, page: usize, at: usize, count: usize) -> Option<&[u64]> {
+        let _ = (page, at, count);
+        None
+    }
+
+    /// Reads the words of a page from a place on into a room, as many as it has places for, 1 to 16: all ones for an erased
+    /// word, 0 for a torn one. It asks [`word`](Driver::word) for each. A driver of a serial flash may read all at once.
+    ///
+    /// # Errors
+    ///
+    /// As of `word`.
+    fn read_run(&self, page: usize, at: usize, room: &mut [u64]) -> Result<(), Self::Error> {
+        for (place, number) in (at..).zip(room) {
+            *number = self.word(page, place)?.number();
+        }
+        Ok(())
+    }
+
     /// Programs a word, which reads as erased, with a value that is not all ones.
     ///
     /// # Errors
@@ -56,6 +77,13 @@ pub trait Driver {
     fn keeps_erased(&self) -> bool {
         false
     }
+
+    /// Whether an erase that is cut may leave any numbers in its page, as
+    /// [`NumberDriver::clears_first`](crate::NumberDriver::clears_first) says. Then [`start`](crate::start) makes the first
+    /// store only where all other pages than the first are blank, as a first start leaves them.
+    fn clears_first(&self) -> bool {
+        false
+    }
 }
 
 impl<D: Driver> Driver for &mut D {
@@ -69,6 +97,14 @@ impl<D: Driver> Driver for &mut D {
         (**self).word(page, at)
     }
 
+    fn window(&self, page: usize, at: usize, count: usize) -> Option<&[u64]> {
+        (**self).window(page, at, count)
+    }
+
+    fn read_run(&self, page: usize, at: usize, room: &mut [u64]) -> Result<(), D::Error> {
+        (**self).read_run(page, at, room)
+    }
+
     fn program(&mut self, page: usize, at: usize, value: u64) -> Result<(), D::Error> {
         (**self).program(page, at, value)
     }
@@ -79,6 +115,10 @@ impl<D: Driver> Driver for &mut D {
 
     fn keeps_erased(&self) -> bool {
         (**self).keeps_erased()
+    }
+
+    fn clears_first(&self) -> bool {
+        (**self).clears_first()
     }
 }
 
@@ -127,6 +167,21 @@ impl<D: Driver> Part<D> {
         &self.driver
     }
 
+    /// The driver, to be changed.
+    pub(crate) fn driver_mut(&mut self) -> &mut D {
+        &mut self.driver
+    }
+
+    /// Turns the part on, as one whose driver was just given.
+    pub(crate) fn begin_anew(&mut self) {
+        self.shape = self.driver.shape();
+        self.power_on();
+    }
+
+    pub(crate) fn turn_off(&self) {
+        self.pages.set(0);
+    }
+
     /// The driver, as it is.
     pub(crate) fn into_driver(self) -> D {
         self.driver
@@ -140,7 +195,7 @@ impl<D: Driver> Part<D> {
         Some(self.error.take().map_or(Broken::Unsteady, Broken::Driver))
     }
 
-    fn turn_on(&self) {
+    pub(crate) fn turn_on(&self) {
         self.pages.set(2 * self.shape.pages() as u16);
     }
 
@@ -154,17 +209,9 @@ impl<D: Driver> Part<D> {
     }
 
     // The driver failed: the part is off from here on.
-    fn fail(&self, error: D::Error) {
+    pub(crate) fn fail(&self, error: D::Error) {
         self.pages.set(0);
         self.error.set(Some(error));
-    }
-
-    // A step ends.
-    fn end(&mut self, step: Result<(), D::Error>) -> Result<(), Cut> {
-        step.map_err(|error| {
-            self.fail(error);
-            Cut
-        })
     }
 }
 
@@ -196,14 +243,31 @@ impl<D: Driver> Flash for Part<D> {
         }
     }
 
+    fn run<'a>(&'a self, page: usize, at: usize, room: &'a mut [u64]) -> &'a [u64] {
+        let count = room.len();
+        // What the room has when the part is off counts for nothing.
+        if count == 0 || !self.has(page, at + count - 1) {
+            return room;
+        }
+        let window = self.driver.window(page, at, count);
+        if let Some(words) = window.filter(|words| words.len() == count) {
+            return words;
+        }
+        if let Err(error) = self.driver.read_run(page, at, room) {
+            self.fail(error);
+        }
+        room
+    }
+
     // Steps stay out of the calls that make them: a call costs nothing beside a step of flash, and there are several.
     #[inline(never)]
     fn program(&mut self, page: usize, at: usize, value: u64) -> Result<(), Cut> {
         if !self.has(page, at) {
             return Err(Cut);
         }
+        self.begin_step();
         let step = self.driver.program(page, at, value);
-        self.end(step)
+        self.end_step(step)
     }
 
     #[inline(never)]
@@ -211,8 +275,9 @@ impl<D: Driver> Flash for Part<D> {
         if !self.has(page, 0) {
             return Err(Cut);
         }
+        self.begin_step();
         let step = self.driver.erase(page);
-        self.end(step)
+        self.end_step(step)
     }
 
     // As of `wear`: a cut adds nothing.
@@ -228,5 +293,48 @@ impl<D: Driver> Flash for Part<D> {
     fn power_on(&mut self) {
         self.error.set(None);
         self.turn_on();
+    }
+}
+
+/// A device that is lent, to be opened in its place.
+impl<F: Flash> Flash for &mut F {
+    fn shape(&self) -> Shape {
+        (**self).shape()
+    }
+
+    fn wear(&self, page: usize) -> u64 {
+        (**self).wear(page)
+    }
+
+    fn is_on(&self) -> bool {
+        (**self).is_on()
+    }
+
+    fn word(&self, page: usize, at: usize) -> Word {
+        (**self).word(page, at)
+    }
+
+    fn run<'a>(&'a self, page: usize, at: usize, room: &'a mut [u64]) -> &'a [u64] {
+        (**self).run(page, at, room)
+    }
+
+    fn program(&mut self, page: usize, at: usize, value: u64) -> Result<(), Cut> {
+        (**self).program(page, at, value)
+    }
+
+    fn erase(&mut self, page: usize) -> Result<(), Cut> {
+        (**self).erase(page)
+    }
+
+    fn cuts(&self) -> u64 {
+        (**self).cuts()
+    }
+
+    fn cuts_left(&self) -> Option<u64> {
+        (**self).cuts_left()
+    }
+
+    fn power_on(&mut self) {
+        (**self).power_on();
     }
 }

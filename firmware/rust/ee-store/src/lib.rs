@@ -1,4 +1,9 @@
-#![doc = include_str!("../README.md")]
+// The page has programs over each feature.
+#![cfg_attr(all(feature = "defmt", feature = "embedded-storage"), doc = include_str!("../README.md"))]
+#![cfg_attr(
+    not(all(feature = "defmt", feature = "embedded-storage")),
+    doc = "Variables of 32 bits in flash, through power cuts: the README of this package says all."
+)]
 #![no_std]
 #![forbid(unsafe_code)]
 
@@ -27,30 +32,43 @@ mod ee_pairs;
 
 mod driver;
 mod error;
+mod iter;
+#[cfg(feature = "defmt")]
+mod logged;
+#[cfg(feature = "embedded-storage")]
+pub mod nor;
 mod numbers;
 mod pairs;
+mod steps;
+#[cfg(feature = "embedded-storage")]
+mod storage;
 mod store;
+mod value;
 
 pub use crate::ee_codec::Address;
-pub use crate::ee_core::{Put, Written};
+pub use crate::ee_core::{Put, Rescued, Written};
 pub use crate::ee_flash::{Shape, Word};
 pub use crate::ee_pages::ScanFault;
 pub use crate::ee_pairs::LowPair;
 pub use driver::Driver;
 pub use error::{
-    CleanFault, Failed, ForgetFault, Off, OpenFault, PairsFault, ReadFault, WriteAllFault,
-    WriteFault,
+    CleanFault, ClearFault, Error, Failed, ForgetFault, NotRescued, Off, OpenFault, PairsFault,
+    ReadFault, RescueFault, WriteAllFault, WriteFault,
 };
+pub use iter::Iter;
 pub use numbers::NumberDriver;
 pub use pairs::Pairs;
-pub use store::{format, open, start, Store};
+pub use store::{format, open, rescue, start, Store};
+pub use value::{NoAddress, Value};
 
 /// What the C library is made over: the proved store on a device of its own, which has to keep the contract of `Flash`.
 #[doc(hidden)]
 pub mod proved {
     pub use crate::ee_core::{
-        format, open, start, ForgetFault, OpenFault, Store, Variables, WriteAllFault, WriteFault,
+        bad_words, format, open, rescue, rescue_uncounted, start, ClearFault, ForgetFault,
+        OpenFault, RescueFault, Rescued, Store, Variables, WriteAllFault, WriteFault,
     };
     pub use crate::ee_flash::{Cut, Flash};
     pub use crate::ee_pairs::{Nor, Pairs};
+    pub use crate::store::holds_more;
 }

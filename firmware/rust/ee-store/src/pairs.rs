@@ -11,12 +11,13 @@ use core::cell::Cell;
 /// numbers don't fit each other, and it is torn.
 #[derive(Clone, Debug, PartialEq, Eq)]
 pub struct Pairs<N> {
-    // No two numbers of a word sum to less than all ones.
+    // No two numbers of a word sum to less than all ones, or its erases clear first.
     driver: N,
 }
 
 impl<N: NumberDriver> Pairs<N> {
     /// The words of a flash that a store wrote, or that is blank. It reads each number once and writes nothing.
+    /// Of a flash that clears first it reads none.
     ///
     /// # Errors
     ///
@@ -50,8 +51,8 @@ impl<N: NumberDriver> Pairs<N> {
         }
     }
 
-    /// The words of a flash that went through `of` or `wipe` before, and that nothing but its store wrote to since.
-    /// Nothing is read.
+    /// The words of a flash that went through `of` or `wipe` before, and that nothing but its store wrote to since;
+    /// or of one that clears first. Nothing is read.
     pub fn known(driver: N) -> Pairs<N> {
         Pairs { driver }
     }
@@ -80,6 +81,13 @@ impl<N: NumberDriver> Driver for Pairs<N> {
         whole(pairs).map(|()| word)
     }
 
+    fn read_run(&self, page: usize, at: usize, room: &mut [u64]) -> Result<(), N::Error> {
+        let pairs = lent(Read(&self.driver));
+        // They stand in the room: `Pairs` has no words in memory, but two numbers for each.
+        pairs.run(page, at, room);
+        whole(pairs)
+    }
+
     fn program(&mut self, page: usize, at: usize, value: u64) -> Result<(), N::Error> {
         let mut pairs = lent(&mut self.driver);
         // The error says what a cut says.
@@ -94,7 +102,11 @@ impl<N: NumberDriver> Driver for Pairs<N> {
     }
 
     fn keeps_erased(&self) -> bool {
-        true
+        !self.driver.clears_first()
+    }
+
+    fn clears_first(&self) -> bool {
+        self.driver.clears_first()
     }
 }
 
@@ -121,8 +133,16 @@ impl<N: NumberDriver> NumberDriver for Read<'_, N> {
         self.0.shape()
     }
 
+    fn clears_first(&self) -> bool {
+        self.0.clears_first()
+    }
+
     fn read(&self, page: usize, at: usize) -> Result<u64, N::Error> {
         self.0.read(page, at)
+    }
+
+    fn window(&self, page: usize, at: usize, count: usize) -> Option<&[u64]> {
+        self.0.window(page, at, count)
     }
 
     fn program(&mut self, _page: usize, _at: usize, _number: u64) -> Result<(), N::Error> {
@@ -149,12 +169,9 @@ impl<N: NumberDriver> Numbers<N> {
         }
     }
 
-    // A step of a flash that is on, or none of one that is off.
-    fn step(&mut self, step: impl FnOnce(&mut N) -> Result<(), N::Error>) -> Result<(), Cut> {
-        if !self.is_on() {
-            return Err(Cut);
-        }
-        step(&mut self.driver).map_err(|error| {
+    // A step ends.
+    fn end(&self, step: Result<(), N::Error>) -> Result<(), Cut> {
+        step.map_err(|error| {
             self.error.set(Some(error));
             Cut
         })
@@ -164,6 +181,10 @@ impl<N: NumberDriver> Numbers<N> {
 impl<N: NumberDriver> Nor for Numbers<N> {
     fn shape(&self) -> Shape {
         self.driver.shape()
+    }
+
+    fn clears_first(&self) -> bool {
+        self.driver.clears_first()
     }
 
     // A count at its end, to which no erase adds: nothing asks for one.
@@ -189,12 +210,28 @@ impl<N: NumberDriver> Nor for Numbers<N> {
         })
     }
 
+    fn window(&self, page: usize, at: usize, count: usize) -> Option<&[u64]> {
+        if !self.is_on() {
+            return None;
+        }
+        let window = self.driver.window(page, at, count);
+        window.filter(|numbers| numbers.len() == count)
+    }
+
     fn program(&mut self, page: usize, at: usize, number: u64) -> Result<(), Cut> {
-        self.step(|driver| driver.program(page, at, number))
+        if !self.is_on() {
+            return Err(Cut);
+        }
+        let step = self.driver.program(page, at, number);
+        self.end(step)
     }
 
     fn erase(&mut self, page: usize) -> Result<(), Cut> {
-        self.step(|driver| driver.erase(page))
+        if !self.is_on() {
+            return Err(Cut);
+        }
+        let step = self.driver.erase(page);
+        self.end(step)
     }
 
     // As of `wear`: a cut adds nothing.

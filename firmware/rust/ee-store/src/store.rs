@@ -1,11 +1,15 @@
 use crate::driver::{Driver, Part};
 use crate::ee_codec::Address;
-use crate::ee_core::{self as proved, Put, Variables, Written};
-use crate::ee_flash::{Flash, Word};
+use crate::ee_core::{self as proved, LiveBatch, Put, Rescued, Variables, Written};
+use crate::ee_flash::{Flash, Shape, Word};
 use crate::ee_pages::{is_blank, Layout, Side};
 use crate::error::{
-    Broken, CleanFault, Failed, ForgetFault, Off, OpenFault, ReadFault, WriteAllFault, WriteFault,
+    Broken, CleanFault, ClearFault, Failed, ForgetFault, NotRescued, Off, OpenFault, ReadFault,
+    RescueFault, WriteAllFault, WriteFault,
 };
+use crate::iter::Iter;
+use crate::value::Value;
+use core::fmt;
 
 /// Variables of 32 bits, each with an address of 1 to 65534, kept in the flash behind a driver.
 ///
@@ -27,6 +31,7 @@ pub struct Store<D: Driver> {
 /// # Errors
 ///
 /// The driver, and why: a flash that holds no store, or a driver that failed.
+#[doc(alias = "mount")]
 pub fn open<D: Driver>(driver: D) -> Result<Store<D>, Failed<D>> {
     opened(proved::open(Part::new(driver)))
 }
@@ -37,23 +42,29 @@ pub fn open<D: Driver>(driver: D) -> Result<Store<D>, Failed<D>> {
 ///
 /// Over [`Pairs`](crate::Pairs), whose numbers a cut leaves with every bit that they had, it makes the first store only
 /// where all numbers are all ones but those of the first two words of page 0. A first start that was cut leaves no others.
+/// Where an erase [clears first](crate::NumberDriver::clears_first), page 0 may hold any numbers but a value.
 ///
 /// # Errors
 ///
 /// The driver, and why: a flash that holds something else than a store, or a driver that failed.
+#[doc(alias = "init")]
+#[doc(alias = "mount")]
 pub fn start<D: Driver>(driver: D) -> Result<Store<D>, Failed<D>> {
     let part = Part::new(driver);
-    if part.driver().keeps_erased() && holds_more(&part) {
+    let clears_first = part.driver().clears_first();
+    let is_strict = clears_first || part.driver().keeps_erased();
+    if is_strict && holds_more(&part, clears_first) {
         return opened(proved::open(part));
     }
     opened(proved::start(part))
 }
 
-// Whether a word is written that a first start doesn't program: any but the first two of page 0. Where erased words stay so
-// in a cut erase, a first start that was cut leaves no other.
-fn holds_more<F: Flash>(flash: &F) -> bool {
+// Whether a word is written that a first start which was cut doesn't leave. It programs the first two of page 0, and erases
+// that page where it was cut before: such an erase leaves anything there if it clears the cells first, and else no others.
+pub fn holds_more<F: Flash>(flash: &F, clears_first: bool) -> bool {
     let shape = flash.shape();
-    (2..shape.words()).any(|at| flash.word(0, at) != Word::Erased)
+    let from = if clears_first { shape.words() } else { 2 };
+    (from..shape.words()).any(|at| flash.word(0, at) != Word::Erased)
         || (1..2 * shape.pages()).any(|page| !is_blank(flash, page))
 }
 
@@ -65,9 +76,36 @@ fn holds_more<F: Flash>(flash: &F) -> bool {
 /// # Errors
 ///
 /// The driver, which failed. Format again.
+#[doc(alias = "erase_all")]
 pub fn format<D: Driver>(driver: D) -> Result<Store<D>, Failed<D>> {
     let answer = proved::format(Part::new(driver));
     opened(answer.map_err(|(part, _)| (part, proved::OpenFault::Cut)))
+}
+
+/// Makes a store of what the slots of the flash say, whatever stands in it: the call behind an opening that refused with
+/// [`ScanFault`](crate::ScanFault), since a word went bad. One word that went bad costs its own value, and no more. The
+/// values move to the other set, as in a write that finds no free slot.
+///
+/// # Errors
+///
+/// The driver, and why.
+#[doc(alias = "repair")]
+pub fn rescue<D: Driver>(driver: D) -> Result<(Store<D>, Rescued), NotRescued<D>> {
+    let (part, fault) = match proved::rescue(Part::new(driver)) {
+        Ok((store, rescued)) if store.flash().is_on() => return Ok((Store { store }, rescued)),
+        Ok((store, _)) => (store.into_flash(), proved::RescueFault::Cut),
+        Err(failed) => failed,
+    };
+    let fault = match (part.broken(), fault) {
+        (Some(broken), _) => broken.into(),
+        (None, proved::RescueFault::NothingBegun) => RescueFault::NothingBegun,
+        (None, proved::RescueFault::Spent) => RescueFault::Spent,
+        (None, proved::RescueFault::Cut) => RescueFault::Unsteady,
+    };
+    Err(NotRescued {
+        driver: part.into_driver(),
+        fault,
+    })
 }
 
 type Opened<D> = Result<proved::Store<Part<D>>, (Part<D>, proved::OpenFault)>;
@@ -78,19 +116,25 @@ fn opened<D: Driver>(answer: Opened<D>) -> Result<Store<D>, Failed<D>> {
         Ok(store) => (store.into_flash(), proved::OpenFault::Cut),
         Err(failed) => failed,
     };
-    let fault = match (part.broken(), fault) {
-        (Some(broken), _) => broken.into(),
-        (None, proved::OpenFault::Scan(fault)) => OpenFault::Scan(fault),
-        (None, proved::OpenFault::Cut) => OpenFault::Unsteady,
-    };
+    let fault = open_fault(&part, fault);
     Err(Failed {
         driver: part.into_driver(),
         fault,
     })
 }
 
+// Why a part couldn't be opened of which the proved code says this.
+fn open_fault<D: Driver>(part: &Part<D>, fault: proved::OpenFault) -> OpenFault<D::Error> {
+    match (part.broken(), fault) {
+        (Some(broken), _) => broken.into(),
+        (None, proved::OpenFault::Scan(fault)) => OpenFault::Scan(fault),
+        (None, proved::OpenFault::Cut) => OpenFault::Unsteady,
+    }
+}
+
 impl<D: Driver> Store<D> {
     /// A store that is off, as one is whose driver failed.
+    #[must_use]
     pub fn off(driver: D) -> Store<D> {
         // Nothing looks at the layout of a store that is off.
         let layout = Layout {
@@ -105,8 +149,60 @@ impl<D: Driver> Store<D> {
     }
 
     /// The driver, as it is.
+    #[must_use]
     pub fn into_driver(self) -> D {
         self.store.into_flash().into_driver()
+    }
+
+    /// The driver.
+    #[must_use]
+    pub fn driver(&self) -> &D {
+        self.store.flash.driver()
+    }
+
+    /// The driver, to be used for what isn't the store's. Its shape and the store's pages stay as they are.
+    #[must_use]
+    pub fn driver_mut(&mut self) -> &mut D {
+        self.store.flash.driver_mut()
+    }
+
+    /// The size of the flash, as the driver said when the store was opened.
+    #[must_use]
+    pub fn shape(&self) -> Shape {
+        self.store.flash.shape()
+    }
+
+    /// Whether the store answers calls: it does until its driver fails.
+    #[must_use]
+    pub fn is_on(&self) -> bool {
+        self.store.flash.is_on()
+    }
+
+    /// Opens the store again in its place, as [`open`] does, on or off: the way on after a call in which the driver failed.
+    /// It reads all anew.
+    ///
+    /// # Errors
+    ///
+    /// Why the flash can't be opened. The store is off then.
+    #[doc(alias = "power_on")]
+    #[doc(alias = "recover")]
+    pub fn reopen(&mut self) -> Result<(), OpenFault<D::Error>> {
+        let part = &mut self.store.flash;
+        part.begin_anew();
+        let answer = match proved::open(&mut *part) {
+            Ok(store) => Ok(store.layout),
+            Err((_, fault)) => Err(fault),
+        };
+        match answer {
+            Ok(layout) if part.is_on() => self.store.layout = layout,
+            Ok(_) => return Err(open_fault(part, proved::OpenFault::Cut)),
+            Err(fault) => {
+                let fault = open_fault(part, fault);
+                part.turn_off();
+                return Err(fault);
+            }
+        }
+        Ok(())
     }
 
     // The store, while it is on.
@@ -140,11 +236,66 @@ impl<D: Driver> Store<D> {
     /// # Errors
     ///
     /// The first [`ReadFault`] that applies.
+    #[doc(alias = "fetch_item")]
     pub fn read(&self, address: Address) -> Result<Option<u32>, ReadFault<D::Error>> {
         match self.store.read(address) {
             Ok(value) => self.whole(Ok(value)),
             Err(proved::Off) => Err(ReadFault::Off),
         }
+    }
+
+    /// The value of an address, or this one if it has none.
+    ///
+    /// # Errors
+    ///
+    /// The first [`ReadFault`] that applies.
+    pub fn read_or(&self, address: Address, value: u32) -> Result<u32, ReadFault<D::Error>> {
+        Ok(self.read(address)?.unwrap_or(value))
+    }
+
+    /// The value of an address as a `bool`, an `i32` or an `f32`, `None` if it has none. Nothing in the flash says which of
+    /// them was written.
+    ///
+    /// # Errors
+    ///
+    /// The first [`ReadFault`] that applies.
+    #[doc(alias = "get")]
+    pub fn read_as<V: Value>(&self, address: Address) -> Result<Option<V>, ReadFault<D::Error>> {
+        Ok(self.read(address)?.map(V::from_bits))
+    }
+
+    /// Writes a `bool`, an `i32` or an `f32`, as [`write`](Store::write) does its bits.
+    ///
+    /// # Errors
+    ///
+    /// The first [`WriteFault`] that applies.
+    #[doc(alias = "set")]
+    pub fn write_as<V: Value>(
+        &mut self,
+        address: Address,
+        value: V,
+    ) -> Result<Written, WriteFault<D::Error>> {
+        self.write(address, value.to_bits())
+    }
+
+    /// Writes what the function makes of the value of an address, `None` if it has none. Where that is the value which the
+    /// address has, it writes nothing and answers `None`.
+    ///
+    /// # Errors
+    ///
+    /// The first [`WriteFault`] that applies. Where the driver failed in the read, nothing was written.
+    #[doc(alias = "modify")]
+    pub fn update(
+        &mut self,
+        address: Address,
+        change: impl FnOnce(Option<u32>) -> u32,
+    ) -> Result<Option<Written>, WriteFault<D::Error>> {
+        let old = self.read(address)?;
+        let value = change(old);
+        if old == Some(value) {
+            return Ok(None);
+        }
+        Ok(Some(self.write(address, value)?))
     }
 
     /// Writes a value, also one that the address has already. Where no slot is free it moves all variables to the other
@@ -153,6 +304,8 @@ impl<D: Driver> Store<D> {
     /// # Errors
     ///
     /// The first [`WriteFault`] that applies.
+    #[doc(alias = "store_item")]
+    #[doc(alias = "insert")]
     pub fn write(&mut self, address: Address, value: u32) -> Result<Written, WriteFault<D::Error>> {
         let answer = match self.store.write(address, value) {
             Ok(written) => Ok(written),
@@ -172,6 +325,8 @@ impl<D: Driver> Store<D> {
     /// # Errors
     ///
     /// The first [`WriteAllFault`] that applies.
+    #[doc(alias = "transaction")]
+    #[doc(alias = "commit")]
     pub fn write_all(&mut self, values: &[Put]) -> Result<Written, WriteAllFault<D::Error>> {
         let answer = match self.store.write_all(values) {
             Ok(written) => Ok(written),
@@ -192,6 +347,8 @@ impl<D: Driver> Store<D> {
     /// # Errors
     ///
     /// The first [`ForgetFault`] that applies.
+    #[doc(alias = "remove_item")]
+    #[doc(alias = "delete")]
     pub fn forget(&mut self, address: Address) -> Result<Written, ForgetFault<D::Error>> {
         let answer = match self.store.forget(address) {
             Ok(written) => Ok(written),
@@ -203,12 +360,33 @@ impl<D: Driver> Store<D> {
         self.whole(answer)
     }
 
+    /// Takes the values of all addresses away at once, with one move that copies nothing: if power fails in this call too,
+    /// each address has its value afterwards or none has one. `false` if no slot is used: then it writes nothing. The words of
+    /// the old values stay in the flash until their set is erased, as `clean_step` does it page by page.
+    ///
+    /// # Errors
+    ///
+    /// The first [`ClearFault`] that applies.
+    #[doc(alias = "factory_reset")]
+    #[doc(alias = "remove_all")]
+    pub fn clear(&mut self) -> Result<bool, ClearFault<D::Error>> {
+        let answer = match self.store.clear() {
+            Ok(some) => Ok(some),
+            Err(proved::ClearFault::Off) => return Err(ClearFault::Off),
+            Err(proved::ClearFault::Spent) => Err(ClearFault::Spent),
+            Err(proved::ClearFault::Cut) => Err(ClearFault::Unsteady),
+        };
+        self.whole(answer)
+    }
+
     /// Erases one page that waits to be erased, `false` if there is none. Called when there is time for it, it keeps
     /// erases out of writes.
     ///
     /// # Errors
     ///
     /// The store is off, or the driver failed.
+    #[doc(alias = "garbage_collect")]
+    #[doc(alias = "compact")]
     pub fn clean_step(&mut self) -> Result<bool, CleanFault<D::Error>> {
         let answer = match self.store.clean_step() {
             Ok(erased) => Ok(erased),
@@ -268,6 +446,7 @@ impl<D: Driver> Store<D> {
     /// # Errors
     ///
     /// The first [`ReadFault`] that applies.
+    #[doc(alias = "len")]
     pub fn live_count(&self) -> Result<usize, ReadFault<D::Error>> {
         self.looked(|store| store.live_count())
     }
@@ -283,5 +462,41 @@ impl<D: Driver> Store<D> {
         after: Option<Address>,
     ) -> Result<Option<(Address, u32)>, ReadFault<D::Error>> {
         self.looked(|store| store.next_live(after))
+    }
+
+    /// All addresses that have a value, by rising address, with their values. It looks through the slots once for each
+    /// 28 addresses, where [`next_live`](Store::next_live) looks once for each.
+    ///
+    /// A fault ends it.
+    #[doc(alias = "fetch_all_items")]
+    pub fn iter(&self) -> Iter<'_, D> {
+        Iter::of(self)
+    }
+
+    // The next addresses above this one.
+    pub(crate) fn next_batch(
+        &self,
+        after: Option<Address>,
+    ) -> Result<LiveBatch, ReadFault<D::Error>> {
+        self.looked(|store| store.next_batch(after))
+    }
+}
+
+impl<D: Driver> fmt::Debug for Store<D> {
+    fn fmt(&self, f: &mut fmt::Formatter<'_>) -> fmt::Result {
+        f.debug_struct("Store")
+            .field("is_on", &self.is_on())
+            .field("shape", &self.shape())
+            .field("layout", &self.store.layout)
+            .finish_non_exhaustive()
+    }
+}
+
+impl<'a, D: Driver> IntoIterator for &'a Store<D> {
+    type Item = Result<(Address, u32), ReadFault<D::Error>>;
+    type IntoIter = Iter<'a, D>;
+
+    fn into_iter(self) -> Iter<'a, D> {
+        self.iter()
     }
 }

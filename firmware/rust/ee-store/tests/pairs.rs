@@ -297,3 +297,88 @@ fn a_first_start_that_was_cut_is_made_again() {
         }
     }
 }
+
+/// A part whose erases clear the cells of their page first: a cut one leaves them cleared.
+#[derive(Clone)]
+struct Clearing(Part);
+
+impl NumberDriver for Clearing {
+    type Error = PowerCut;
+
+    fn shape(&self) -> Shape {
+        SHAPE
+    }
+
+    fn clears_first(&self) -> bool {
+        true
+    }
+
+    fn read(&self, page: usize, at: usize) -> Result<u64, PowerCut> {
+        self.0.read(page, at)
+    }
+
+    fn program(&mut self, page: usize, at: usize, number: u64) -> Result<(), PowerCut> {
+        self.0.program(page, at, number)
+    }
+
+    fn erase(&mut self, page: usize) -> Result<(), PowerCut> {
+        let bits = self.0.begin();
+        for number in &mut self.0.numbers[page] {
+            *number = bits.map_or(u64::MAX, |bits| *number & bits);
+        }
+        bits.map_or(Ok(()), |_| Err(PowerCut(self.0.steps)))
+    }
+}
+
+/// A store on such a part after a write that moved, so that its first page waits to be erased.
+fn moved() -> Store<Pairs<Clearing>> {
+    let pairs = Pairs::of(Clearing(Part::new()))
+        .map_err(|(_, fault)| fault)
+        .unwrap();
+    let mut store = start(pairs).map_err(|failed| failed.fault).unwrap();
+    for value in 0..3 {
+        assert!(store.write(address(1), value).is_ok());
+    }
+    store
+}
+
+#[test]
+fn an_erase_that_clears_first_is_cut() {
+    for bits in CUTS {
+        let mut part = moved().into_driver().into_driver();
+        part.0.steps = 0;
+        part.0.cut = Some((1, bits));
+        let mut store = open(Pairs::known(part))
+            .map_err(|failed| failed.fault)
+            .unwrap();
+        assert!(store.clean_step().is_err());
+        let mut part = store.into_driver().into_driver();
+        part.0.cut = None;
+        // Where cells go one way no cut leaves such a page.
+        let is_refused = Pairs::of(part.0.clone()).is_err();
+        assert_eq!(is_refused, bits != u64::MAX);
+        let pairs = Pairs::of(part).map_err(|(_, fault)| fault).unwrap();
+        let mut store = start(pairs).map_err(|failed| failed.fault).unwrap();
+        assert_eq!(store.read(address(1)), Ok(Some(2)));
+        assert_eq!(store.clean_step(), Ok(true));
+        assert!(Pairs::of(store.into_driver().into_driver().0).is_ok());
+    }
+}
+
+#[test]
+fn a_first_start_that_clears_first_is_cut() {
+    for bits in CUTS {
+        let mut part = Clearing(Part::new());
+        part.0.numbers[0][..4].fill(7);
+        part.0.cut = Some((1, bits));
+        let failed = start(Pairs::known(part)).err().unwrap();
+        assert_eq!(failed.fault, OpenFault::Driver(PowerCut(1)));
+        let mut part = failed.driver.into_driver();
+        part.0.cut = None;
+        part.0.numbers[0][4..].fill(7);
+        assert!(start(Pairs::known(part.clone())).is_ok());
+        // In another page they are no first start's.
+        part.0.numbers[1][4..].fill(7);
+        assert!(start(Pairs::known(part)).is_err());
+    }
+}

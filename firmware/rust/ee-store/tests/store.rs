@@ -1,8 +1,9 @@
 //! The store by its methods, over a part in memory that can be told to fail in a step.
 
 use ee_store::{
-    format, open, start, Address, CleanFault, Driver, ForgetFault, Off, OpenFault, Put, ReadFault,
-    ScanFault, Shape, Store, Word, WriteAllFault, WriteFault, Written,
+    format, open, rescue, start, Address, CleanFault, ClearFault, Driver, ForgetFault, Off,
+    OpenFault, Put, ReadFault, RescueFault, Rescued, ScanFault, Shape, Store, Word, WriteAllFault,
+    WriteFault, Written,
 };
 use std::cell::Cell;
 use std::fmt;
@@ -116,6 +117,42 @@ fn values_are_kept() {
 }
 
 #[test]
+fn a_bad_word_is_rescued() {
+    let mut part = full().into_driver();
+    part.words[0][2] = Word::Held(7);
+    let failed = open(part).err().unwrap();
+    let foreign = ScanFault::Foreign { page: 0, at: 2 };
+    assert_eq!(failed.fault, OpenFault::Scan(foreign));
+    let (store, rescued) = rescue(failed.driver).unwrap();
+    let wanted = Rescued {
+        bad_words: 1,
+        live: 1,
+    };
+    assert_eq!(rescued, wanted);
+    assert_eq!(store.read(address(1)), Ok(Some(11)));
+    assert_eq!(store.generation(), Ok(2));
+    let store = open(store.into_driver()).unwrap();
+    assert_eq!(store.read(address(1)), Ok(Some(11)));
+}
+
+#[test]
+fn a_rescue_that_fails_is_made_again() {
+    for step in 1..4 {
+        let mut part = full().into_driver();
+        part.words[0][2] = Word::Torn;
+        part.words[0][3] = Word::Held(7);
+        part.steps = 0;
+        part.fails_in = Some(step);
+        let failed = rescue(part).err().unwrap();
+        assert_eq!(failed.fault, RescueFault::Driver(Broken { step }));
+        let (store, _) = rescue(failed.driver).unwrap();
+        assert_eq!(store.read(address(1)), Ok(Some(11)));
+    }
+    let failed = rescue(Part::new()).err().unwrap();
+    assert_eq!(failed.fault, RescueFault::NothingBegun);
+}
+
+#[test]
 fn refusals() {
     let mut store = full();
     assert_eq!(store.forget(address(2)), Err(ForgetFault::Absent));
@@ -123,6 +160,36 @@ fn refusals() {
     assert_eq!(store.write(address(3), 6), Err(WriteFault::Full));
     assert_eq!(store.forget(address(1)), Ok(Written::Moved));
     assert_eq!(store.read(address(1)), Ok(None));
+}
+
+#[test]
+fn a_clear_takes_all_values_away() {
+    let mut store = full();
+    assert_eq!(store.clear(), Ok(true));
+    assert_eq!((store.fill(), store.live_count()), (Ok(0), Ok(0)));
+    assert_eq!((store.generation(), store.pending()), (Ok(2), Ok(1)));
+    assert_eq!(store.read(address(1)), Ok(None));
+    // No slot is used, so there is nothing to clear.
+    assert_eq!(store.clear(), Ok(false));
+    assert_eq!(store.generation(), Ok(2));
+    assert_eq!(store.write(address(1), 12), Ok(Written::Appended));
+    let store = open(store.into_driver()).unwrap();
+    assert_eq!(store.read(address(1)), Ok(Some(12)));
+}
+
+#[test]
+fn a_clear_that_fails_is_done_or_not() {
+    for step in 1..4 {
+        let mut store = failing(full(), step);
+        let error = Broken { step };
+        assert_eq!(store.clear(), Err(ClearFault::Driver(error)));
+        assert_eq!(store.clear(), Err(ClearFault::Off));
+        let mut store = open(store.into_driver()).unwrap();
+        // The second step commits the clear, and a torn mark does not.
+        let value = if step < 3 { Some(11) } else { None };
+        assert_eq!(store.read(address(1)), Ok(value));
+        assert_eq!(store.clear(), Ok(step < 3));
+    }
 }
 
 #[test]
@@ -318,7 +385,6 @@ fn limits() {
     assert_eq!((Address::new(0), Address::new(65535)), (None, None));
     assert_eq!(address(1).get(), 1);
     assert_eq!(address(65534).get(), 65534);
-    assert_eq!(Address::default(), address(1));
     assert!(address(2) < address(10));
 }
 

@@ -101,7 +101,7 @@ impl Desk {
                 Ok(false) => "idle".to_string(),
                 Err(CleanFault::Off) => "off".to_string(),
                 Err(CleanFault::Driver(_)) => "cut".to_string(),
-                Err(CleanFault::Unsteady) => "unsteady".to_string(),
+                Err(fault) => panic!("no answer of a script: {fault}"),
             },
             _ => return None,
         })
@@ -128,8 +128,8 @@ impl Desk {
                 self.store = None;
                 match failed.fault {
                     OpenFault::Driver(_) => "cut".to_string(),
-                    OpenFault::Unsteady => "unsteady".to_string(),
                     OpenFault::Scan(fault) => fault_line(fault).trim_end().to_string(),
+                    fault => panic!("no answer of a script: {fault}"),
                 }
             }
         }
@@ -157,7 +157,7 @@ fn write_fault(fault: WriteFault<PowerCut>) -> &'static str {
         WriteFault::Full => "full",
         WriteFault::Spent => "spent",
         WriteFault::Driver(PowerCut) => "cut",
-        WriteFault::Unsteady => "unsteady",
+        fault => panic!("no answer of a script: {fault}"),
     }
 }
 
@@ -167,7 +167,7 @@ fn forget_fault(fault: ForgetFault<PowerCut>) -> &'static str {
         ForgetFault::Absent => "absent",
         ForgetFault::Spent => "spent",
         ForgetFault::Driver(PowerCut) => "cut",
-        ForgetFault::Unsteady => "unsteady",
+        fault => panic!("no answer of a script: {fault}"),
     }
 }
 

@@ -1,8 +1,8 @@
 //! Random calls against a map, lists of values among them, each with power cut at every step and in every way.
 //!
-//!     calls COUNT SEED [pairs]
+//!     calls COUNT SEED [pairs | clearing]
 //!
-//! on a part of words, or of pairs of numbers, plays so many calls of stores of random sizes. Each is started on a new part, cut as often as it happens. A call is played first with a cut at its first step, at its second,
+//! on a part of words, of pairs of numbers, or of pairs whose erase clears cells first, plays so many calls of stores of random sizes. Each is started on a new part, cut as often as it happens. A call is played first with a cut at its first step, at its second,
 //! and so on, in each of the four ways, up to a step that it does not take; each time the store is opened again, with
 //! a cut in the opening too now and then, and must hold the map before the call or after it. Then it is played uncut.
 //! At last the part is formatted, cut in each step and then again. All these count as calls. The first difference ends the program with a panic; without one it ends with a line
@@ -52,8 +52,18 @@ enum End {
     Cut,
 }
 
+/// What a part has.
+#[derive(Clone, Copy)]
+enum Kind {
+    Words,
+    Pairs,
+    /// Pairs on a flash whose erase clears the cells of its page first.
+    Clearing,
+}
+
 /// One store and what it holds.
 struct Course {
+    kind: Kind,
     shape: Shape,
     part: Part,
     map: Map,
@@ -64,16 +74,20 @@ struct Course {
 
 fn main() {
     let words: Vec<String> = env::args().skip(1).collect();
-    let has_numbers = words.get(2).map(String::as_str) == Some("pairs");
+    let kind = match words.get(2).map(String::as_str) {
+        None => Kind::Words,
+        Some("clearing") => Kind::Clearing,
+        Some(_) => Kind::Pairs,
+    };
     let numbers: Vec<u64> = words.iter().filter_map(|word| word.parse().ok()).collect();
     let [count, seed] = numbers[..] else {
-        eprintln!("calls COUNT SEED [pairs]");
+        eprintln!("calls COUNT SEED [pairs | clearing]");
         process::exit(2);
     };
     let mut dice = Dice(seed.wrapping_mul(0x9e37_79b9_7f4a_7c15) | 1);
     let (mut calls, mut cuts, mut stores) = (0, 0, 0);
     while calls < count {
-        let mut course = Course::new(&mut dice, has_numbers);
+        let mut course = Course::new(&mut dice, kind);
         for _ in 0..40 + dice.below(60) {
             course.play(&mut dice);
         }
@@ -87,7 +101,7 @@ fn main() {
 }
 
 impl Course {
-    fn new(dice: &mut Dice, has_numbers: bool) -> Course {
+    fn new(dice: &mut Dice, kind: Kind) -> Course {
         let longest = if dice.below(10) == 0 { 36 } else { 6 };
         let words = 5 + dice.below(longest) as usize;
         let shape = Shape::new(1 + dice.below(3) as usize, words).unwrap();
@@ -98,9 +112,10 @@ impl Course {
         } else {
             1 + dice.below(500) as u16
         };
-        let blank = blank(shape, has_numbers);
+        let blank = blank(shape, kind);
         let (part, starts) = started(blank, dice);
         Course {
+            kind,
             shape,
             part,
             map: Map::new(),
@@ -194,7 +209,7 @@ impl Course {
             self.calls += 1;
             assert_eq!(listed(&store), Map::new());
             let left = shared.0.borrow();
-            let fresh = Shared::new(blank(self.shape, left.has_numbers()));
+            let fresh = Shared::new(blank(self.shape, self.kind));
             assert!(format(fresh.clone()).is_ok());
             let fresh = fresh.0.borrow();
             assert_eq!(left.pages, fresh.pages, "formatted is as new");
@@ -299,10 +314,14 @@ impl Course {
 }
 
 /// A new part.
-fn blank(shape: Shape, has_numbers: bool) -> Part {
-    match has_numbers {
-        true => Part::blank_numbers(shape),
-        false => Part::blank(shape),
+fn blank(shape: Shape, kind: Kind) -> Part {
+    match kind {
+        Kind::Words => Part::blank(shape),
+        Kind::Pairs => Part::blank_numbers(shape),
+        Kind::Clearing => Part {
+            clears_first: true,
+            ..Part::blank_numbers(shape)
+        },
     }
 }
 

@@ -9,6 +9,7 @@ pub struct Address {
 
 impl Address {
     /// The address of this number, or `None` if it is 0 or 65535.
+    #[must_use]
     pub const fn new(number: u16) -> Option<Address> {
         if number == 0 || number == u16::MAX {
             return None;
@@ -17,14 +18,8 @@ impl Address {
     }
 
     /// The number, which is 1 to 65534.
-    pub fn get(self) -> u16 {
+    #[must_use]
+    pub const fn get(self) -> u16 {
         self.number
-    }
-}
-
-impl Default for Address {
-    /// The least address, 1.
-    fn default() -> Address {
-        Address { number: 1 }
     }
 }

@@ -4,8 +4,6 @@
 use crate::ee_codec::{Address, element_word, forget_word};
 
 /// A value that an address gets. It is laid out as in C, so that a list of C's can be one of these.
-///
-/// Source: ours.
 #[derive(Clone, Copy, Debug, PartialEq, Eq)]
 #[repr(C)]
 pub struct Put {

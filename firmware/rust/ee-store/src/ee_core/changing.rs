@@ -3,29 +3,51 @@
 //! made with a transfer.
 
 use crate::ee_core::change::{Change, Put};
-use crate::ee_core::copying::Cursor;
 use crate::ee_core::live_cursor::LiveCursor;
-use crate::ee_core::moving::transfer;
+use crate::ee_core::lookup::{Lookup, NoMemory};
+use crate::ee_core::moving::{transfer, transfer_by_slots, transfer_nothing};
 use crate::ee_core::variables::Written;
 use crate::ee_core::writing::append;
 use crate::ee_flash::{Cut, Flash};
 use crate::ee_pages::Layout;
 
 /// Makes a change to which no refusal applies: in a free slot if there is one, else with a transfer.
-/// The layout follows.
-pub(crate) fn make_change<F: Flash>(
+/// The layout and the look-up follow. It stands in both of its callers, so that a write takes fewer
+/// instructions in firmware.
+#[inline(always)]
+pub(crate) fn make_change<F: Flash, L: Lookup>(
     flash: &mut F,
     layout: &mut Layout,
+    lookup: &mut L,
     change: Change,
 ) -> Result<Written, Cut> {
     if layout.fill < flash.shape().slots() {
-        append_change(flash, layout, change)?;
-        Ok(Written::Appended)
+        match lookup.append(flash, layout, change) {
+            Ok(()) => Ok(Written::Appended),
+            Err(cut) => Err(cut),
+        }
     } else {
         let (put, forgets) = change.entry();
-        move_unindexed(flash, layout, &[put], forgets)?;
-        Ok(Written::Moved)
+        match lookup.transfer(flash, layout, &[put], forgets) {
+            Ok(()) => Ok(Written::Moved),
+            Err(cut) => Err(cut),
+        }
     }
+}
+
+/// Makes a look-up ready for a value in the first free slot or, where none is free, makes room for it in a transfer. An
+/// `Err`, which only a new address meets, leaves it as it was.
+#[inline(always)]
+pub(crate) fn prepare<F: Flash, L: Lookup>(
+    flash: &F,
+    layout: &Layout,
+    lookup: &mut L,
+    put: Put,
+) -> Result<(), NoMemory> {
+    if layout.fill == flash.shape().slots() {
+        return lookup.make_room(flash, layout, &[put]);
+    }
+    lookup.make_ready(flash, layout, put)
 }
 
 /// Makes a change to which no refusal applies in the first free slot. The layout follows.
@@ -47,8 +69,7 @@ pub(crate) fn move_unindexed<F: Flash>(
     puts: &[Put],
     forgets: bool,
 ) -> Result<(), Cut> {
-    let mut cursor = Cursor::new(flash, layout);
-    move_changes(flash, layout, puts, forgets, &mut cursor)?;
+    transfer_by_slots(flash, layout, puts, forgets)?;
     Ok(())
 }
 
@@ -63,5 +84,11 @@ pub fn move_changes<F: Flash, C: LiveCursor>(
     cursor: &mut C,
 ) -> Result<(), Cut> {
     transfer(flash, layout, puts, forgets, cursor)?;
+    Ok(())
+}
+
+/// Makes a clear to which no refusal applies. The layout follows.
+pub(crate) fn empty<F: Flash>(flash: &mut F, layout: &mut Layout) -> Result<(), Cut> {
+    transfer_nothing(flash, layout)?;
     Ok(())
 }

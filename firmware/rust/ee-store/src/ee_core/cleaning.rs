@@ -9,17 +9,12 @@ pub fn clean<F: Flash>(flash: &mut F, layout: &Layout) -> Result<bool, Cut> {
     let Some(page) = first_pending(flash, layout.side.other()) else {
         return Ok(false);
     };
-    erase_other(flash, layout.side, layout.generation, page)?;
+    erase_other(flash, layout.side, page)?;
     Ok(true)
 }
 
-/// Erases a page, which is not blank, of the set that is not live.
-pub(crate) fn erase_other<F: Flash>(
-    flash: &mut F,
-    side: Side,
-    generation: u32,
-    page: usize,
-) -> Result<(), Cut> {
+/// Erases a page, which is not blank, of the other set, whatever stands in either.
+pub(crate) fn erase_other<F: Flash>(flash: &mut F, side: Side, page: usize) -> Result<(), Cut> {
     flash.erase(page)?;
     Ok(())
 }
@@ -36,8 +31,6 @@ fn first_pending<F: Flash>(flash: &F, side: Side) -> Option<usize> {
 }
 
 /// How many pages of a set are not blank, 0 to 64. Those of the set that is not live wait to be erased.
-///
-/// Source: ours.
 pub fn count_pending<F: Flash>(flash: &F, side: Side) -> usize {
     let first = first_page(flash, side);
     let mut count = 0;

@@ -43,9 +43,7 @@ fn next_given<F: Flash>(
     given: &mut usize,
 ) -> Option<(Address, u32)> {
     loop {
-        let found = batch.found.as_slice();
-        if *given < found.len() {
-            let live = found[*given];
+        if let Some(live) = batch.found.get(*given) {
             *given += 1;
             return Some(live);
         }

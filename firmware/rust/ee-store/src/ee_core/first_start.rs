@@ -12,8 +12,6 @@ use crate::ee_pages::ScanFault;
 /// or not. So it is the call to make whenever the device is switched on: a first start in which power
 /// is cut is made again, and no word that may be a value is ever erased.
 ///
-/// Source: ours.
-///
 /// # Errors
 ///
 /// The device and the first `OpenFault` that applies. At a fault of the scan nothing changed. After a

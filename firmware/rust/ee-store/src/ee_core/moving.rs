@@ -3,15 +3,16 @@
 
 use crate::ee_core::change::Put;
 use crate::ee_core::cleaning::erase_other;
-use crate::ee_core::copying::fill_set;
+use crate::ee_core::copying::{Cursor, fill_set};
 use crate::ee_core::live_cursor::LiveCursor;
 use crate::ee_core::marking::finish;
 use crate::ee_flash::{Cut, Flash, HEADER_WORDS};
 use crate::ee_pages::{Layout, Mark, first_page, is_blank as page_is_blank, mark};
 
 /// Moves the map, with values that are put or without their addresses, where these are forgotten, to
-/// the other set, and makes that one live. The cursor, which is before the first, goes over the live addresses.
-/// The layout follows.
+/// the other set, and makes that one live. The cursor, which is before the first, goes over the live
+/// addresses. Of the layout it takes the set, in which any words may stand, and its generation, no
+/// smaller than the one that the set is committed with. The layout follows.
 pub(crate) fn transfer<F: Flash, C: LiveCursor>(
     flash: &mut F,
     layout: &mut Layout,
@@ -31,6 +32,18 @@ pub(crate) fn transfer<F: Flash, C: LiveCursor>(
     Ok(())
 }
 
+/// Moves the map as `transfer` does. It looks for the live addresses in the slots.
+pub(crate) fn transfer_by_slots<F: Flash>(
+    flash: &mut F,
+    layout: &mut Layout,
+    puts: &[Put],
+    forgets: bool,
+) -> Result<(), Cut> {
+    let mut cursor = Cursor::new(flash, layout);
+    transfer(flash, layout, puts, forgets, &mut cursor)?;
+    Ok(())
+}
+
 /// Moves the map, with what it is to carry, to the other set, and makes that one live. Gives how many
 /// slots it takes there.
 fn move_map<F: Flash, C: LiveCursor>(
@@ -47,18 +60,44 @@ fn move_map<F: Flash, C: LiveCursor>(
     Ok(count)
 }
 
-/// Erases each page of the other set that is not blank, by rising page.
+/// Makes the other set the live one with nothing in it, as `transfer` does with a map in which nothing
+/// has a value. The layout follows.
+pub(crate) fn transfer_nothing<F: Flash>(flash: &mut F, layout: &mut Layout) -> Result<(), Cut> {
+    move_nothing(flash, layout)?;
+    *layout = Layout {
+        side: layout.side.other(),
+        generation: layout.generation + 1,
+        fill: 0,
+        current: first_page(flash, layout.side.other()),
+    };
+    finish(flash, layout)?;
+    Ok(())
+}
+
+/// Makes the other set the live one with nothing in it, but for the marks of its pages and of those
+/// that it leaves.
+fn move_nothing<F: Flash>(flash: &mut F, layout: &Layout) -> Result<(), Cut> {
+    clear(flash, layout)?;
+    open_set(flash, layout)?;
+    commit(flash, layout)?;
+    Ok(())
+}
+
+/// Erases each page of the other set that is not blank, by rising page. Like the two below it stands
+/// in both of its callers, so that no code of one is the other's in firmware.
+#[inline(always)]
 fn clear<F: Flash>(flash: &mut F, layout: &Layout) -> Result<(), Cut> {
     let first = first_page(flash, layout.side.other());
     for page in first..first + flash.shape().pages() {
         if !page_is_blank(flash, page) {
-            erase_other(flash, layout.side, layout.generation, page)?;
+            erase_other(flash, layout.side, page)?;
         }
     }
     Ok(())
 }
 
 /// Gives the first page of the other set, which is blank, the receive word of the next generation.
+#[inline(always)]
 fn open_set<F: Flash>(flash: &mut F, layout: &Layout) -> Result<(), Cut> {
     let first = first_page(flash, layout.side.other());
     mark(flash, first, Mark::Receive(layout.generation + 1))?;
@@ -66,6 +105,7 @@ fn open_set<F: Flash>(flash: &mut F, layout: &Layout) -> Result<(), Cut> {
 }
 
 /// Makes the other set, which is filled, the live one.
+#[inline(always)]
 fn commit<F: Flash>(flash: &mut F, layout: &Layout) -> Result<(), Cut> {
     let first = first_page(flash, layout.side.other());
     mark(flash, first, Mark::Active)?;

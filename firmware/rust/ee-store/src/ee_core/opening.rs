@@ -8,8 +8,6 @@ use crate::ee_flash::{Cut, Flash};
 use crate::ee_pages::{ScanFault, scan};
 
 /// Why a device can't be opened, the first cause that applies.
-///
-/// Source: ours.
 #[derive(Clone, Copy, Debug, PartialEq, Eq)]
 pub enum OpenFault {
     /// The image is not legal. Nothing changed.
@@ -20,8 +18,6 @@ pub enum OpenFault {
 
 /// Opens the store of a legal image, on a device that is on, and sets the marks that a cut left to
 /// set. The variables are as before. Where no mark was left it takes no step.
-///
-/// Source: ours.
 ///
 /// # Errors
 ///
@@ -40,8 +36,6 @@ pub fn open<F: Flash>(flash: F) -> Result<Store<F>, (F, OpenFault)> {
 
 /// Makes a store with nothing in it, of a device that is on: each page that is not blank is erased,
 /// by rising page, and the first set becomes the live set with generation 1.
-///
-/// Source: ours.
 ///
 /// # Errors
 ///

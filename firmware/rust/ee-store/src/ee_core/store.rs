@@ -1,31 +1,46 @@
 // Made by firmware/rust/erase from crates/ee_core/src/store.rt. Change that file.
-//! The store without an index: it knows where the live set is and how far it is used, and reads the rest.
+//! The store: it knows where the live set is and how far it is used, and finds values by a look-up.
 
 use crate::ee_core::change::{Change, Put};
-use crate::ee_core::changing::{make_change, move_unindexed};
+use crate::ee_core::changing::{empty, make_change, prepare};
 use crate::ee_core::cleaning::{clean, count_pending};
-use crate::ee_core::puts::{first_twice, live_with};
-use crate::ee_core::variables::{ForgetFault, Off, Variables, WriteAllFault, WriteFault, Written};
+use crate::ee_core::lookup::{Lookup, Slots};
+use crate::ee_core::puts::first_twice;
+use crate::ee_core::variables::{
+    ClearFault, ForgetFault, Off, Variables, WriteAllFault, WriteFault, Written,
+};
 use crate::ee_codec::Address;
 use crate::ee_flash::{Cut, Flash};
-use crate::ee_pages::{Layout, LiveBatch, latest, live_count, next_batch, next_live, torn_slots};
+use crate::ee_pages::{Layout, LiveBatch, torn_slots};
 
 /// The greatest generation of a set.
 pub const GREATEST_GENERATION: u32 = 4_294_967_294;
 
 /// Variables in a flash device. It keeps in memory where the live set is and how far it is used, and
-/// reads all else from the flash.
+/// finds values by a look-up: `Slots` keeps nothing, and reads all else from the flash.
 ///
 /// Source: two sets, of which one takes the writes, AN4894; the rest is ours.
-pub struct Store<F: Flash> {
-    flash: F,
-    layout: Layout,
+pub struct Store<F: Flash, L: Lookup = Slots> {
+    pub(crate) flash: F,
+    pub(crate) layout: Layout,
+    pub(crate) lookup: L,
 }
 
 impl<F: Flash> Store<F> {
-    /// A store of this device, of which this is the layout.
+    /// A store of this device, of which this is the layout. It looks through the slots.
     pub(crate) fn of(flash: F, layout: Layout) -> Store<F> {
-        Store { flash, layout }
+        Store::with(flash, layout, Slots)
+    }
+}
+
+impl<F: Flash, L: Lookup> Store<F, L> {
+    /// A store of this device, of which this is the layout. It finds values by this look-up.
+    pub(crate) fn with(flash: F, layout: Layout, lookup: L) -> Store<F, L> {
+        Store {
+            flash,
+            layout,
+            lookup,
+        }
     }
 
     /// The device, to be looked at.
@@ -38,15 +53,13 @@ impl<F: Flash> Store<F> {
         self.flash
     }
 
-    /// The device, as it is, and its layout.
-    pub(crate) fn into_parts(self) -> (F, Layout) {
-        (self.flash, self.layout)
+    /// The device, as it is, its layout and the look-up.
+    pub(crate) fn into_parts(self) -> (F, Layout, L) {
+        (self.flash, self.layout, self.lookup)
     }
 
     /// How many slots of the live set are torn, 0 to its fill: words in whose step power was cut. It
     /// reads each slot once.
-    ///
-    /// Source: ours.
     pub fn torn_slots(&self) -> usize {
         torn_slots(&self.flash, &self.layout)
     }
@@ -74,7 +87,13 @@ impl<F: Flash> Store<F> {
         if self.is_last() {
             return Err(WriteAllFault::Spent);
         }
-        match move_unindexed(&mut self.flash, &mut self.layout, puts, false) {
+        let Ok(()) = self.lookup.make_room(&self.flash, &self.layout, puts) else {
+            return Err(WriteAllFault::Memory);
+        };
+        match self
+            .lookup
+            .transfer(&mut self.flash, &mut self.layout, puts, false)
+        {
             Ok(()) => Ok(Written::Moved),
             Err(Cut) => Err(WriteAllFault::Cut),
         }
@@ -84,7 +103,7 @@ impl<F: Flash> Store<F> {
     /// is of an address of its own.
     fn is_full_for_all(&self, puts: &[Put]) -> bool {
         let slots = self.flash.shape().slots();
-        puts.len() > slots || live_with(&self.flash, &self.layout, puts) > slots
+        puts.len() > slots || self.lookup.live_with(&self.flash, &self.layout, puts) > slots
     }
 
     /// Whether a write or forgetting must be refused since no generation is left for the transfer
@@ -106,14 +125,14 @@ impl<F: Flash> Store<F> {
         if self.layout.fill < slots {
             return false;
         }
-        match latest(&self.flash, &self.layout, address) {
+        match self.lookup.value_of(&self.flash, &self.layout, address) {
             Some(_) => false,
-            None => live_count(&self.flash, &self.layout) == slots,
+            None => self.lookup.live_count(&self.flash, &self.layout) == slots,
         }
     }
 }
 
-impl<F: Flash> Variables for Store<F> {
+impl<F: Flash, L: Lookup> Variables for Store<F, L> {
     fn slots(&self) -> usize {
         self.flash.shape().slots()
     }
@@ -126,7 +145,7 @@ impl<F: Flash> Variables for Store<F> {
         if !self.flash.is_on() {
             return Err(Off);
         }
-        Ok(latest(&self.flash, &self.layout, address))
+        Ok(self.lookup.value_of(&self.flash, &self.layout, address))
     }
 
     #[inline(always)]
@@ -140,9 +159,18 @@ impl<F: Flash> Variables for Store<F> {
         if self.is_spent() {
             return Err(WriteFault::Spent);
         }
+        let Ok(()) = prepare(
+            &self.flash,
+            &self.layout,
+            &mut self.lookup,
+            Put { address, value },
+        ) else {
+            return Err(WriteFault::Memory);
+        };
         match make_change(
             &mut self.flash,
             &mut self.layout,
+            &mut self.lookup,
             Change::Put { address, value },
         ) {
             Ok(written) => Ok(written),
@@ -167,7 +195,7 @@ impl<F: Flash> Variables for Store<F> {
         if !self.flash.is_on() {
             return Err(ForgetFault::Off);
         }
-        let Some(value) = latest(&self.flash, &self.layout, address) else {
+        let Some(value) = self.lookup.value_of(&self.flash, &self.layout, address) else {
             return Err(ForgetFault::Absent);
         };
         if self.is_spent() {
@@ -176,10 +204,30 @@ impl<F: Flash> Variables for Store<F> {
         match make_change(
             &mut self.flash,
             &mut self.layout,
+            &mut self.lookup,
             Change::Forget { address, value },
         ) {
             Ok(written) => Ok(written),
             Err(Cut) => Err(ForgetFault::Cut),
+        }
+    }
+
+    fn clear(&mut self) -> Result<bool, ClearFault> {
+        if !self.flash.is_on() {
+            return Err(ClearFault::Off);
+        }
+        if self.layout.fill == 0 {
+            return Ok(false);
+        }
+        if self.is_last() {
+            return Err(ClearFault::Spent);
+        }
+        match empty(&mut self.flash, &mut self.layout) {
+            Ok(()) => {
+                self.lookup.find_nothing();
+                Ok(true)
+            }
+            Err(Cut) => Err(ClearFault::Cut),
         }
     }
 
@@ -206,16 +254,14 @@ impl<F: Flash> Variables for Store<F> {
     }
 
     fn live_count(&self) -> usize {
-        live_count(&self.flash, &self.layout)
+        self.lookup.live_count(&self.flash, &self.layout)
     }
 
     fn next_live(&self, after: Option<Address>) -> Option<(Address, u32)> {
-        next_live(&self.flash, &self.layout, after)
+        self.lookup.next_live(&self.flash, &self.layout, after)
     }
 
     fn next_batch(&self, after: Option<Address>) -> LiveBatch {
-        let mut batch = LiveBatch::new();
-        next_batch(&self.flash, &self.layout, after, &mut batch);
-        batch
+        self.lookup.next_batch(&self.flash, &self.layout, after)
     }
 }

@@ -6,14 +6,10 @@ use crate::ee_codec::Address;
 use crate::ee_pages::LiveBatch;
 
 /// The device is off.
-///
-/// Source: ours.
 #[derive(Clone, Copy, Debug, PartialEq, Eq)]
 pub struct Off;
 
 /// How a change was stored.
-///
-/// Source: ours.
 #[derive(Clone, Copy, Debug, PartialEq, Eq)]
 pub enum Written {
     /// In a free slot.
@@ -23,8 +19,6 @@ pub enum Written {
 }
 
 /// Why nothing is written, the first cause that applies. All but `Cut` leave the device as it was.
-///
-/// Source: ours.
 #[derive(Clone, Copy, Debug, PartialEq, Eq)]
 pub enum WriteFault {
     /// The device is off.
@@ -42,8 +36,6 @@ pub enum WriteFault {
 
 /// Why no value of a list is written, the first cause that applies. All but `Cut` leave the device as
 /// it was.
-///
-/// Source: ours.
 #[derive(Clone, Copy, Debug, PartialEq, Eq)]
 pub enum WriteAllFault {
     /// The device is off.
@@ -62,8 +54,6 @@ pub enum WriteAllFault {
 }
 
 /// Why nothing is forgotten, the first cause that applies. All but `Cut` leave the device as it was.
-///
-/// Source: ours.
 #[derive(Clone, Copy, Debug, PartialEq, Eq)]
 pub enum ForgetFault {
     /// The device is off.
@@ -74,6 +64,18 @@ pub enum ForgetFault {
     Spent,
     /// Power failed in this call. The device is off; the address has its value still or has none,
     /// and nothing else changed for any reader.
+    Cut,
+}
+
+/// Why nothing is cleared, the first cause that applies. All but `Cut` leave the device as it was.
+#[derive(Clone, Copy, Debug, PartialEq, Eq)]
+pub enum ClearFault {
+    /// The device is off.
+    Off,
+    /// A slot is used, and the generation is the greatest, 4294967294.
+    Spent,
+    /// Power failed in this call. The device is off; each address has its value still, or none has
+    /// one.
     Cut,
 }
 
@@ -118,6 +120,16 @@ pub trait Variables {
     ///
     /// The first `ForgetFault` that applies.
     fn forget(&mut self, address: Address) -> Result<Written, ForgetFault>;
+
+    /// Takes the values of all addresses away at once: after this call, and after a cut in it too, none
+    /// has a value or all have theirs. `false` if no slot is used: then it takes no step. Else the
+    /// other set becomes the live one with nothing in it. The words of the old values stay in the
+    /// flash until their set is erased.
+    ///
+    /// # Errors
+    ///
+    /// The first `ClearFault` that applies.
+    fn clear(&mut self) -> Result<bool, ClearFault>;
 
     /// Erases the lowest page of the other set that is not blank. `false` if there is none.
     ///

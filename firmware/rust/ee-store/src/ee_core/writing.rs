@@ -14,19 +14,31 @@ pub(crate) fn append<F: Flash>(
     layout: &mut Layout,
     change: Change,
 ) -> Result<(), Cut> {
-    open_page(flash, layout)?;
-    let page = push(flash, layout, change)?;
+    let (page, at) = free_slot(flash, layout);
+    open_page(flash, layout, page)?;
+    push(flash, layout, page, at, change)?;
     layout.current = page;
     layout.fill += 1;
     Ok(())
 }
 
-/// Marks the page of the first free slot as the one that is used, if it is a further one, and the
-/// page before it as used up.
+/// The page of the first free slot, and the slot's place in it. The layout has the page in use, so that
+/// this takes no division.
 #[inline(always)]
-fn open_page<F: Flash>(flash: &mut F, layout: &Layout) -> Result<(), Cut> {
+fn free_slot<F: Flash>(flash: &F, layout: &Layout) -> (usize, usize) {
     let slots = flash.shape().words() - HEADER_WORDS;
-    if layout.fill == 0 || layout.fill % slots != 0 {
+    let used = layout.fill - (layout.current - first_page(flash, layout.side)) * slots;
+    if used == slots {
+        return (layout.current + 1, HEADER_WORDS);
+    }
+    (layout.current, HEADER_WORDS + used)
+}
+
+/// Marks the page of the first free slot, which is this one, as the one that is used, if it is a further
+/// one, and the page before it as used up.
+#[inline(always)]
+fn open_page<F: Flash>(flash: &mut F, layout: &Layout, page: usize) -> Result<(), Cut> {
+    if page == layout.current {
         return Ok(());
     }
     mark_live(flash, layout, layout.current, Mark::Valid)?;
@@ -34,11 +46,15 @@ fn open_page<F: Flash>(flash: &mut F, layout: &Layout) -> Result<(), Cut> {
     Ok(())
 }
 
-/// Programs a change into the first free slot of the live set, and gives the page of that slot.
+/// Programs a change into the first free slot of the live set, which stands in this place of this page.
 #[inline(always)]
-fn push<F: Flash>(flash: &mut F, layout: &Layout, change: Change) -> Result<usize, Cut> {
-    let slots = flash.shape().words() - HEADER_WORDS;
-    let page = first_page(flash, layout.side) + layout.fill / slots;
-    flash.program(page, HEADER_WORDS + layout.fill % slots, change.word())?;
-    Ok(page)
+fn push<F: Flash>(
+    flash: &mut F,
+    layout: &Layout,
+    page: usize,
+    at: usize,
+    change: Change,
+) -> Result<(), Cut> {
+    flash.program(page, at, change.word())?;
+    Ok(())
 }

@@ -4,8 +4,6 @@
 use crate::ee_flash::{Shape, Word};
 
 /// Power failed during a step, or was off before it.
-///
-/// Source: ours.
 #[derive(Clone, Copy, Debug, PartialEq, Eq)]
 pub struct Cut;
 
@@ -28,6 +26,11 @@ pub trait Flash {
 
     /// What a word holds, whether power is on or off.
     fn word(&self, page: usize, at: usize) -> Word;
+
+    /// The numbers of the words from a place on, as many as there is room for, whether power is on
+    /// or off: `u64::MAX` of an erased word, 0 of a torn one. They stand in the room, or where the
+    /// device has them. `word` tells a torn word from one that holds 0.
+    fn run<'a>(&'a self, page: usize, at: usize, room: &'a mut [u64]) -> &'a [u64];
 
     /// Programs an erased word with a number below `u64::MAX`.
     ///

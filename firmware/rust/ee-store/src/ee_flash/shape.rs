@@ -2,8 +2,6 @@
 //! How large a device is: two sets of as many pages, and each page a header and slots.
 
 /// The words of a page's header, below its slots.
-///
-/// Source: ours.
 pub const HEADER_WORDS: usize = 4;
 
 /// How large a device is: the pages of each of its two sets, 1 to 64, and the words of a page, 5 to
@@ -18,6 +16,7 @@ pub struct Shape {
 
 impl Shape {
     /// The shape of this many pages in each set and words in each page, `None` outside the limits.
+    #[must_use]
     pub const fn new(pages: usize, words: usize) -> Option<Self> {
         if pages >= 1 && pages <= 64 && words >= 5 && words <= 512 {
             Some(Shape { pages, words })
@@ -27,17 +26,20 @@ impl Shape {
     }
 
     /// The pages of each set, 1 to 64.
-    pub fn pages(&self) -> usize {
+    #[must_use]
+    pub const fn pages(&self) -> usize {
         self.pages
     }
 
     /// The words of a page, 5 to 512.
-    pub fn words(&self) -> usize {
+    #[must_use]
+    pub const fn words(&self) -> usize {
         self.words
     }
 
     /// The slots of a set, 1 to 32512: the words of its pages, less the four of each page's header.
-    pub fn slots(&self) -> usize {
+    #[must_use]
+    pub const fn slots(&self) -> usize {
         self.pages * (self.words - HEADER_WORDS)
     }
 }

@@ -13,3 +13,15 @@ pub enum Word {
     /// An uncorrectable ECC error: the word reads as unreadable.
     Torn,
 }
+
+impl Word {
+    /// Its number in a run: `u64::MAX` where it is erased, and 0 where it is torn.
+    #[must_use]
+    pub const fn number(self) -> u64 {
+        match self {
+            Word::Erased => u64::MAX,
+            Word::Held(value) => value,
+            Word::Torn => 0,
+        }
+    }
+}

@@ -1,16 +1,16 @@
 // Made by firmware/rust/erase from crates/ee_pages/src/batch.rt. Change that file.
 //! The next live addresses, as many as are found in one look through the slots.
 
-use crate::ee_pages::batch_items::{BATCH, Batch};
+use crate::ee_pages::batch_items::Batch;
 use crate::ee_pages::find::Layout;
-use crate::ee_pages::side::{Side, page_slot};
-use crate::ee_codec::{Address, Slot, read_slot};
-use crate::ee_flash::{Flash, HEADER_WORDS, Word};
+use crate::ee_pages::number::address_in;
+use crate::ee_pages::runs::{RUN, run_from};
+use crate::ee_pages::side::{Side, first_page};
+use crate::ee_codec::Address;
+use crate::ee_flash::{Flash, HEADER_WORDS};
 
 /// The live addresses of a stretch of addresses, with their values: as many as are found in one look
 /// through the slots.
-///
-/// Source: ours.
 pub struct LiveBatch {
     /// By rising address.
     pub found: Batch,
@@ -20,8 +20,6 @@ pub struct LiveBatch {
 
 impl LiveBatch {
     /// One with no addresses. It stays out of the calls that begin with one, since it is long.
-    ///
-    /// Source: ours.
     #[inline(never)]
     pub fn new() -> LiveBatch {
         LiveBatch {
@@ -35,15 +33,13 @@ impl LiveBatch {
 /// batch, with their values, in place of what it held: up to `BATCH`, from one look through the
 /// slots. There may be none, and more behind `through`, where addresses were forgotten. The layout is
 /// the image's.
-///
-/// Source: ours.
 pub fn next_batch<F: Flash>(
     flash: &F,
     layout: &Layout,
     after: Option<Address>,
     batch: &mut LiveBatch,
 ) {
-    batch.found.clear();
+    batch.found.take_out();
     gather(flash, layout.side, number_of(after), &mut batch.found);
     batch.through = batch.found.last_if_full();
     batch.found.keep_living();
@@ -67,62 +63,52 @@ fn gather<F: Flash>(flash: &F, side: Side, above: u16, nearest: &mut Batch) {
 
 /// Notes what the slots of a page say, behind those of the pages before.
 fn gather_page<F: Flash>(flash: &F, side: Side, page: usize, above: u16, nearest: &mut Batch) {
-    for slot in 0..flash.shape().words() - HEADER_WORDS {
-        note(above, page_slot(flash, side, page, slot), nearest);
+    let here = first_page(flash, side) + page;
+    let words = flash.shape().words();
+    let mut span = span_of(nearest, above);
+    let mut room = [1; RUN];
+    let mut at = HEADER_WORDS;
+    while at < words {
+        let run = run_from(flash, here, at, words, &mut room);
+        at += run.len();
+        span = note_all(above, span, run, nearest);
     }
 }
 
-/// Notes what a word says, if it is of an address above this one.
-fn note(above: u16, word: Word, nearest: &mut Batch) {
+/// Notes what these numbers say, of so many addresses above this one, which are those that have a place
+/// in the batch. Gives how many have one then.
+#[inline(never)]
+fn note_all(above: u16, span: u32, numbers: &[u64], nearest: &mut Batch) -> u32 {
+    let mut span = span;
+    for number in numbers {
+        span = note(above, span, *number, nearest);
+    }
+    span
+}
+
+/// Notes what a number says, if it is of one of so many addresses above this one.
+fn note(above: u16, span: u32, number: u64, nearest: &mut Batch) -> u32 {
     // Asked first, since most words are of an address that has no place in a batch.
-    let ending = ending_of(word);
-    if ending <= above || nearest.ends_before(ending) {
-        return;
+    if !is_within(address_in(number), above, span) {
+        return span;
     }
-    note_named(above, named(word), nearest);
-}
-
-/// The only address of which a word can say something, and 0 if there is none.
-fn ending_of(word: Word) -> u16 {
-    match word {
-        Word::Held(number) => (number & 0xffff) as u16,
-        _ => 0,
+    if nearest.note_last(number) {
+        return span;
     }
-}
-
-/// The address of which a word says something, with what it says.
-fn named(word: Word) -> Option<(Address, Option<u32>)> {
-    match read_slot(word) {
-        Slot::Element { address, value } => Some((address, Some(value))),
-        Slot::Forgotten { address, .. } => Some((address, None)),
-        _ => None,
-    }
-}
-
-/// Notes what is named, if it is an address above this one.
-fn note_named(above: u16, named: Option<(Address, Option<u32>)>, nearest: &mut Batch) {
-    if let Some((address, said)) = named {
-        note_said(above, address, said, nearest);
-    }
-}
-
-/// Notes what is said of an address, if it is above this one.
-fn note_said(above: u16, address: Address, said: Option<u32>, nearest: &mut Batch) {
-    if address.get() <= above {
-        return;
-    }
-    let place = nearest.place_of(address);
-    if place < BATCH {
-        put(nearest, place, address, said);
-    }
-}
-
-/// Puts an address in its place, over what was noted of it; where there is no room the last one
-/// falls out.
-fn put(nearest: &mut Batch, place: usize, address: Address, said: Option<u32>) {
-    if nearest.has(place, address) {
-        nearest.set(place, address, said);
+    if nearest.note(number) {
+        span_of(nearest, above)
     } else {
-        nearest.insert(place, address, said);
+        span
     }
+}
+
+/// How many addresses above this one have a place in a batch.
+fn span_of(nearest: &Batch, above: u16) -> u32 {
+    u32::from(nearest.greatest() - above)
+}
+
+/// Whether an address is one of so many above another one.
+fn is_within(address: u16, above: u16, span: u32) -> bool {
+    // One comparison, since what is no greater than `above` wraps.
+    u32::from(address).wrapping_sub(u32::from(above) + 1) < span
 }

@@ -1,28 +1,26 @@
 // Made by firmware/rust/erase from crates/ee_pages/src/batch_items.rt. Change that file.
 //! The room of a batch: up to `BATCH` addresses with their values, and while it is filled some with none.
 
-use crate::ee_codec::Address;
+use crate::ee_pages::number::{address_in, gives_value, says_something};
+use crate::ee_codec::{Address, element_word};
 
 /// How many addresses a batch has room for.
-pub const BATCH: usize = 16;
+pub const BATCH: usize = 28;
 
 /// Addresses with their values, up to `BATCH`, in the value itself. While it is filled an address may
 /// stand in it that has no value.
-///
-/// Source: ours.
 pub struct Batch {
-    items: [(Address, u32); BATCH],
-    /// Which of the items have a value.
-    lives: [bool; BATCH],
+    /// The words of elements and forgettings, in the order of their addresses.
+    numbers: [u64; BATCH],
     len: usize,
 }
 
 impl Batch {
     /// An empty batch.
     pub fn new() -> Batch {
+        // Any number of an address serves where there is none yet.
         Batch {
-            items: [(Address::default(), 0); BATCH],
-            lives: [false; BATCH],
+            numbers: [1; BATCH],
             len: 0,
         }
     }
@@ -42,45 +40,81 @@ impl Batch {
         self.len == BATCH
     }
 
-    /// The addresses with their values.
-    pub fn as_slice(&self) -> &[(Address, u32)] {
-        &self.items[..self.len]
+    /// The address at this place, counted from 0, with its value. `None` behind the last.
+    #[inline(always)]
+    pub fn get(&self, place: usize) -> Option<(Address, u32)> {
+        if place >= self.len {
+            return None;
+        }
+        let number = self.numbers[place];
+        let address = Address::new(address_in(number))?;
+        Some((address, (number >> 32) as u32))
     }
 
     /// Puts an address with its value behind the others.
-    pub fn push(&mut self, item: (Address, u32)) {
-        self.items[self.len] = item;
-        self.lives[self.len] = true;
+    pub fn push(&mut self, address: Address, value: u32) {
+        self.numbers[self.len] = element_word(address, value);
         self.len += 1;
     }
 
     /// Takes all addresses out.
-    pub(crate) fn clear(&mut self) {
+    pub(crate) fn take_out(&mut self) {
         self.len = 0;
     }
 
-    /// How many of the addresses, which rise, are below this one. It looks from the last down, since
-    /// most addresses are above all.
-    pub(crate) fn place_of(&self, address: Address) -> usize {
-        place_in(&self.items[..self.len], address)
+    /// Notes what an element or a forgetting says of the last address, if it is of that. It is asked first,
+    /// since an address that changes often has most of the slots.
+    #[inline(always)]
+    pub(crate) fn note_last(&mut self, number: u64) -> bool {
+        let len = self.len;
+        if len == 0 || !says_something(number) || !self.has(len - 1, address_in(number)) {
+            return false;
+        }
+        self.set(len - 1, number);
+        true
+    }
+
+    /// Notes what a number with an address says of it, over what was noted of it, if it is that of an
+    /// element or a forgetting. Where there is no room the last address falls out. Says whether there may
+    /// be another last address, or one more, than before.
+    #[inline(never)]
+    pub(crate) fn note(&mut self, number: u64) -> bool {
+        says_something(number) && self.put(number)
+    }
+
+    /// The same for an element or a forgetting.
+    fn put(&mut self, number: u64) -> bool {
+        let address = address_in(number);
+        let through = self.place_through(address);
+        if through > 0 && self.has(through - 1, address) {
+            self.set(through - 1, number);
+            return false;
+        }
+        if through < BATCH {
+            self.insert(through, number);
+        }
+        true
+    }
+
+    /// How many of the addresses, which rise, are no greater than this one.
+    fn place_through(&self, address: u16) -> usize {
+        place_in(&self.numbers[..self.len], address)
     }
 
     /// Whether this address stands at this place.
-    pub(crate) fn has(&self, place: usize, address: Address) -> bool {
-        place < self.len && self.items[place].0.get() == address.get()
+    fn has(&self, place: usize, address: u16) -> bool {
+        place < self.len && address_in(self.numbers[place]) == address
     }
 
-    /// Notes of the address at this place what is said of it.
-    pub(crate) fn set(&mut self, place: usize, address: Address, said: Option<u32>) {
-        self.items[place] = (address, said.unwrap_or(0));
-        self.lives[place] = said.is_some();
+    /// Notes of the address at this place what a number says of it.
+    fn set(&mut self, place: usize, number: u64) {
+        self.numbers[place] = number;
     }
 
-    /// Puts an address in at this place. Where there is no room the last one falls out.
-    pub(crate) fn insert(&mut self, place: usize, address: Address, said: Option<u32>) {
+    /// Puts a number in at this place. Where there is no room the last one falls out.
+    fn insert(&mut self, place: usize, number: u64) {
         let end = one_more(self.len);
-        put_in(&mut self.items, place, end, (address, said.unwrap_or(0)));
-        put_in(&mut self.lives, place, end, said.is_some());
+        put_in(&mut self.numbers, place, end, number);
         self.len = end;
     }
 
@@ -89,21 +123,20 @@ impl Batch {
         if self.len < BATCH {
             return None;
         }
-        let (last, _) = self.items[BATCH - 1];
-        Some(last)
+        Address::new(address_in(self.numbers[BATCH - 1]))
     }
 
-    /// Whether there is no room for one more, and the last address is below this number.
-    pub(crate) fn ends_before(&self, number: u16) -> bool {
-        match self.last_if_full() {
-            None => false,
-            Some(last) => last.get() < number,
+    /// The greatest address that has a place in it: the last one, where there is no room for one more.
+    pub(crate) fn greatest(&self) -> u16 {
+        if self.len < BATCH {
+            return u16::MAX - 1;
         }
+        address_in(self.numbers[BATCH - 1])
     }
 
     /// Keeps those that have a value.
     pub(crate) fn keep_living(&mut self) {
-        self.len = keep(&mut self.items, &self.lives, self.len);
+        self.len = keep(&mut self.numbers, self.len);
     }
 }
 
@@ -112,19 +145,20 @@ fn one_more(count: usize) -> usize {
     if count < BATCH { count + 1 } else { BATCH }
 }
 
-/// How many of these addresses, which rise, are below this one.
-fn place_in(rising: &[(Address, u32)], address: Address) -> usize {
+/// How many of these addresses, which rise, are no greater than this one. It looks from the last down,
+/// since most addresses are above all.
+fn place_in(rising: &[u64], address: u16) -> usize {
     let mut place = rising.len();
-    while place > 0 && address.get() <= rising[place - 1].0.get() {
+    while place > 0 && address < address_in(rising[place - 1]) {
         place -= 1;
     }
     place
 }
 
-/// Puts an item in at this place of a list, and moves what stands from there on to before `end` one
+/// Puts a number in at this place of a list, and moves what stands from there on to before `end` one
 /// further; the last of these falls out.
-fn put_in<T: Copy>(list: &mut [T], place: usize, end: usize, item: T) {
-    let mut carried = item;
+fn put_in(list: &mut [u64], place: usize, end: usize, number: u64) {
+    let mut carried = number;
     for at in place..end {
         let next = list[at];
         list[at] = carried;
@@ -132,20 +166,15 @@ fn put_in<T: Copy>(list: &mut [T], place: usize, end: usize, item: T) {
     }
 }
 
-/// Moves those of the first `count` that have a value to the front, and says how many there are.
-fn keep(items: &mut [(Address, u32)], lives: &[bool], count: usize) -> usize {
+/// Moves those of the first `count` that give a value to the front, and says how many there are.
+fn keep(numbers: &mut [u64], count: usize) -> usize {
     let mut kept = 0;
     for place in 0..count {
-        if lives[place] {
-            let item = items[place];
-            put_at(items, kept, item.0, item.1);
+        let number = numbers[place];
+        if gives_value(number) {
+            numbers[kept] = number;
             kept += 1;
         }
     }
     kept
-}
-
-/// Puts an address with its value at this place.
-fn put_at(items: &mut [(Address, u32)], place: usize, address: Address, value: u32) {
-    items[place] = (address, value);
 }

@@ -8,8 +8,6 @@ use crate::ee_flash::{Cut, Flash};
 /// Programs a mark, unless its word is written, torn or not: then it takes no step. Pages are
 /// numbered from 0, those of the first set first.
 ///
-/// Source: ours.
-///
 /// # Errors
 ///
 /// `Cut`, only with the device off afterwards: power failed in this step, or was off before it and

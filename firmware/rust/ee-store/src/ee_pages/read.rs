@@ -3,21 +3,21 @@
 
 use crate::ee_pages::batch::{LiveBatch, next_batch};
 use crate::ee_pages::find::Layout;
+use crate::ee_pages::number::{address_in, gives_value, says_something};
+use crate::ee_pages::runs::RUN;
 use crate::ee_pages::side::{Side, first_page, page_slot, set_slot};
 use crate::ee_pages::state::is_torn;
-use crate::ee_codec::{Address, Slot, ends_in, read_slot};
+use crate::ee_codec::Address;
 use crate::ee_flash::{Flash, HEADER_WORDS, Word};
 
 /// The word in a slot of the live set, by the slot's number, counted from 0 and below the capacity.
 /// The layout is the image's.
-///
-/// Source: ours.
 pub fn slot_word<F: Flash>(flash: &F, layout: &Layout, slot: usize) -> Word {
     set_slot(flash, layout.side, slot)
 }
 
-/// The value of an address, `None` if it has none. It reads each slot once at most, from the newest
-/// down to the first that says something of the address. The layout is the image's.
+/// The value of an address, `None` if it has none. It reads the slots in runs from the newest down, each
+/// once, to the run with the first that says something of the address. The layout is the image's.
 ///
 /// Source: the last element written for an address is its value, AN4894; a forgetting is ours.
 pub fn latest<F: Flash>(flash: &F, layout: &Layout, address: Address) -> Option<u32> {
@@ -38,8 +38,6 @@ pub fn latest<F: Flash>(flash: &F, layout: &Layout, address: Address) -> Option<
 /// The next live address above `after`, or of all if `after` is `None`, with its value. `None` if
 /// there is none. It looks through the slots once, and once more for each batch of addresses that
 /// were all forgotten. The layout is the image's.
-///
-/// Source: ours.
 pub fn next_live<F: Flash>(
     flash: &F,
     layout: &Layout,
@@ -49,8 +47,8 @@ pub fn next_live<F: Flash>(
     let mut batch = LiveBatch::new();
     loop {
         next_batch(flash, layout, behind, &mut batch);
-        if let Some(found) = batch.found.as_slice().first() {
-            return Some(*found);
+        if let Some(found) = batch.found.get(0) {
+            return Some(found);
         }
         let Some(through) = batch.through else {
             return None;
@@ -61,8 +59,6 @@ pub fn next_live<F: Flash>(
 
 /// How many addresses have a value, 0 to the capacity. It looks through the slots once for each batch
 /// of live addresses. The layout is the image's.
-///
-/// Source: ours.
 pub fn live_count<F: Flash>(flash: &F, layout: &Layout) -> usize {
     let mut count = 0;
     let mut after = None;
@@ -79,8 +75,6 @@ pub fn live_count<F: Flash>(flash: &F, layout: &Layout) -> usize {
 
 /// How many slots of the live set are torn, 0 to its fill. It reads each slot once. The layout is the
 /// image's.
-///
-/// Source: ours.
 pub fn torn_slots<F: Flash>(flash: &F, layout: &Layout) -> usize {
     let mut torn = 0;
     for page in 0..flash.shape().pages() {
@@ -110,30 +104,44 @@ fn said_in_page<F: Flash>(
     used: usize,
     address: Address,
 ) -> Option<Option<u32>> {
-    for slot in (0..used).rev() {
-        if let Some(said) = says(page_slot(flash, side, page, slot), address) {
-            return Some(said);
+    let here = first_page(flash, side) + page;
+    let mut room = [1; RUN];
+    let mut left = used;
+    while left > 0 {
+        let count = RUN.min(left);
+        left -= count;
+        let run = flash.run(here, HEADER_WORDS + left, &mut room[..count]);
+        let ends = ending_in(run, address);
+        if ends > 0 {
+            if let Some(said) = said(run[ends - 1]) {
+                return Some(said);
+            }
+            left += ends - 1;
         }
     }
     None
 }
 
-/// What a word says of an address: nothing, or that it has a value or none from here on.
-fn says(word: Word, address: Address) -> Option<Option<u32>> {
-    // Asked first, since most words are of another address.
-    if !ends_in(word, address) {
-        return None;
+/// How many of these numbers stand up to the last that ends in an address, 0 where none does. It does no
+/// more than that, since most numbers end in another one.
+#[inline(never)]
+fn ending_in(numbers: &[u64], address: Address) -> usize {
+    let mut left = numbers.len();
+    while left > 0 && address_in(numbers[left - 1]) != address.get() {
+        left -= 1;
     }
-    said(word)
+    left
 }
 
-/// What a word says of the address that it ends in. It stays out of the loop that asks for an
-/// address, which runs over most words and is short without it.
-#[inline(never)]
-fn said(word: Word) -> Option<Option<u32>> {
-    match read_slot(word) {
-        Slot::Element { value, .. } => Some(Some(value)),
-        Slot::Forgotten { .. } => Some(None),
-        _ => None,
+/// What a number says of the address that it ends in: nothing, or that it has a value or none from here
+/// on.
+fn said(number: u64) -> Option<Option<u32>> {
+    if !says_something(number) {
+        return None;
+    }
+    if gives_value(number) {
+        Some(Some((number >> 32) as u32))
+    } else {
+        Some(None)
     }
 }

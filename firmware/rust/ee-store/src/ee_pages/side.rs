@@ -26,8 +26,6 @@ impl Side {
 }
 
 /// The number, in the device, of a set's first page.
-///
-/// Source: ours.
 pub fn first_page<F: Flash>(flash: &F, side: Side) -> usize {
     match side {
         Side::First => 0,

@@ -3,7 +3,7 @@
 
 use crate::ee_pages::state::is_written;
 use crate::ee_codec::{MarkRead, Slot, read_mark, read_slot, receive_word};
-use crate::ee_flash::{HEADER_WORDS, Shape, Word};
+use crate::ee_flash::Word;
 
 /// The places of a live set, by what may stand in them.
 #[derive(Clone, Copy)]
@@ -21,7 +21,7 @@ pub(crate) enum Place {
 }
 
 /// The place of a word of a set.
-fn place_of(page: usize, at: usize) -> Place {
+pub(crate) fn place_of(page: usize, at: usize) -> Place {
     if at > 3 {
         Place::InSlot
     } else if at == 3 {
@@ -37,8 +37,10 @@ fn place_of(page: usize, at: usize) -> Place {
     }
 }
 
-/// Whether the word may stand in the place of a live set of this generation.
-fn fits(generation: u32, place: Place, word: Word) -> bool {
+/// Whether the word may stand in the place of a live set of this generation. It stands in each of its
+/// callers, so that an opening has the same code in firmware whether bad words are counted or not.
+#[inline(always)]
+pub(crate) fn fits(generation: u32, place: Place, word: Word) -> bool {
     match place {
         Place::Committing => true,
         Place::Receiving => match word {
@@ -49,18 +51,4 @@ fn fits(generation: u32, place: Place, word: Word) -> bool {
         Place::Erasing => !is_written(word),
         Place::InSlot => !matches!(read_slot(word), Slot::Foreign),
     }
-}
-
-/// Whether the word fits its place, and is erased if a slot before it is: `written` slots stand
-/// before the first erased one.
-pub(crate) fn is_allowed(
-    shape: Shape,
-    generation: u32,
-    written: usize,
-    page: usize,
-    at: usize,
-    word: Word,
-) -> bool {
-    let before = page * (shape.words() - HEADER_WORDS) + at.saturating_sub(HEADER_WORDS);
-    fits(generation, place_of(page, at), word) && (!is_written(word) || before <= written)
 }

@@ -3,25 +3,27 @@
 
 use crate::ee_pairs::low_pair::{LowPair, first_low};
 use crate::ee_pairs::nor::Nor;
+use crate::ee_pairs::runs::fill_run;
 use crate::ee_pairs::wiping::wipe;
 use crate::ee_flash::{Cut, Flash, Shape, Word};
 
 /// A device of words on a flash of numbers: each word is two of them, a value beside its complement.
-///
-/// Source: ours.
 pub struct Pairs<N: Nor> {
     nor: N,
 }
 
 impl<N: Nor> Pairs<N> {
     /// The device of words of a flash that a store wrote, or that is blank. It reads each number once, whether power is on
-    /// or off, and changes nothing.
+    /// or off, and changes nothing. Of a flash that clears first it reads none: there a cut erase leaves any numbers.
     ///
     /// # Errors
     ///
-    /// `LowPair`, with the flash as it was: the first word whose two numbers sum to less than `u64::MAX`. The flash held
-    /// something else; `wipe` makes it blank.
+    /// `LowPair`, with the flash as it was: it doesn't clear first, and this is the first word whose two numbers sum to less
+    /// than `u64::MAX`. The flash held something else; `wipe` makes it blank.
     pub fn of(nor: N) -> Result<Pairs<N>, (N, LowPair)> {
+        if nor.clears_first() {
+            return Ok(Pairs { nor });
+        }
         match first_low(&nor) {
             None => Ok(Pairs { nor }),
             Some(low) => Err((nor, low)),
@@ -41,8 +43,8 @@ impl<N: Nor> Pairs<N> {
         }
     }
 
-    /// The device of words of a flash of which it is known that no word's numbers sum to less than `u64::MAX`, since it was
-    /// looked at before and only such devices wrote to it. Nothing is read.
+    /// The device of words of a flash that clears first, or of which it is known that no word's numbers sum to less than
+    /// `u64::MAX`, since it was looked at before and only such devices wrote to it. Nothing is read.
     pub fn known(nor: N) -> Pairs<N> {
         Pairs { nor }
     }
@@ -55,8 +57,6 @@ impl<N: Nor> Pairs<N> {
 
 /// The word that two numbers are: erased where both are `u64::MAX`, held where the second is the complement of the first, which
 /// is below `u64::MAX`; else torn.
-///
-/// Source: ours.
 pub fn word_of(number: u64, check: u64) -> Word {
     if number == u64::MAX {
         return if check == u64::MAX {
@@ -73,8 +73,6 @@ pub fn word_of(number: u64, check: u64) -> Word {
 }
 
 /// The number that has a one where this one has a zero.
-///
-/// Source: ours.
 pub fn complement_of(number: u64) -> u64 {
     u64::MAX - number
 }
@@ -94,6 +92,11 @@ impl<N: Nor> Flash for Pairs<N> {
 
     fn word(&self, page: usize, at: usize) -> Word {
         word_of(self.nor.read(page, 2 * at), self.nor.read(page, 2 * at + 1))
+    }
+
+    fn run<'a>(&'a self, page: usize, at: usize, room: &'a mut [u64]) -> &'a [u64] {
+        fill_run(&self.nor, page, at, room);
+        room
     }
 
     // The complement of 0 is what an erased place reads as.

@@ -1,5 +1,5 @@
-//! As much of `defmt` 1 as `ee-store-defmt` and `ee-store-embedded` use, by its documentation: what is written is kept as text, and a field of a
-//! text must have an argument of the type that it names.
+//! As much of `defmt` 1 as `ee-store` uses, by its documentation: what is written is kept as text, and a field of a text
+//! must have an argument of the type that it names.
 #![forbid(unsafe_code)]
 
 use std::cell::RefCell;
@@ -22,6 +22,10 @@ pub trait Format {
 impl<T: Format + ?Sized> Format for &T {
     fn format(&self, fmt: Formatter<'_>) {
         (**self).format(fmt);
+    }
+
+    fn named(&self) -> &'static str {
+        (**self).named()
     }
 }
 
@@ -47,7 +51,17 @@ macro_rules! numbers {
         }
     )*};
 }
-numbers!(u16 usize);
+numbers!(u16 u32 usize);
+
+impl Format for str {
+    fn format(&self, fmt: Formatter<'_>) {
+        *fmt.0.borrow_mut() += self;
+    }
+
+    fn named(&self) -> &'static str {
+        "str"
+    }
+}
 
 /// Writes a text with its fields.
 #[macro_export]

@@ -1,4 +1,4 @@
-//! As much of `embedded-storage` 0.3 as `ee-store-embedded` uses, by its documentation.
+//! As much of `embedded-storage` 0.3 as `ee-store` uses, by its documentation.
 #![no_std]
 #![forbid(unsafe_code)]
 

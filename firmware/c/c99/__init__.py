@@ -1,0 +1,1 @@
+"""Makes ee.c of the plain Rust of the store."""

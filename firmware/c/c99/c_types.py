@@ -1,0 +1,221 @@
+"""The types of C that the functions need, and what makes values of them."""
+import re
+
+from .program import is_flat
+from .lexing import Refused
+from .types import NUMBERS, is_ref, known
+
+C_NUMBERS = {"u8": "uint8_t", "u16": "uint16_t", "u32": "uint32_t", "u64": "uint64_t",
+             "usize": "uint32_t"}
+# Structs that are the type of their one field, by its name.
+ALIASES = {"Address": "number", "Pairs": "nor"}
+# Structs that stand in ee.h, with their names there and their fields.
+IN_HEADER = {"Shape": ("struct ee_shape", ["pages", "words"]),
+             "Layout": ("struct ee_layout", ["side", "generation", "fill", "current"]),
+             "Store": ("struct ee_kept", ["flash", "layout"]),
+             "Put": ("ee_value", ["address", "value"])}
+# An enum in one of those is a number of 32 bits, whatever size a compiler gives an enum.
+IN_STORE = {"Side"}
+# Shorter names of types that are made of others.
+SHORT = {
+    "AddressAndMaybeU32": "Said", "MaybeAddressAndMaybeU32": "MaybeSaid",
+    "MaybeMaybeU32": "MaybeSaidValue", "AddressAndU32": "Live", "MaybeAddressAndU32": "MaybeLive",
+    "IndexAndIndex": "IndexPair", "IndexAndIndexOrIndexAndIndex": "FrontResult",
+    "IndexOrIndex": "UsedResult", "UnitOrIndexAndIndex": "BlankResult",
+    "SideAndU32": "LiveSet", "SideAndU32OrScanFault": "LiveSetResult",
+    "LayoutOrScanFault": "ScanResult", "DeviceAndOpenFault": "OpenRefusal",
+    "StoreOrDeviceAndOpenFault": "OpenResult", "DeviceAndCut": "FormatRefusal",
+    "StoreOrDeviceAndCut": "FormatResult", "MaybeU32OrOff": "ReadResult",
+    "WrittenOrWriteFault": "WriteResult", "WrittenOrWriteAllFault": "WriteAllResult",
+    "WrittenOrForgetFault": "ForgetResult", "BoolOrWriteFault": "CleanResult",
+    "BoolOrClearFault": "ClearResult", "StoreAndIndex": "RescuedStore",
+    "DeviceAndRescueFault": "RescueRefusal", "StoreAndIndexOrDeviceAndRescueFault": "RescueResult",
+}
+# Types that are written by hand.
+HAND = {"Device", "Numbers"}
+
+
+def snake(name):
+    return re.sub(r"(?<!^)(?=[A-Z])", "_", name).lower()
+
+
+def spaced(of_type, name):
+    """A declaration of a name."""
+    return f"{of_type}{'' if of_type.endswith('*') else ' '}{name}"
+
+
+def comment_of(doc, indent=""):
+    """Comments of the sources as one of C's, as lines."""
+    lines = [re.sub(r"^//+!? ?", "", x) for x in doc if not x.startswith(("//!", "// Made by"))]
+    if not lines:
+        return []
+    lines = [re.sub(r"^# (.*)", r"\1:", x).replace("*/", "* /") for x in lines]
+    made = [f"{indent}/* {lines[0]}"] + [f"{indent} * {x}".rstrip() for x in lines[1:]]
+    made[-1] += " */"
+    return made
+
+
+class Types:
+    """The C types that are asked for, each with its lines and the types that stand before it."""
+
+    def __init__(self, program):
+        self.program = program
+        self.used, self.makers = {}, {}
+
+    def is_unit(self, it):
+        """Whether a type has one value alone, so that nothing of it is kept."""
+        it = known(it)
+        if is_ref(it):
+            return self.is_unit(it.args[0])
+        if it.name == "tuple":
+            return not it.args
+        item = self.program.item_of(it)
+        return item is not None and item.kind == "struct" and not item.fields
+
+    def is_step(self, it):
+        it = known(it)
+        return it.name == "Result" and all(self.is_unit(a) for a in it.args)
+
+    def is_large(self, it):
+        """Whether a list stands in a type: such a value is made where it stays."""
+        it = known(it)
+        item = self.program.item_of(it)
+        if it.name == "array" or item is None or item.kind != "struct":
+            return it.name == "array"
+        return any(self.is_large(f) for _, f, _ in self.program.field_types(item))
+
+    def word(self, it):
+        """A type within the name of another."""
+        it = known(it)
+        if it.name in NUMBERS or it.name == "bool":
+            return {"usize": "Index", "bool": "Bool"}.get(it.name, it.name.upper())
+        if it.name == "tuple":
+            return "And".join(self.word(a) for a in it.args) or "Unit"
+        if it.name == "Option":
+            return "Maybe" + self.word(it.args[0])
+        if it.name == "Result":
+            return "Or".join(self.word(a) for a in it.args)
+        return it.name
+
+    def name(self, it):
+        """The name of a type in C; the type is asked for."""
+        it = known(it)
+        if it.name in C_NUMBERS:
+            return C_NUMBERS[it.name]
+        if it.name in ("bool", *HAND):
+            return it.name
+        if it.name == "Pairs":
+            return "Numbers"
+        if is_ref(it):
+            return self.pointer(it)
+        if it.name == "tuple" and not it.args:
+            return "void"
+        if it.name == "Option" and is_ref(it.args[0]):
+            return self.name(it.args[0])
+        word = self.word(it)
+        name = "Step" if self.is_step(it) else SHORT.get(word, word)
+        if name not in self.used:
+            self.used[name] = None
+            self.used[name] = self.definition(name, it)
+        return name
+
+    def pointer(self, it):
+        inner = known(it.args[0])
+        if inner.name == "array":
+            return ("const " if it.name == "ref" else "") + self.name(inner.args[0]) + " *"
+        if inner.name == "slice":
+            name = ("ListOf" if it.name == "ref" else "RoomOf") + self.word(inner.args[0])
+            if name not in self.used:
+                item = self.name(inner.args[0])
+                const = "const " if it.name == "ref" else ""
+                lines = [f"typedef struct {name} {{", f"    {const}{item} *items;",
+                         "    uint32_t len;", f"}} {name};"]
+                self.used[name] = (lines, [item])
+            return name
+        return ("const " if it.name == "ref" else "") + self.name(inner) + " *"
+
+    def member(self, it, name, needs):
+        """A member of a struct. What stands in it is added to `needs`."""
+        it = known(it)
+        if it.name == "array":
+            needs.append(self.name(it.args[0]))
+            return f"    {self.name(it.args[0])} {name}[{it.size}];"
+        of_type = self.name(it)
+        if not is_ref(it):
+            needs.append(of_type)
+        return f"    {spaced(of_type, name)};"
+
+    def definition(self, name, it):
+        """The lines of a type, and the types that stand in it."""
+        if name == "Step":
+            return ["/* Whether a step, or a call of several, ended as it should, or was cut. */",
+                    "typedef enum Step {", "    DONE,", "    CUT", "} Step;"], []
+        parts = {"Option": ("some", ["value"]), "Result": ("ok", ["value", "error"]),
+                 "tuple": (None, ["first", "second"])}.get(it.name)
+        if parts is None:
+            return self.item_definition(name, self.program.by_cname[name])
+        if len(it.args) > len(parts[1]):
+            raise Refused(f"a tuple of three: {it}")
+        needs, body = [], [f"    bool {parts[0]};"] if parts[0] else []
+        for inner, field in zip(it.args, parts[1]):
+            if not self.is_unit(inner):
+                body.append(self.member(inner, field, needs))
+        return [f"typedef struct {name} {{", *body, f"}} {name};"], needs
+
+    def item_definition(self, name, item):
+        doc = comment_of(item.doc)
+        if name in IN_HEADER:
+            return self.header_definition(name, item, doc)
+        if name in ALIASES:
+            (_, inner, _), = self.program.field_types(item)
+            return [*doc, f"typedef {self.name(inner)} {name};"], [self.name(inner)]
+        if item.kind == "enum":
+            return self.enum_definition(name, item, doc)
+        needs, lines = [], [*doc, f"typedef struct {name} {{"]
+        for field, inner, field_doc in self.program.field_types(item):
+            if not self.is_unit(inner):
+                lines += comment_of(field_doc, "    ")
+                lines.append(self.member(inner, field, needs))
+        return [*lines, f"}} {name};"], needs
+
+    def header_definition(self, name, item, doc):
+        """A type that ee.h has: its fields there have to be those of the sources."""
+        in_c, wanted = IN_HEADER[name]
+        fields = [(f, t) for f, t, _ in self.program.field_types(item) if not self.is_unit(t)]
+        if [f for f, _ in fields] != wanted:
+            raise Refused(f"{self.program.paths[item.module]}: {name} of ee.h has {wanted}")
+        needs = []
+        for field, inner in fields:
+            self.member(inner, field, needs)
+        return [*doc, f"typedef {in_c} {name};"], needs
+
+    def enum_definition(self, name, item, doc):
+        tag = name if is_flat(item) else name + "Tag"
+        lines = [*doc, f"typedef enum {tag} {{"]
+        if name in IN_STORE:
+            lines = [*doc, f"typedef uint32_t {name};", "enum {"]
+        for place, (variant, _, variant_doc) in enumerate(item.variants):
+            lines += comment_of(variant_doc, "    ")
+            lines.append(f"    {name}_{variant}{',' if place + 1 < len(item.variants) else ''}")
+        lines.append("};" if name in IN_STORE else f"}} {tag};")
+        if is_flat(item):
+            return lines, []
+        members, needs = {}, []
+        for variant, _, _ in item.variants:
+            for field, inner in self.program.variant_fields(item, variant):
+                field = field or snake(variant)
+                known_type, variants = members.setdefault(field, (inner, []))
+                variants.append(variant)
+                if self.name(known_type) != self.name(inner):
+                    raise Refused(f"{self.program.paths[item.module]}: two types of {field}")
+        lines += ["", f"typedef struct {name} {{", f"    {tag} tag;"]
+        for field, (inner, variants) in members.items():
+            lines.append(self.member(inner, field, needs) + f" /* of {' and '.join(variants)} */")
+        return [*lines, f"}} {name};"], needs
+
+    def fields_of(self, name):
+        """The members of a struct of this name, with their types, as its lines have them."""
+        lines = self.used[name][0]
+        lines = lines[lines.index(f"typedef struct {name} {{") + 1:]
+        found = (re.match(r" +(\w.*[ *])(\w+);", line) for line in lines)
+        return {it[2]: it[1].strip() for it in found if it}

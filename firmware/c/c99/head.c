@@ -1,0 +1,21 @@
+/* ee: variables in flash, the library of ee.h as one file of C99.
+ *
+ * Made by firmware/c/to_c of firmware/rust/ee-store, which is made of proved sources, and of parts
+ * that are written by hand: the device over the three functions of an `ee_flash`, and the ten calls
+ * of ee.h. Change none of it here. */
+#include "ee.h"
+
+#include <stdbool.h>
+#include <stddef.h>
+#include <stdint.h>
+
+/* By hand. A function that stands in the places where it is called, at every level of optimisation,
+ * and one that stands in none of them, so that its stack is not theirs. C99 has no words for it. */
+#if defined(__GNUC__)
+#define EE_IN_PLACE static inline __attribute__((always_inline))
+#define EE_APART static __attribute__((noinline))
+#else
+#define EE_IN_PLACE static inline
+#define EE_APART static
+#endif
+

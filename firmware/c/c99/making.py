@@ -1,0 +1,216 @@
+"""Makes ee.c: the types and functions that the calls of ee.h need, and the parts by hand."""
+import re
+from pathlib import Path
+
+from .c_types import HAND, IN_HEADER, comment_of
+from .items import Source
+from .lexing import Refused
+from .program import Module, Program, is_flat
+from .writer import Writer
+
+HERE = Path(__file__).resolve().parent
+WIDTH, FURTHER = 100, " " * 8
+# The sources in the order in which they stand in ee.c.
+ORDER = {
+    "ee_flash": "word shape device",
+    "ee_codec": "address header slot",
+    "ee_pages": "runs side state number table find batch_items batch read marking rescue",
+    "ee_core": "change puts marking cleaning live_cursor copying moving writing changing lookup "
+               "variables store formatting opening first_start rescuing",
+    "ee_pairs": "nor pairs runs low_pair wiping",
+}
+# What the parts by hand call.
+ROOTS = [
+    ("opening", "open"), ("opening", "format"), ("first_start", "start"),
+    ("rescuing", "rescue_uncounted"), ("rescue", "bad_words"), ("low_pair", "first_low"), ("wiping", "wipe"),
+    *[("Store", name) for name in "write write_all forget clear clean_step read next_live slots fill "
+      "generation live_count pending torn_slots".split()],
+    ("Pairs", "word"), ("Pairs", "run"), ("Pairs", "program"), ("state", "is_blank"),
+    ("Shape", "new"), ("Address", "new"),
+]
+# Methods of Rust's own, where a source uses them.
+HELPERS = {
+    "u32_saturating_sub": ["/* By hand. The difference, 0 where it would be less. */",
+                           "static inline uint32_t u32_saturating_sub(uint32_t a, uint32_t b) {",
+                           "    return a > b ? a - b : 0u;", "}"],
+    "u32_wrapping_sub": ["/* By hand. The difference, modulo 2 to the power of 32. */",
+                         "static inline uint32_t u32_wrapping_sub(uint32_t a, uint32_t b) {",
+                         "    return a - b;", "}"],
+    "u16_wrapping_sub": ["/* By hand. The difference, modulo 2 to the power of 16. */",
+                         "static inline uint16_t u16_wrapping_sub(uint16_t a, uint16_t b) {",
+                         "    return (uint16_t)((uint32_t)a - b);", "}"],
+    "u32_least": ["/* By hand. The lesser of two numbers. */",
+                  "static inline uint32_t u32_least(uint32_t a, uint32_t b) {",
+                  "    return a < b ? a : b;", "}"],
+}
+
+
+def sources(folder_of_all):
+    """The sources, read. Each of them has a place."""
+    modules, names = [], set()
+    for folder, ordered in ORDER.items():
+        there = {p.stem for p in (folder_of_all / folder).glob("*.rs")} - {"mod"}
+        if there != set(ordered.split()):
+            odd = ", ".join(sorted(there ^ set(ordered.split())))
+            raise Refused(f"{folder_of_all / folder}: no place for, or no file: {odd}")
+        for stem in ordered.split():
+            path = folder_of_all / folder / f"{stem}.rs"
+            # Two folders have a module `marking`: the second is named by its folder too.
+            name = stem if stem not in names else f"{folder.removeprefix('ee_')}_{stem}"
+            names.add(name)
+            modules.append(Module(folder, name, Source(path.read_text(encoding="utf-8"),
+                                                       path).items(), path))
+    return modules
+
+
+def part(name):
+    """A part that is written by hand."""
+    return (HERE / name).read_text(encoding="utf-8").rstrip("\n").split("\n") + [""]
+
+
+def wrapped(line, further=None):
+    """A line of C in lines that are not too long."""
+    if len(line) <= WIDTH or line.lstrip().startswith(("/*", "* ", "*/")):
+        return [line]
+    further = further or re.match(r" *", line)[0] + FURTHER
+    at = max(line.rfind(", ", 0, WIDTH) + 1, line.rfind(" && ", 0, WIDTH) + 3,
+             line.rfind(" || ", 0, WIDTH) + 3)
+    if at < 4:
+        at = line.rfind("= ", 0, WIDTH) + 1
+    if at < 2:
+        return [line]
+    return [line[:at], *wrapped(further + line[at + 1:], further)]
+
+
+def filled(lines):
+    """Comments that are too long, in lines that are not."""
+    out = []
+    for line in lines:
+        start = re.match(r"( *)(/\* | \* )(?=.*)", line)
+        while start and len(line) > WIDTH:
+            at = line.rfind(" ", 0, WIDTH)
+            out.append(line[:at])
+            line = f"{start[1]} * {line[at + 1:]}"
+        out.append(line)
+    return out
+
+
+class Making:
+    """The text of ee.c."""
+
+    def __init__(self, folder):
+        self.program = Program(sources(folder))
+        self.writer = Writer(self.program)
+        self.types = self.writer.types
+        for owner, name in ROOTS:
+            table = self.program.methods if owner[0].isupper() else self.program.fns
+            if (owner, name) not in table:
+                raise Refused(f"{folder}: no {owner}::{name}")
+            self.writer.request(table[owner, name], {})
+        self.writer.run()
+        self.found = sorted(((fn.order, args), fn, done)
+                            for (fn, args), done in self.writer.done.items())
+
+    def text(self):
+        functions = self.functions()
+        lines = part("head.c") + self.constants() + self.type_lines() + self.makers()
+        for name, helper in HELPERS.items():
+            if any(name in line for line in functions):
+                lines += [*helper, ""]
+        lines += ["/* The functions below, by their sources. */"]
+        lines += [head + ";" for _, _, (head, _, _) in self.found] + [""]
+        lines += part("device.c") + functions + part("calls.c")
+        lines = [more for line in lines for more in wrapped(line)]
+        return "\n".join(filled(lines)).rstrip("\n") + "\n"
+
+    def constants(self):
+        lines = []
+        for name, const in self.writer.consts.items():
+            digits = const.value.text.replace("_", "")
+            width = 64 if const.ty[0] == "u64" else 32
+            value = f"{digits}u" if int(digits, 0) <= 0xffff else f"UINT{width}_C({digits})"
+            lines += [*comment_of(const.doc), f"#define {name} {value}", ""]
+        return lines
+
+    def type_lines(self):
+        """The types, each behind those that stand in it."""
+        lines, stated = [], set()
+
+        def state(name):
+            if name == "Device" and name not in stated:
+                stated.add(name)
+                state("Shape")
+                lines.extend(part("types.c"))
+            if name in stated or name not in self.types.used:
+                return
+            stated.add(name)
+            own, needs = self.types.used[name]
+            for need in needs:
+                state("Device" if need in HAND else need)
+            lines.extend([*own, ""])
+
+        for item in sorted(self.program.types.values(), key=lambda item: item.order):
+            if item.cname in self.types.used:
+                state(item.cname)
+        for name in list(self.types.used):
+            state(name)
+        return lines
+
+    def zero(self, of_type):
+        """What a member has that its variant doesn't use."""
+        item = self.program.by_cname.get(of_type)
+        if of_type == "bool":
+            return "false"
+        if of_type.endswith("*"):
+            return "NULL"
+        if of_type.startswith("uint") or of_type == "Address":
+            return "0u"
+        if is_flat(item):
+            return f"{of_type}_{item.variants[0][0]}"
+        if of_type == "Device":
+            return "{ .power = NULL, .shape = { .pages = 0u, .words = 0u } }"
+        inner = []
+        for field, member in self.members(of_type, item).items():
+            tag = field == "tag"
+            value = f"{of_type}_{item.variants[0][0]}" if tag else self.zero(member)
+            inner.append(f".{field} = {value}")
+        return "{ " + ", ".join(inner) + " }"
+
+    def members(self, of_type, item):
+        """The members of a struct, with their types."""
+        if of_type not in IN_HEADER:
+            return self.types.fields_of(of_type)
+        return {field: self.types.name(inner)
+                for field, inner, _ in self.program.field_types(item)
+                if not self.types.is_unit(inner)}
+
+    def makers(self):
+        """What makes a value of a type with a tag. Each member is said."""
+        lines = ["/* What makes a value of a type with a tag. */"]
+        for name, (in_c, (flag, value), params) in self.types.makers.items():
+            members = self.types.fields_of(in_c)
+            typed = ", ".join(self.declared(members[field], field) for field in params) or "void"
+            fields = [(flag, value)]
+            fields += [(field, field if field in params else self.zero(member))
+                       for field, member in members.items() if field != flag]
+            said = ", ".join(f".{field} = {text}" for field, text in fields)
+            lines += [f"static inline {in_c} {name}({typed}) {{",
+                      f"    return ({in_c}){{ {said} }};", "}", ""]
+        return lines
+
+    @staticmethod
+    def declared(of_type, name):
+        return f"{of_type} {name}"
+
+    def functions(self):
+        lines, module = [], None
+        for _, fn, (head, doc, body) in self.found:
+            if fn.module != module:
+                module = fn.module
+                path = self.program.paths[module]
+                text = path.read_text(encoding="utf-8").split("\n")
+                first = next(line for line in text if line.startswith("//!"))
+                lines += [f"/* ---- {path.parent.name}/{path.name}: {first[4:]} */", ""]
+            lines += [*doc, head + " {", *body, "}", ""]
+        return lines
+

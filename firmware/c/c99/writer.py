@@ -1,0 +1,119 @@
+"""Writes all functions that the roots need: their names, their queue, and what accessors are."""
+import copy
+
+from .c_types import Types, snake
+from .inference import Inference
+from .statements import Statements
+from .text import nodes_of
+from .types import known, referred
+from .values import ASKING
+
+# What the hand-written part has for a device: a field for a method, and functions.
+FIELDS = {("Device", "shape"): "shape", ("Numbers", "shape"): "shape"}
+# Names that C libraries have, or the calls of ee.h.
+RESERVED = {"open", "remove", "read", "write", "close", "start", "format", "mark", "clean"}
+
+
+# The sources' marks of where a function's code stands, in C.
+MARKS = {"always": "EE_IN_PLACE", "never": "EE_APART", None: "static"}
+LOOPS = {"for", "while", "whilelet", "loop"}
+
+
+class Writer:
+    """The functions that were asked for, by function and the types that it is made for."""
+
+    def __init__(self, program):
+        self.program, self.types = program, Types(program)
+        self.names, self.done, self.queue, self.consts = {}, {}, [], {}
+        functions = list(program.fns.values())
+        count = {}
+        for fn in functions:
+            count[fn.name] = count.get(fn.name, 0) + 1
+        methods = {f"{snake(owner)}_{name}": fn for (owner, name), fn in program.methods.items()}
+        for fn in functions:
+            alone = count[fn.name] == 1 and fn.name not in RESERVED and fn.name not in methods
+            self.names[fn] = fn.name if alone else f"{self.stem(fn)}_{fn.name}"
+        self.names.update({fn: name for name, fn in methods.items()})
+
+    def stem(self, fn):
+        return snake(fn.module)
+
+    def request(self, fn, given):
+        """The name of a function in C. It is written too, unless that is done by hand."""
+        args = tuple(self.types.word(t) for t in given.values())
+        name = self.names[fn] + "".join("_" + snake(a) for a in args)
+        if fn.node.body is not None and (fn, args) not in self.done:
+            self.done[fn, args] = None
+            self.queue.append((fn, args, {k: known(t) for k, t in given.items()}, name))
+        return name
+
+    def run(self):
+        """Writes what was asked for, and what that asks for."""
+        while self.queue:
+            fn, args, given, name = self.queue.pop()
+            own = copy.copy(fn)
+            own.node = copy.deepcopy(fn.node)
+            inferred = Inference(self.program, own, given)
+            self.done[fn, args] = FunctionWriter(self, own, inferred, name).write()
+
+    def accessor(self, target):
+        """The field that a method gives and does no more, None for another."""
+        if target.owner and (target.owner.name, target.name) in FIELDS:
+            return FIELDS[target.owner.name, target.name]
+        body = target.node.body
+        plain = target.node.receiver and body and not body.stmts and not target.node.params
+        if plain and body.tail and body.tail.kind == "field" and body.tail.e.kind == "path":
+            return body.tail.name if body.tail.e.path == ["self"] else None
+        return None
+
+    def const(self, const):
+        self.consts[const.name] = const
+        return const.name
+
+    def asks_device(self, target):
+        """Whether a call of this function may ask the device."""
+        return self.accessor(target) is None
+
+
+class FunctionWriter(Statements):
+    """Writes one function."""
+
+    def __init__(self, writer, fn, inferred, name):
+        super().__init__(writer, fn, inferred.ret)
+        self.params, self.name = inferred.params, name
+        self.called = {writer.names[t] for t in self.targets(fn.node.body) if t.owner is None}
+
+    def write(self):
+        """Its head, its comment and its lines."""
+        params = []
+        for local in self.params:
+            if not self.types.is_unit(local.ty):
+                local.cname = self.fresh(local.name)
+                of_type = self.types.name(local.ty)
+                params.append(self.spaced(of_type, local.cname))
+        gives = self.types.name(self.ret)
+        if self.types.is_large(self.ret):
+            params.append(self.spaced(gives + " *", "made"))
+            if self.fresh("made") != "made":
+                self.fail(self.fn.node, "a parameter of this name")
+            gives, tail = "void", self.fn.node.body.tail
+            self.given = tail.local if tail.kind == "path" else None
+        mark = MARKS[self.fn.node.inline or ("always" if self.is_short() else None)]
+        head = f"{mark} {self.spaced(gives, self.name)}({', '.join(params) or 'void'})"
+        self.block(self.fn.node.body, ("discard",) if self.is_void else ("return",))
+        if self.lines[-1:] == ["    return;"]:
+            self.lines.pop()
+        return head, self.comment(self.fn.node.doc, ""), self.unused() + self.lines
+
+    def is_short(self):
+        """Whether it gives an Option, which C passes through memory, and does little for it."""
+        kinds = {node.kind for node in nodes_of(self.fn.node.body)}
+        asks = any(referred(local.ty).name in ASKING for local in self.params)
+        return known(self.ret).name == "Option" and not asks and not kinds & LOOPS
+
+    def unused(self):
+        """Lines for parameters that the function has no use for."""
+        words = self.words_of("\n".join(self.lines))
+        names = [local.cname for local in self.params if local.cname]
+        return [f"    (void){name};" for name in names if name not in words]
+

@@ -1,0 +1,4014 @@
+/* ee: variables in flash, the library of ee.h as one file of C99.
+ *
+ * Made by firmware/c/to_c of firmware/rust/ee-store, which is made of proved sources, and of parts
+ * that are written by hand: the device over the three functions of an `ee_flash`, and the ten calls
+ * of ee.h. Change none of it here. */
+#include "ee.h"
+
+#include <stdbool.h>
+#include <stddef.h>
+#include <stdint.h>
+
+/* By hand. A function that stands in the places where it is called, at every level of optimisation,
+ * and one that stands in none of them, so that its stack is not theirs. C99 has no words for it. */
+#if defined(__GNUC__)
+#define EE_IN_PLACE static inline __attribute__((always_inline))
+#define EE_APART static __attribute__((noinline))
+#else
+#define EE_IN_PLACE static inline
+#define EE_APART static
+#endif
+
+/* How many words a loop over a page asks its flash for at once. */
+#define RUN 16u
+
+/* The words of a page's header, below its slots. */
+#define HEADER_WORDS 4u
+
+/* How many addresses a batch has room for. */
+#define BATCH 28u
+
+/* The mark: what the header words that say active, valid and erasing hold once they are
+ * programmed. */
+#define MARK UINT64_C(0xAAAAAAAAAAAAAAAA)
+
+/* What a receive word is without its generation. */
+#define RECEIVE UINT64_C(0xAAAAAAAA00000000)
+
+/* The greatest generation of a set. */
+#define GREATEST_GENERATION UINT32_C(4294967294)
+
+/* How many words are asked for at once. */
+#define STRETCH 16u
+
+/* What a word of flash holds, as it reads.
+ *
+ * Source: words of 64 bits, some of them unreadable, AN4894; the rest is ours. */
+typedef enum WordTag {
+    /* Nothing was programmed since the page was erased. */
+    Word_Erased,
+    /* A programmed number, which is below `u64::MAX` on every device. */
+    Word_Held,
+    /* An uncorrectable ECC error: the word reads as unreadable. */
+    Word_Torn
+} WordTag;
+
+typedef struct Word {
+    WordTag tag;
+    uint64_t held; /* of Held */
+} Word;
+
+/* How large a device is: the pages of each of its two sets, 1 to 64, and the words of a page, 5 to
+ * 512.
+ *
+ * Source: two sets of as many pages, AN4894; the limits are ours. */
+typedef struct ee_shape Shape;
+
+/* The name of a variable: a number of 1 to 65534. Addresses are ordered by number. */
+typedef uint16_t Address;
+
+/* What a header word says in the place of a mark. */
+typedef enum MarkRead {
+    /* Nothing was programmed yet. */
+    MarkRead_Absent,
+    /* The mark is there. */
+    MarkRead_Present,
+    /* A torn word: a mark was begun. */
+    MarkRead_Broken,
+    /* Another number. */
+    MarkRead_Foreign
+} MarkRead;
+
+/* What a word says in the place of a slot. */
+typedef enum SlotTag {
+    /* Nothing was programmed yet. */
+    Slot_Free,
+    /* A torn word: it holds nothing and can't be programmed again. */
+    Slot_Spoiled,
+    /* The address has the value from here on. */
+    Slot_Element,
+    /* The address has no value from here on. The value is the one forgotten, and means nothing. */
+    Slot_Forgotten,
+    /* A number that spells neither. */
+    Slot_Foreign
+} SlotTag;
+
+typedef struct Slot {
+    SlotTag tag;
+    Address address; /* of Element and Forgotten */
+    uint32_t value; /* of Element and Forgotten */
+} Slot;
+
+/* One of the two sets of pages.
+ *
+ * Source: two sets, AN4894. */
+typedef uint32_t Side;
+enum {
+    /* The pages from 0 on. */
+    Side_First,
+    /* The pages behind those. */
+    Side_Second
+};
+
+/* A word of a page's header that can be programmed. */
+typedef enum MarkTag {
+    /* The set has this generation, 1 to 4294967294, and takes elements. */
+    Mark_Receive,
+    /* The page takes new elements. */
+    Mark_Active,
+    /* The page is full. */
+    Mark_Valid,
+    /* The page's elements were transferred. */
+    Mark_Erasing
+} MarkTag;
+
+typedef struct Mark {
+    MarkTag tag;
+    uint32_t receive; /* of Receive */
+} Mark;
+
+/* The places of a live set, by what may stand in them. */
+typedef enum TablePlace {
+    /* The first page's receive and active words, which commit the set. */
+    TablePlace_Committing,
+    /* The receive word of a further page. */
+    TablePlace_Receiving,
+    /* A further page's active word, and any page's valid word. */
+    TablePlace_Marking,
+    /* Any page's erasing word. */
+    TablePlace_Erasing,
+    /* Any word behind a header. */
+    TablePlace_InSlot
+} TablePlace;
+
+/* Where the live set of a legal image is and how far it is used. */
+typedef struct ee_layout Layout;
+
+/* Why an image is not legal. */
+typedef enum ScanFaultTag {
+    /* Every word of the device is erased. */
+    ScanFault_Unformatted,
+    /* No set is committed. */
+    ScanFault_NoLiveSet,
+    /* Both sets are committed, with equal generations. */
+    ScanFault_TwoLive,
+    /* The first word of the live set, by page and then place, that may not stand there. The page
+     * is its number in the device. */
+    ScanFault_Foreign
+} ScanFaultTag;
+
+typedef struct ScanFault {
+    ScanFaultTag tag;
+    uint32_t page; /* of Foreign */
+    uint32_t at; /* of Foreign */
+} ScanFault;
+
+/* Addresses with their values, up to `BATCH`, in the value itself. While it is filled an address
+ * may
+ * stand in it that has no value. */
+typedef struct Batch {
+    /* The words of elements and forgettings, in the order of their addresses. */
+    uint64_t numbers[BATCH];
+    uint32_t len;
+} Batch;
+
+typedef struct MaybeAddress {
+    bool some;
+    Address value;
+} MaybeAddress;
+
+/* The live addresses of a stretch of addresses, with their values: as many as are found in one look
+ * through the slots. */
+typedef struct LiveBatch {
+    /* By rising address. */
+    Batch found;
+    /* Behind them no address up to this one is live, or none at all. */
+    MaybeAddress through;
+} LiveBatch;
+
+/* A value that an address gets. It is laid out as in C, so that a list of C's can be one of these.
+ * */
+typedef ee_value Put;
+
+/* A change of the map. */
+typedef enum ChangeTag {
+    /* The address has the value from here on. */
+    Change_Put,
+    /* The address has no value from here on. The value is the one forgotten. */
+    Change_Forget
+} ChangeTag;
+
+typedef struct Change {
+    ChangeTag tag;
+    Address address; /* of Put and Forget */
+    uint32_t value; /* of Put and Forget */
+} Change;
+
+/* Goes over the live addresses of a set, by rising address. It looks through the slots once for
+ * each
+ * batch. */
+typedef struct Cursor {
+    LiveBatch batch;
+    /* How many of the batch it gave. */
+    uint32_t given;
+} Cursor;
+
+/* Where the next word goes. A transfer goes on from place to place, so that no word takes a
+ * division. */
+typedef struct CopyingPlace {
+    /* The number of the slot, counted from 0. */
+    uint32_t slot;
+    /* Its page, counted from the device's first. */
+    uint32_t page;
+    /* Its place in the page, behind the header. */
+    uint32_t at;
+} CopyingPlace;
+
+/* How a change was stored. */
+typedef enum Written {
+    /* In a free slot. */
+    Written_Appended,
+    /* No slot was free: in the other set, to which all live addresses were moved. */
+    Written_Moved
+} Written;
+
+/* Why nothing is written, the first cause that applies. All but `Cut` leave the device as it was.
+ * */
+typedef enum WriteFault {
+    /* The device is off. */
+    WriteFault_Off,
+    /* The address has no value, and as many addresses have one as there are slots. */
+    WriteFault_Full,
+    /* Every slot is used, and the generation is the greatest, 4294967294. */
+    WriteFault_Spent,
+    /* Memory ran out, in a store that keeps an index, for an address that has no value. */
+    WriteFault_Memory,
+    /* Power failed in this call. The device is off; the change is held or not, and nothing else
+     * changed for any reader. */
+    WriteFault_Cut
+} WriteFault;
+
+/* Why no value of a list is written, the first cause that applies. All but `Cut` leave the device
+ * as
+ * it was. */
+typedef enum WriteAllFaultTag {
+    /* The device is off. */
+    WriteAllFault_Off,
+    /* An address is listed twice: the first entry, counted from 0, whose address an earlier one
+     * has. */
+    WriteAllFault_Twice,
+    /* More addresses would have a value than there are slots. */
+    WriteAllFault_Full,
+    /* The generation is the greatest, 4294967294; of a list of one, and every slot is used. */
+    WriteAllFault_Spent,
+    /* Memory ran out, in a store that keeps an index, for an address that has no value. */
+    WriteAllFault_Memory,
+    /* Power failed in this call. The device is off; all values of the list are held or none, and
+     * nothing else changed for any reader. */
+    WriteAllFault_Cut
+} WriteAllFaultTag;
+
+typedef struct WriteAllFault {
+    WriteAllFaultTag tag;
+    uint32_t twice; /* of Twice */
+} WriteAllFault;
+
+/* Why nothing is forgotten, the first cause that applies. All but `Cut` leave the device as it
+ * was. */
+typedef enum ForgetFault {
+    /* The device is off. */
+    ForgetFault_Off,
+    /* The address has no value. */
+    ForgetFault_Absent,
+    /* Every slot is used, and the generation is the greatest, 4294967294. */
+    ForgetFault_Spent,
+    /* Power failed in this call. The device is off; the address has its value still or has none,
+     * and nothing else changed for any reader. */
+    ForgetFault_Cut
+} ForgetFault;
+
+/* Why nothing is cleared, the first cause that applies. All but `Cut` leave the device as it was.
+ * */
+typedef enum ClearFault {
+    /* The device is off. */
+    ClearFault_Off,
+    /* A slot is used, and the generation is the greatest, 4294967294. */
+    ClearFault_Spent,
+    /* Power failed in this call. The device is off; each address has its value still, or none has
+     * one. */
+    ClearFault_Cut
+} ClearFault;
+
+/* By hand. The device that the store works on, of words or of numbers. It is on while the pointer
+ * to its flash, which stands in the memory that the caller lends, is not NULL. */
+typedef struct ee_device Device;
+
+/* By hand. The numbers of a device that was on: they are read and programmed in the flash that it
+ * had then. */
+typedef struct Numbers {
+    const Device *device;
+    const ee_flash *flash;
+    Shape shape;
+} Numbers;
+
+/* Variables in a flash device. It keeps in memory where the live set is and how far it is used, and
+ * finds values by a look-up: `Slots` keeps nothing, and reads all else from the flash.
+ *
+ * Source: two sets, of which one takes the writes, AN4894; the rest is ours. */
+typedef struct ee_kept Store;
+
+/* Why a device can't be opened, the first cause that applies. */
+typedef enum OpenFaultTag {
+    /* The image is not legal. Nothing changed. */
+    OpenFault_Scan,
+    /* Power failed in setting a mark. The device is off; its variables are as before. */
+    OpenFault_Cut
+} OpenFaultTag;
+
+typedef struct OpenFault {
+    OpenFaultTag tag;
+    ScanFault scan; /* of Scan */
+} OpenFault;
+
+/* Why a device isn't rescued, the first cause that applies. */
+typedef enum RescueFault {
+    /* No set is begun: in each the mark that commits it is erased. Nothing changed. */
+    RescueFault_NothingBegun,
+    /* The set that would be rescued names the greatest generation, 4294967294. Nothing changed. */
+    RescueFault_Spent,
+    /* Power failed. The device is off. */
+    RescueFault_Cut
+} RescueFault;
+
+/* The place of a word whose two numbers sum to less than `u64::MAX`: no store wrote it. */
+typedef struct LowPair {
+    /* Its page, counted from 0, those of the first set first. */
+    uint32_t page;
+    /* Its place in the page, counted from 0, in words of two numbers. */
+    uint32_t word;
+} LowPair;
+
+typedef struct MaybeShape {
+    bool some;
+    Shape value;
+} MaybeShape;
+
+typedef struct ListOfU64 {
+    const uint64_t *items;
+    uint32_t len;
+} ListOfU64;
+
+typedef struct RoomOfU64 {
+    uint64_t *items;
+    uint32_t len;
+} RoomOfU64;
+
+/* Whether a step, or a call of several, ended as it should, or was cut. */
+typedef enum Step {
+    DONE,
+    CUT
+} Step;
+
+typedef struct Live {
+    Address first;
+    uint32_t second;
+} Live;
+
+typedef struct MaybeLive {
+    bool some;
+    Live value;
+} MaybeLive;
+
+typedef struct MaybeU32 {
+    bool some;
+    uint32_t value;
+} MaybeU32;
+
+typedef struct ReadResult {
+    bool ok;
+    MaybeU32 value;
+} ReadResult;
+
+typedef struct MaybeSaidValue {
+    bool some;
+    MaybeU32 value;
+} MaybeSaidValue;
+
+typedef struct CleanResult {
+    bool ok;
+    bool value;
+    WriteFault error;
+} CleanResult;
+
+typedef struct BoolOrCut {
+    bool ok;
+    bool value;
+} BoolOrCut;
+
+typedef struct MaybeIndex {
+    bool some;
+    uint32_t value;
+} MaybeIndex;
+
+typedef struct ClearResult {
+    bool ok;
+    bool value;
+    ClearFault error;
+} ClearResult;
+
+typedef struct ForgetResult {
+    bool ok;
+    Written value;
+    ForgetFault error;
+} ForgetResult;
+
+typedef struct WrittenOrCut {
+    bool ok;
+    Written value;
+} WrittenOrCut;
+
+typedef struct PutAndBool {
+    Put first;
+    bool second;
+} PutAndBool;
+
+typedef struct ListOfPut {
+    const Put *items;
+    uint32_t len;
+} ListOfPut;
+
+typedef struct IndexOrCut {
+    bool ok;
+    uint32_t value;
+} IndexOrCut;
+
+typedef struct CopyingPlaceOrCut {
+    bool ok;
+    CopyingPlace value;
+} CopyingPlaceOrCut;
+
+typedef struct IndexPair {
+    uint32_t first;
+    uint32_t second;
+} IndexPair;
+
+typedef struct WriteAllResult {
+    bool ok;
+    Written value;
+    WriteAllFault error;
+} WriteAllResult;
+
+typedef struct WriteResult {
+    bool ok;
+    Written value;
+    WriteFault error;
+} WriteResult;
+
+typedef struct MaybeLowPair {
+    bool some;
+    LowPair value;
+} MaybeLowPair;
+
+typedef struct MaybeSide {
+    bool some;
+    Side value;
+} MaybeSide;
+
+typedef struct RescuedStore {
+    Store first;
+    uint32_t second;
+} RescuedStore;
+
+typedef struct RescueRefusal {
+    Device first;
+    RescueFault second;
+} RescueRefusal;
+
+typedef struct RescueResult {
+    bool ok;
+    RescuedStore value;
+    RescueRefusal error;
+} RescueResult;
+
+typedef struct LayoutOrCut {
+    bool ok;
+    Layout value;
+} LayoutOrCut;
+
+typedef struct OpenRefusal {
+    Device first;
+    OpenFault second;
+} OpenRefusal;
+
+typedef struct OpenResult {
+    bool ok;
+    Store value;
+    OpenRefusal error;
+} OpenResult;
+
+typedef struct FormatRefusal {
+    Device first;
+} FormatRefusal;
+
+typedef struct FormatResult {
+    bool ok;
+    Store value;
+    FormatRefusal error;
+} FormatResult;
+
+typedef struct ScanResult {
+    bool ok;
+    Layout value;
+    ScanFault error;
+} ScanResult;
+
+typedef struct LiveSet {
+    Side first;
+    uint32_t second;
+} LiveSet;
+
+typedef struct LiveSetResult {
+    bool ok;
+    LiveSet value;
+    ScanFault error;
+} LiveSetResult;
+
+typedef struct FrontResult {
+    bool ok;
+    IndexPair value;
+    IndexPair error;
+} FrontResult;
+
+typedef struct UsedResult {
+    bool ok;
+    uint32_t value;
+    uint32_t error;
+} UsedResult;
+
+typedef struct BlankResult {
+    bool ok;
+    IndexPair error;
+} BlankResult;
+
+/* What makes a value of a type with a tag. */
+static inline MaybeAddress maybe_address_none(void) {
+    return (MaybeAddress){ .some = false, .value = 0u };
+}
+
+static inline MaybeAddress maybe_address_some(Address value) {
+    return (MaybeAddress){ .some = true, .value = value };
+}
+
+static inline MaybeShape maybe_shape_some(Shape value) {
+    return (MaybeShape){ .some = true, .value = value };
+}
+
+static inline MaybeShape maybe_shape_none(void) {
+    return (MaybeShape){ .some = false, .value = { .pages = 0u, .words = 0u } };
+}
+
+static inline Word word_erased(void) {
+    return (Word){ .tag = Word_Erased, .held = 0u };
+}
+
+static inline Word word_torn(void) {
+    return (Word){ .tag = Word_Torn, .held = 0u };
+}
+
+static inline Word word_held(uint64_t held) {
+    return (Word){ .tag = Word_Held, .held = held };
+}
+
+static inline MaybeLive maybe_live_some(Live value) {
+    return (MaybeLive){ .some = true, .value = value };
+}
+
+static inline MaybeLive maybe_live_none(void) {
+    return (MaybeLive){ .some = false, .value = { .first = 0u, .second = 0u } };
+}
+
+static inline ReadResult read_result_err(void) {
+    return (ReadResult){ .ok = false, .value = { .some = false, .value = 0u } };
+}
+
+static inline ReadResult read_result_ok(MaybeU32 value) {
+    return (ReadResult){ .ok = true, .value = value };
+}
+
+static inline MaybeU32 maybe_u32_none(void) {
+    return (MaybeU32){ .some = false, .value = 0u };
+}
+
+static inline MaybeSaidValue maybe_said_value_some(MaybeU32 value) {
+    return (MaybeSaidValue){ .some = true, .value = value };
+}
+
+static inline MaybeSaidValue maybe_said_value_none(void) {
+    return (MaybeSaidValue){ .some = false, .value = { .some = false, .value = 0u } };
+}
+
+static inline MaybeU32 maybe_u32_some(uint32_t value) {
+    return (MaybeU32){ .some = true, .value = value };
+}
+
+static inline CleanResult clean_result_err(WriteFault error) {
+    return (CleanResult){ .ok = false, .value = false, .error = error };
+}
+
+static inline CleanResult clean_result_ok(bool value) {
+    return (CleanResult){ .ok = true, .value = value, .error = WriteFault_Off };
+}
+
+static inline BoolOrCut bool_or_cut_ok(bool value) {
+    return (BoolOrCut){ .ok = true, .value = value };
+}
+
+static inline BoolOrCut bool_or_cut_err(void) {
+    return (BoolOrCut){ .ok = false, .value = false };
+}
+
+static inline MaybeIndex maybe_index_some(uint32_t value) {
+    return (MaybeIndex){ .some = true, .value = value };
+}
+
+static inline MaybeIndex maybe_index_none(void) {
+    return (MaybeIndex){ .some = false, .value = 0u };
+}
+
+static inline ClearResult clear_result_err(ClearFault error) {
+    return (ClearResult){ .ok = false, .value = false, .error = error };
+}
+
+static inline ClearResult clear_result_ok(bool value) {
+    return (ClearResult){ .ok = true, .value = value, .error = ClearFault_Off };
+}
+
+static inline Mark mark_erasing(void) {
+    return (Mark){ .tag = Mark_Erasing, .receive = 0u };
+}
+
+static inline Mark mark_valid(void) {
+    return (Mark){ .tag = Mark_Valid, .receive = 0u };
+}
+
+static inline Mark mark_active(void) {
+    return (Mark){ .tag = Mark_Active, .receive = 0u };
+}
+
+static inline Mark mark_receive(uint32_t receive) {
+    return (Mark){ .tag = Mark_Receive, .receive = receive };
+}
+
+static inline ForgetResult forget_result_err(ForgetFault error) {
+    return (ForgetResult){ .ok = false, .value = Written_Appended, .error = error };
+}
+
+static inline Change change_forget(Address address, uint32_t value) {
+    return (Change){ .tag = Change_Forget, .address = address, .value = value };
+}
+
+static inline ForgetResult forget_result_ok(Written value) {
+    return (ForgetResult){ .ok = true, .value = value, .error = ForgetFault_Off };
+}
+
+static inline WrittenOrCut written_or_cut_ok(Written value) {
+    return (WrittenOrCut){ .ok = true, .value = value };
+}
+
+static inline WrittenOrCut written_or_cut_err(void) {
+    return (WrittenOrCut){ .ok = false, .value = Written_Appended };
+}
+
+static inline IndexOrCut index_or_cut_err(void) {
+    return (IndexOrCut){ .ok = false, .value = 0u };
+}
+
+static inline IndexOrCut index_or_cut_ok(uint32_t value) {
+    return (IndexOrCut){ .ok = true, .value = value };
+}
+
+static inline Change change_put(Address address, uint32_t value) {
+    return (Change){ .tag = Change_Put, .address = address, .value = value };
+}
+
+static inline CopyingPlaceOrCut copying_place_or_cut_err(void) {
+    return (CopyingPlaceOrCut){ .ok = false, .value = { .slot = 0u, .page = 0u, .at = 0u } };
+}
+
+static inline CopyingPlaceOrCut copying_place_or_cut_ok(CopyingPlace value) {
+    return (CopyingPlaceOrCut){ .ok = true, .value = value };
+}
+
+static inline WriteAllFault write_all_fault_off(void) {
+    return (WriteAllFault){ .tag = WriteAllFault_Off, .twice = 0u };
+}
+
+static inline WriteAllResult write_all_result_err(WriteAllFault error) {
+    return (WriteAllResult){ .ok = false, .value = Written_Appended, .error = error };
+}
+
+static inline WriteAllResult write_all_result_ok(Written value) {
+    return (WriteAllResult){ .ok = true, .value = value, .error = { .tag = WriteAllFault_Off,
+            .twice = 0u } };
+}
+
+static inline WriteAllFault write_all_fault_twice(uint32_t twice) {
+    return (WriteAllFault){ .tag = WriteAllFault_Twice, .twice = twice };
+}
+
+static inline WriteAllFault write_all_fault_full(void) {
+    return (WriteAllFault){ .tag = WriteAllFault_Full, .twice = 0u };
+}
+
+static inline WriteAllFault write_all_fault_spent(void) {
+    return (WriteAllFault){ .tag = WriteAllFault_Spent, .twice = 0u };
+}
+
+static inline WriteAllFault write_all_fault_memory(void) {
+    return (WriteAllFault){ .tag = WriteAllFault_Memory, .twice = 0u };
+}
+
+static inline WriteAllFault write_all_fault_cut(void) {
+    return (WriteAllFault){ .tag = WriteAllFault_Cut, .twice = 0u };
+}
+
+static inline WriteResult write_result_err(WriteFault error) {
+    return (WriteResult){ .ok = false, .value = Written_Appended, .error = error };
+}
+
+static inline WriteResult write_result_ok(Written value) {
+    return (WriteResult){ .ok = true, .value = value, .error = WriteFault_Off };
+}
+
+static inline MaybeLowPair maybe_low_pair_some(LowPair value) {
+    return (MaybeLowPair){ .some = true, .value = value };
+}
+
+static inline MaybeLowPair maybe_low_pair_none(void) {
+    return (MaybeLowPair){ .some = false, .value = { .page = 0u, .word = 0u } };
+}
+
+static inline Slot slot_free(void) {
+    return (Slot){ .tag = Slot_Free, .address = 0u, .value = 0u };
+}
+
+static inline Slot slot_spoiled(void) {
+    return (Slot){ .tag = Slot_Spoiled, .address = 0u, .value = 0u };
+}
+
+static inline Slot slot_element(Address address, uint32_t value) {
+    return (Slot){ .tag = Slot_Element, .address = address, .value = value };
+}
+
+static inline Slot slot_forgotten(Address address, uint32_t value) {
+    return (Slot){ .tag = Slot_Forgotten, .address = address, .value = value };
+}
+
+static inline Slot slot_foreign(void) {
+    return (Slot){ .tag = Slot_Foreign, .address = 0u, .value = 0u };
+}
+
+static inline MaybeSide maybe_side_none(void) {
+    return (MaybeSide){ .some = false, .value = Side_First };
+}
+
+static inline MaybeSide maybe_side_some(Side value) {
+    return (MaybeSide){ .some = true, .value = value };
+}
+
+static inline RescueResult rescue_result_err(RescueRefusal error) {
+    return (RescueResult){ .ok = false, .value = { .first = { .flash = { .power = NULL,
+            .shape = { .pages = 0u, .words = 0u } }, .layout = { .side = Side_First,
+            .generation = 0u, .fill = 0u, .current = 0u } }, .second = 0u }, .error = error };
+}
+
+static inline RescueResult rescue_result_ok(RescuedStore value) {
+    return (RescueResult){ .ok = true, .value = value, .error = { .first = { .power = NULL,
+            .shape = { .pages = 0u, .words = 0u } }, .second = RescueFault_NothingBegun } };
+}
+
+static inline LayoutOrCut layout_or_cut_err(void) {
+    return (LayoutOrCut){ .ok = false, .value = { .side = Side_First, .generation = 0u, .fill = 0u,
+            .current = 0u } };
+}
+
+static inline LayoutOrCut layout_or_cut_ok(Layout value) {
+    return (LayoutOrCut){ .ok = true, .value = value };
+}
+
+static inline OpenResult open_result_ok(Store value) {
+    return (OpenResult){ .ok = true, .value = value, .error = { .first = { .power = NULL,
+            .shape = { .pages = 0u, .words = 0u } }, .second = { .tag = OpenFault_Scan,
+            .scan = { .tag = ScanFault_Unformatted, .page = 0u, .at = 0u } } } };
+}
+
+static inline OpenResult open_result_err(OpenRefusal error) {
+    return (OpenResult){ .ok = false, .value = { .flash = { .power = NULL, .shape = { .pages = 0u,
+            .words = 0u } }, .layout = { .side = Side_First, .generation = 0u, .fill = 0u,
+            .current = 0u } }, .error = error };
+}
+
+static inline OpenFault open_fault_cut(void) {
+    return (OpenFault){ .tag = OpenFault_Cut, .scan = { .tag = ScanFault_Unformatted, .page = 0u,
+            .at = 0u } };
+}
+
+static inline FormatResult format_result_ok(Store value) {
+    return (FormatResult){ .ok = true, .value = value, .error = { .first = { .power = NULL,
+            .shape = { .pages = 0u, .words = 0u } } } };
+}
+
+static inline FormatResult format_result_err(FormatRefusal error) {
+    return (FormatResult){ .ok = false, .value = { .flash = { .power = NULL,
+            .shape = { .pages = 0u, .words = 0u } }, .layout = { .side = Side_First,
+            .generation = 0u, .fill = 0u, .current = 0u } }, .error = error };
+}
+
+static inline OpenFault open_fault_scan(ScanFault scan) {
+    return (OpenFault){ .tag = OpenFault_Scan, .scan = scan };
+}
+
+static inline ScanFault scan_fault_unformatted(void) {
+    return (ScanFault){ .tag = ScanFault_Unformatted, .page = 0u, .at = 0u };
+}
+
+static inline ScanResult scan_result_err(ScanFault error) {
+    return (ScanResult){ .ok = false, .value = { .side = Side_First, .generation = 0u, .fill = 0u,
+            .current = 0u }, .error = error };
+}
+
+static inline ScanFault scan_fault_foreign(uint32_t page, uint32_t at) {
+    return (ScanFault){ .tag = ScanFault_Foreign, .page = page, .at = at };
+}
+
+static inline ScanResult scan_result_ok(Layout value) {
+    return (ScanResult){ .ok = true, .value = value, .error = { .tag = ScanFault_Unformatted,
+            .page = 0u, .at = 0u } };
+}
+
+static inline FrontResult front_result_err(IndexPair error) {
+    return (FrontResult){ .ok = false, .value = { .first = 0u, .second = 0u }, .error = error };
+}
+
+static inline FrontResult front_result_ok(IndexPair value) {
+    return (FrontResult){ .ok = true, .value = value, .error = { .first = 0u, .second = 0u } };
+}
+
+static inline BlankResult blank_result_err(IndexPair error) {
+    return (BlankResult){ .ok = false, .error = error };
+}
+
+static inline BlankResult blank_result_ok(void) {
+    return (BlankResult){ .ok = true, .error = { .first = 0u, .second = 0u } };
+}
+
+static inline UsedResult used_result_err(uint32_t error) {
+    return (UsedResult){ .ok = false, .value = 0u, .error = error };
+}
+
+static inline UsedResult used_result_ok(uint32_t value) {
+    return (UsedResult){ .ok = true, .value = value, .error = 0u };
+}
+
+static inline ScanFault scan_fault_no_live_set(void) {
+    return (ScanFault){ .tag = ScanFault_NoLiveSet, .page = 0u, .at = 0u };
+}
+
+static inline LiveSetResult live_set_result_err(ScanFault error) {
+    return (LiveSetResult){ .ok = false, .value = { .first = Side_First, .second = 0u },
+            .error = error };
+}
+
+static inline LiveSetResult live_set_result_ok(LiveSet value) {
+    return (LiveSetResult){ .ok = true, .value = value, .error = { .tag = ScanFault_Unformatted,
+            .page = 0u, .at = 0u } };
+}
+
+static inline ScanFault scan_fault_two_live(void) {
+    return (ScanFault){ .tag = ScanFault_TwoLive, .page = 0u, .at = 0u };
+}
+
+/* By hand. The difference, 0 where it would be less. */
+static inline uint32_t u32_saturating_sub(uint32_t a, uint32_t b) {
+    return a > b ? a - b : 0u;
+}
+
+/* By hand. The difference, modulo 2 to the power of 32. */
+static inline uint32_t u32_wrapping_sub(uint32_t a, uint32_t b) {
+    return a - b;
+}
+
+/* By hand. The difference, modulo 2 to the power of 16. */
+static inline uint16_t u16_wrapping_sub(uint16_t a, uint16_t b) {
+    return (uint16_t)((uint32_t)a - b);
+}
+
+/* By hand. The lesser of two numbers. */
+static inline uint32_t u32_least(uint32_t a, uint32_t b) {
+    return a < b ? a : b;
+}
+
+/* The functions below, by their sources. */
+static uint64_t word_number(Word self);
+EE_IN_PLACE MaybeShape shape_new(uint32_t pages, uint32_t words);
+static uint32_t shape_slots(Shape self);
+EE_IN_PLACE MaybeAddress address_new(uint16_t number);
+static uint64_t receive_word(uint32_t generation);
+EE_IN_PLACE MaybeU32 read_receive(Word word);
+static MarkRead read_mark(Word word);
+static uint64_t element_word(Address address, uint32_t value);
+static uint64_t forget_word(Address address, uint32_t value);
+static Slot read_slot(Word word);
+static Slot read_held(uint64_t number);
+EE_IN_PLACE ListOfU64 run_from(const Device *flash, uint32_t page, uint32_t at, uint32_t end,
+        uint64_t *room);
+static Side side_other(Side self);
+static uint32_t first_page(const Device *flash, Side side);
+static Word set_word(const Device *flash, Side side, uint32_t page, uint32_t at);
+static Word page_slot(const Device *flash, Side side, uint32_t page, uint32_t slot);
+static MaybeU32 committed(const Device *flash, Side side);
+static bool state_is_blank(const Device *flash, uint32_t page);
+static uint32_t blank_to(const Device *flash, uint32_t page, uint32_t from);
+static bool is_erased(ListOfU64 numbers);
+static uint32_t erased_in(ListOfU64 numbers);
+static bool is_written(Word word);
+static bool is_torn(Word word);
+static bool is_slot(uint64_t number);
+static uint16_t address_in(uint64_t number);
+static bool says_something(uint64_t number);
+static bool gives_value(uint64_t number);
+static TablePlace place_of(uint32_t page, uint32_t at);
+EE_IN_PLACE bool fits(uint32_t generation, TablePlace place, Word word);
+static ScanResult scan(const Device *flash);
+static bool is_unformatted(const Device *flash);
+static LiveSetResult live_set(const Device *flash);
+static FrontResult front_of(const Device *flash, Side side, uint32_t generation);
+static FrontResult front_in(const Device *flash, Side side, uint32_t page, uint32_t used);
+static BlankResult blank_behind(const Device *flash, Side side, uint32_t page);
+static UsedResult front_of_page(const Device *flash, Side side, uint32_t generation, uint32_t page);
+static MaybeIndex foreign_in_header(const Device *flash, Side side, uint32_t generation,
+        uint32_t page);
+EE_APART uint32_t used_to(const Device *flash, uint32_t page);
+static uint32_t slots_in(ListOfU64 numbers);
+static void batch_new(Batch *made);
+EE_IN_PLACE MaybeLive batch_get(const Batch *self, uint32_t place);
+static void batch_take_out(Batch *self);
+EE_IN_PLACE bool batch_note_last(Batch *self, uint64_t number);
+EE_APART bool batch_note(Batch *self, uint64_t number);
+static bool batch_put(Batch *self, uint64_t number);
+static uint32_t batch_place_through(const Batch *self, uint16_t address);
+static bool batch_has(const Batch *self, uint32_t place, uint16_t address);
+static void batch_set(Batch *self, uint32_t place, uint64_t number);
+static void batch_insert(Batch *self, uint32_t place, uint64_t number);
+EE_IN_PLACE MaybeAddress batch_last_if_full(const Batch *self);
+static uint16_t batch_greatest(const Batch *self);
+static void batch_keep_living(Batch *self);
+static uint32_t one_more(uint32_t count);
+static uint32_t place_in(ListOfU64 rising, uint16_t address);
+static void batch_items_put_in(RoomOfU64 list, uint32_t place, uint32_t end, uint64_t number);
+static uint32_t keep(RoomOfU64 numbers, uint32_t count);
+EE_APART void live_batch_new(LiveBatch *made);
+static void next_batch(const Device *flash, const Layout *layout, MaybeAddress after,
+        LiveBatch *batch);
+static uint16_t number_of(MaybeAddress after);
+static void gather(const Device *flash, Side side, uint16_t above, Batch *nearest);
+static void gather_page(const Device *flash, Side side, uint32_t page, uint16_t above,
+        Batch *nearest);
+EE_APART uint32_t note_all(uint16_t above, uint32_t span, ListOfU64 numbers, Batch *nearest);
+static uint32_t note(uint16_t above, uint32_t span, uint64_t number, Batch *nearest);
+static uint32_t span_of(const Batch *nearest, uint16_t above);
+static bool is_within(uint16_t address, uint16_t above, uint32_t span);
+static MaybeU32 latest(const Device *flash, const Layout *layout, Address address);
+static MaybeLive next_live(const Device *flash, const Layout *layout, MaybeAddress after);
+static uint32_t live_count(const Device *flash, const Layout *layout);
+static uint32_t torn_slots(const Device *flash, const Layout *layout);
+static uint32_t torn_through(const Device *flash, Side side, uint32_t page, uint32_t before);
+static MaybeSaidValue said_in_page(const Device *flash, Side side, uint32_t page, uint32_t used,
+        Address address);
+EE_APART uint32_t ending_in(ListOfU64 numbers, Address address);
+EE_IN_PLACE MaybeSaidValue said(uint64_t number);
+static Step marking_mark(Device *flash, uint32_t page, Mark mark);
+static MaybeSide rescued_side(const Device *flash);
+static uint32_t named_generation(const Device *flash, Side side);
+static uint32_t bad_words(const Device *flash);
+static uint32_t bad_in_set(const Device *flash, Side side);
+static uint32_t bad_in_page(const Device *flash, Side side, uint32_t generation, uint32_t written,
+        uint32_t page);
+static bool is_bad(Shape shape, uint32_t generation, uint32_t written, uint32_t page, uint32_t at,
+        Word word);
+static uint32_t written_front(const Device *flash, Side side);
+static uint32_t front_in_page(const Device *flash, Side side, uint32_t page);
+static bool fails_to_commit(uint32_t page, uint32_t at, Word word);
+EE_IN_PLACE MaybeSide only(bool first, bool second);
+static bool has_begun(const Device *flash, Side side);
+static bool is_left_behind(const Device *flash, Side side);
+static PutAndBool change_entry(Change self);
+static uint64_t change_word(Change self);
+static bool has_put(ListOfPut puts, Address address);
+static ListOfPut values_put(ListOfPut puts, bool forgets);
+static MaybeIndex first_twice(ListOfPut puts);
+static uint32_t live_with(const Device *flash, const Layout *layout, ListOfPut puts);
+static Step finish(Device *flash, const Layout *layout);
+static Step mark_live_set(Device *flash, const Layout *layout);
+static Step mark_old_set(Device *flash, const Layout *layout);
+static Step mark_live(Device *flash, const Layout *layout, uint32_t page, Mark kind);
+static Step mark_old(Device *flash, const Layout *layout, uint32_t page);
+static BoolOrCut cleaning_clean(Device *flash, const Layout *layout);
+static Step erase_other(Device *flash, Side side, uint32_t page);
+static MaybeIndex first_pending(const Device *flash, Side side);
+static uint32_t count_pending(const Device *flash, Side side);
+static void cursor_new(const Device *flash, const Layout *layout, Cursor *made);
+static MaybeLive cursor_next(Cursor *self, const Device *flash, const Layout *layout);
+static MaybeLive next_given(const Device *flash, const Layout *layout, LiveBatch *batch,
+        uint32_t *given);
+static IndexOrCut fill_set(Device *flash, const Layout *layout, ListOfPut puts, bool forgets,
+        Cursor *cursor);
+static CopyingPlaceOrCut put_all(Device *flash, const Layout *layout, ListOfPut puts);
+static IndexOrCut copy_others(Device *flash, const Layout *layout, ListOfPut puts,
+        CopyingPlace place, Cursor *cursor);
+static Step copy_one(Device *flash, const Layout *layout, bool passed, CopyingPlace *place,
+        Address address, uint32_t value);
+static Step stage(Device *flash, const Layout *layout, CopyingPlace *place, Change change);
+static Step receive(Device *flash, const Layout *layout, CopyingPlace place);
+static Step copying_put_in(Device *flash, const Layout *layout, CopyingPlace place, Change change);
+static CopyingPlace first_place(const Device *flash, const Layout *layout);
+static void step(const Device *flash, const Layout *layout, CopyingPlace *place);
+static Step transfer(Device *flash, Layout *layout, ListOfPut puts, bool forgets, Cursor *cursor);
+static Step transfer_by_slots(Device *flash, Layout *layout, ListOfPut puts, bool forgets);
+static IndexOrCut move_map(Device *flash, const Layout *layout, ListOfPut puts, bool forgets,
+        Cursor *cursor);
+static Step transfer_nothing(Device *flash, Layout *layout);
+static Step move_nothing(Device *flash, const Layout *layout);
+EE_IN_PLACE Step clear(Device *flash, const Layout *layout);
+EE_IN_PLACE Step open_set(Device *flash, const Layout *layout);
+EE_IN_PLACE Step commit(Device *flash, const Layout *layout);
+EE_IN_PLACE Step append(Device *flash, Layout *layout, Change change);
+EE_IN_PLACE IndexPair free_slot(const Device *flash, const Layout *layout);
+EE_IN_PLACE Step open_page(Device *flash, const Layout *layout, uint32_t page);
+EE_IN_PLACE Step push(Device *flash, const Layout *layout, uint32_t page, uint32_t at,
+        Change change);
+EE_IN_PLACE WrittenOrCut make_change(Device *flash, Layout *layout, Change change);
+EE_IN_PLACE Step prepare(const Device *flash, const Layout *layout, Put put);
+EE_IN_PLACE Step append_change(Device *flash, Layout *layout, Change change);
+static Step move_unindexed(Device *flash, Layout *layout, ListOfPut puts, bool forgets);
+static Step empty(Device *flash, Layout *layout);
+EE_IN_PLACE MaybeU32 slots_value_of(const Device *flash, const Layout *layout, Address address);
+EE_IN_PLACE uint32_t slots_live_count(const Device *flash, const Layout *layout);
+EE_IN_PLACE uint32_t slots_live_with(const Device *flash, const Layout *layout, ListOfPut puts);
+EE_IN_PLACE MaybeLive slots_next_live(const Device *flash, const Layout *layout,
+        MaybeAddress after);
+EE_IN_PLACE Step slots_make_ready(const Device *_flash, const Layout *_layout, Put _put);
+EE_IN_PLACE Step slots_make_room(const Device *_flash, const Layout *_layout, ListOfPut _puts);
+EE_IN_PLACE void slots_find_nothing(void);
+EE_IN_PLACE Step slots_append(Device *flash, Layout *layout, Change change);
+EE_IN_PLACE Step slots_transfer(Device *flash, Layout *layout, ListOfPut puts, bool forgets);
+static Store store_of(Device flash, Layout layout);
+static Store store_with(Device flash, Layout layout);
+static uint32_t store_torn_slots(const Store *self);
+static WriteAllResult store_write_one(Store *self, Put put);
+static WriteAllResult store_write_several(Store *self, ListOfPut puts);
+static bool store_is_full_for_all(const Store *self, ListOfPut puts);
+static bool store_is_spent(const Store *self);
+static bool store_is_last(const Store *self);
+static bool store_is_full_for(const Store *self, Address address);
+static uint32_t store_slots(const Store *self);
+static ReadResult store_read(const Store *self, Address address);
+EE_IN_PLACE WriteResult store_write(Store *self, Address address, uint32_t value);
+static WriteAllResult store_write_all(Store *self, ListOfPut changes);
+static ForgetResult store_forget(Store *self, Address address);
+static ClearResult store_clear(Store *self);
+static CleanResult store_clean_step(Store *self);
+static uint32_t store_pending(const Store *self);
+static uint32_t store_fill(const Store *self);
+static uint32_t store_generation(const Store *self);
+static uint32_t store_live_count(const Store *self);
+static MaybeLive store_next_live(const Store *self, MaybeAddress after);
+static LayoutOrCut write_format(Device *flash);
+static Step erase_all(Device *flash);
+static OpenResult opening_open(Device flash);
+static FormatResult opening_format(Device flash);
+static OpenResult first_start_start(Device flash);
+static bool is_startable(const Device *flash, ScanFault fault);
+static bool holds_none(const Device *flash);
+static bool page_holds(const Device *flash, uint32_t page);
+static OpenResult start_anew(Device flash);
+static RescueResult rescue_uncounted(Device flash);
+static LayoutOrCut rescue_set(Device *flash, Side side, uint32_t generation);
+static Word word_of(uint64_t number, uint64_t check);
+static uint64_t complement_of(uint64_t number);
+static Word pairs_word(const Numbers *self, uint32_t page, uint32_t at);
+static ListOfU64 pairs_run(const Numbers *self, uint32_t page, uint32_t at, RoomOfU64 room);
+static Step pairs_program(Numbers *self, uint32_t page, uint32_t at, uint64_t value);
+static void fill_run(const Numbers *nor, uint32_t page, uint32_t at, RoomOfU64 room);
+static void fill_from_window(ListOfU64 numbers, RoomOfU64 room);
+static void fill_by_reading(const Numbers *nor, uint32_t page, uint32_t at, RoomOfU64 room);
+static uint64_t number_of_pair(uint64_t number, uint64_t check);
+static MaybeLowPair first_low(const Numbers *nor);
+static MaybeIndex first_low_in(const Numbers *nor, uint32_t page);
+static MaybeIndex first_low_from(const Numbers *nor, uint32_t page, uint32_t from, uint32_t count);
+static MaybeIndex low_in_window(ListOfU64 numbers, uint32_t count);
+static MaybeIndex low_read(const Numbers *nor, uint32_t page, uint32_t from, uint32_t count);
+static bool is_low(uint64_t number, uint64_t check);
+static Step wipe(Numbers *nor);
+static bool wiping_is_blank(const Numbers *nor, uint32_t page);
+
+/* ---- By hand: the device over the three functions of an `ee_flash`. */
+
+static bool device_is_on(const Device *device) {
+    return *device->power != NULL;
+}
+
+static void turn_off(const Device *device) {
+    *device->power = NULL;
+}
+
+/* C's flash, while it is on and has this page; else NULL, and the device is off. */
+static const ee_flash *flash_with(const Device *device, uint32_t page) {
+    const ee_flash *const flash = *device->power;
+    if (flash != NULL && page < 2u * flash->pages) {
+        return flash;
+    }
+    turn_off(device);
+    return NULL;
+}
+
+/* Reads a word or a number into `value`. `false` if it can't be read; and where the read itself
+ * failed the device is off from here on. */
+static bool device_found(const Device *device, const ee_flash *flash, uint32_t page, uint32_t at,
+        uint64_t *value) {
+    const uint32_t failed = flash->word(flash->context, page, at, value);
+    if (failed == EE_READ_FAILED) {
+        turn_off(device);
+    }
+    return failed == 0u;
+}
+
+/* A step ended with this number: where it failed the device is off from here on. */
+static Step step_ended(const Device *device, uint32_t failed) {
+    if (failed != 0u) {
+        turn_off(device);
+        return CUT;
+    }
+    return DONE;
+}
+
+/* So many words or numbers of a page from a place on, where C has them in memory; else no items. */
+static ListOfU64 device_seen(const ee_flash *flash, uint32_t page, uint32_t at, uint32_t count) {
+    ListOfU64 seen = { .items = NULL, .len = count };
+    if (flash->words != NULL) {
+        seen.items = flash->words(flash->context, page, at, count);
+    }
+    return seen;
+}
+
+/* A number of a flash of numbers. One that can't be read is taken as 0: no word of a store is 0, so
+ * none is made of it. No read follows one that failed. While the device is on it has the flash that
+ * it had. */
+static uint64_t numbers_read(const Numbers *numbers, uint32_t page, uint32_t at) {
+    const ee_flash *const flash = *numbers->device->power;
+    uint64_t number = 0u;
+    if (flash == NULL || !device_found(numbers->device, flash, page, at, &number)) {
+        return 0u;
+    }
+    return number;
+}
+
+static ListOfU64 numbers_window(const Numbers *numbers, uint32_t page, uint32_t at,
+        uint32_t count) {
+    return device_seen(numbers->flash, page, at, count);
+}
+
+static Step numbers_program(const Numbers *numbers, uint32_t page, uint32_t at, uint64_t number) {
+    const ee_flash *const flash = numbers->flash;
+    return step_ended(numbers->device, flash->program(flash->context, page, at, number));
+}
+
+static Step numbers_erase(const Numbers *numbers, uint32_t page) {
+    const Device *const device = numbers->device;
+    const ee_flash *const flash = flash_with(device, page);
+    if (flash == NULL) {
+        return CUT;
+    }
+    return step_ended(device, flash->erase(flash->context, page));
+}
+
+/* The numbers of a device with this flash. */
+static Numbers numbers_of(const Device *device, const ee_flash *flash) {
+    return (Numbers){ .device = device, .flash = flash, .shape = device->shape };
+}
+
+/* What a word holds. One that reads as all ones is erased, and one that can't be read is torn.
+ *
+ * Slots and pages are looked through within the shape. Only a move goes on from page to page, as
+ * far
+ * as words say that change from look to look, and it asks for the first word of each page first. */
+static Word device_word(const Device *device, uint32_t page, uint32_t at) {
+    const ee_flash *const flash = *device->power;
+    if (flash == NULL || (at == 0u && page >= 2u * flash->pages)) {
+        turn_off(device);
+        return word_torn();
+    }
+    if (flash->pairs != 0u) {
+        const Numbers numbers = numbers_of(device, flash);
+        return pairs_word(&numbers, page, at);
+    }
+    uint64_t number = 0u;
+    if (!device_found(device, flash, page, at, &number)) {
+        return word_torn();
+    }
+    if (number == UINT64_MAX) {
+        return word_erased();
+    }
+    return word_held(number);
+}
+
+/* Asks for each word of a run. One that can't be read is 0. No read follows one that failed, and
+ * what the room has then counts for nothing. */
+static void device_fill(const Device *device, const ee_flash *flash, uint32_t page, uint32_t at,
+        RoomOfU64 room) {
+    for (uint32_t place = 0u; place < room.len; place++) {
+        const uint32_t failed = flash->word(flash->context, page, at + place, &room.items[place]);
+        if (failed != 0u) {
+            room.items[place] = 0u;
+        }
+        if (failed == EE_READ_FAILED) {
+            turn_off(device);
+            return;
+        }
+    }
+}
+
+/* The numbers of the words from a place on, as many as there is room for: all ones of an erased
+ * word, 0 of a torn one. They stand in the room, or where C has them. It asks for pages as
+ * `device_word` does. */
+static ListOfU64 device_run(const Device *device, uint32_t page, uint32_t at, RoomOfU64 room) {
+    const ListOfU64 filled = { .items = room.items, .len = room.len };
+    const ee_flash *const flash = *device->power;
+    if (flash == NULL || (at == 0u && page >= 2u * flash->pages)) {
+        turn_off(device);
+        return filled;
+    }
+    if (flash->pairs != 0u) {
+        const Numbers numbers = numbers_of(device, flash);
+        return pairs_run(&numbers, page, at, room);
+    }
+    const ListOfU64 seen = device_seen(flash, page, at, room.len);
+    if (seen.items != NULL) {
+        return seen;
+    }
+    device_fill(device, flash, page, at, room);
+    return filled;
+}
+
+static Step device_program(const Device *device, uint32_t page, uint32_t at, uint64_t value) {
+    const ee_flash *const flash = flash_with(device, page);
+    if (flash == NULL) {
+        return CUT;
+    }
+    if (flash->pairs != 0u) {
+        Numbers numbers = numbers_of(device, flash);
+        return pairs_program(&numbers, page, at, value);
+    }
+    return step_ended(device, flash->program(flash->context, page, at, value));
+}
+
+/* A page is erased the same whatever it has. */
+static Step device_erase(const Device *device, uint32_t page) {
+    const ee_flash *const flash = flash_with(device, page);
+    if (flash == NULL) {
+        return CUT;
+    }
+    return step_ended(device, flash->erase(flash->context, page));
+}
+
+/* ---- ee_flash/word.rs: A word of flash as it reads: erased, held or torn. */
+
+/* Its number in a run: `u64::MAX` where it is erased, and 0 where it is torn. */
+static uint64_t word_number(Word self) {
+    switch (self.tag) {
+    case Word_Erased:
+        return UINT64_MAX;
+    case Word_Held:
+        return self.held;
+    case Word_Torn:
+    default:
+        return 0u;
+    }
+}
+
+/* ---- ee_flash/shape.rs: How large a device is: two sets of as many pages, and each page a header
+ * and slots. */
+
+/* The shape of this many pages in each set and words in each page, `None` outside the limits. */
+EE_IN_PLACE MaybeShape shape_new(uint32_t pages, uint32_t words) {
+    if (pages >= 1u && pages <= 64u && words >= 5u && words <= 512u) {
+        return maybe_shape_some((Shape){ .pages = pages, .words = words });
+    }
+    return maybe_shape_none();
+}
+
+/* The slots of a set, 1 to 32512: the words of its pages, less the four of each page's header. */
+static uint32_t shape_slots(Shape self) {
+    return self.pages * (self.words - HEADER_WORDS);
+}
+
+/* ---- ee_codec/address.rs: The name of a variable: any number of 16 bits but the least and the
+ * greatest. */
+
+/* The address of this number, or `None` if it is 0 or 65535. */
+EE_IN_PLACE MaybeAddress address_new(uint16_t number) {
+    if (number == 0u || number == UINT16_MAX) {
+        return maybe_address_none();
+    }
+    return maybe_address_some(number);
+}
+
+/* ---- ee_codec/header.rs: The words of a page's header: the receive word, which names a
+ * generation, and the mark. */
+
+/* The word that opens a set of this generation for taking elements. */
+static uint64_t receive_word(uint32_t generation) {
+    return RECEIVE + (uint64_t)generation;
+}
+
+/* Reads a word in the place of a receive word: the inverse of `receive_word`, and nothing else
+ * reads. */
+EE_IN_PLACE MaybeU32 read_receive(Word word) {
+    if (word.tag == Word_Held && word.held > RECEIVE &&
+            word.held < RECEIVE + UINT64_C(0xFFFFFFFF)) {
+        const uint64_t number = word.held;
+        return maybe_u32_some((uint32_t)(number - RECEIVE));
+    }
+    return maybe_u32_none();
+}
+
+/* Reads a word in the place of a mark: only `MARK` is one. */
+static MarkRead read_mark(Word word) {
+    if (word.tag == Word_Erased) {
+        return MarkRead_Absent;
+    }
+    if (word.tag == Word_Torn) {
+        return MarkRead_Broken;
+    }
+    if (word.tag == Word_Held && word.held == MARK) {
+        return MarkRead_Present;
+    }
+    return MarkRead_Foreign;
+}
+
+/* ---- ee_codec/slot.rs: The words of a slot: an address has a value from there on, or has none. */
+
+/* The word that says that `address` has `value`: the value in the high 32 bits, zero in the middle
+ * 16, the address in the low 16. Ours, as is every word of this crate. */
+static uint64_t element_word(Address address, uint32_t value) {
+    return ((uint64_t)value << 32u) | (uint64_t)address;
+}
+
+/* The word that says that `address` has no value. It keeps the `value` forgotten in its high 32
+ * bits, and has 1 in the middle 16. */
+static uint64_t forget_word(Address address, uint32_t value) {
+    return element_word(address, value) + (UINT64_C(1) << 16u);
+}
+
+/* Reads a word in the place of a slot: the inverse of `element_word` and `forget_word`, and
+ * nothing else reads as an element or a forgetting. */
+static Slot read_slot(Word word) {
+    switch (word.tag) {
+    case Word_Erased:
+        return slot_free();
+    case Word_Torn:
+        return slot_spoiled();
+    case Word_Held:
+    default: {
+        const uint64_t number = word.held;
+        return read_held(number);
+    }
+    }
+}
+
+/* Reads a number in the place of a slot. */
+static Slot read_held(uint64_t number) {
+    const uint32_t value = (uint32_t)(number >> 32u);
+    const uint64_t kind = (number >> 16u) & 0xFFFFu;
+    const uint16_t address = (uint16_t)(number & 0xFFFFu);
+    const MaybeAddress maybe_new = address_new(address);
+    if (maybe_new.some && kind == 0u) {
+        const Address address_2 = maybe_new.value;
+        return slot_element(address_2, value);
+    }
+    if (maybe_new.some && kind == 1u) {
+        const Address address_2 = maybe_new.value;
+        return slot_forgotten(address_2, value);
+    }
+    return slot_foreign();
+}
+
+/* ---- ee_pages/runs.rs: The words of a page, several at a time. */
+
+/* The numbers of the words of a page from a place on: up to `RUN` of them, all before `end`, and at
+ * least one. */
+EE_IN_PLACE ListOfU64 run_from(const Device *flash, uint32_t page, uint32_t at, uint32_t end,
+        uint64_t *room) {
+    const uint32_t count = u32_least(RUN, end - at);
+    return device_run(flash, page, at, (RoomOfU64){ .items = room, .len = count });
+}
+
+/* ---- ee_pages/side.rs: The two sets of a device, and the places of their pages, words and slots.
+ * */
+
+/* The other of the two sets. */
+static Side side_other(Side self) {
+    if (self == Side_First) {
+        return Side_Second;
+    }
+    return Side_First;
+}
+
+/* The number, in the device, of a set's first page. */
+static uint32_t first_page(const Device *flash, Side side) {
+    if (side == Side_First) {
+        return 0u;
+    }
+    return flash->shape.pages;
+}
+
+/* The word at a place of a page of a set. */
+static Word set_word(const Device *flash, Side side, uint32_t page, uint32_t at) {
+    return device_word(flash, first_page(flash, side) + page, at);
+}
+
+/* The slot of this number of a page of a set, both counted from 0. */
+static Word page_slot(const Device *flash, Side side, uint32_t page, uint32_t slot) {
+    return set_word(flash, side, page, HEADER_WORDS + slot);
+}
+
+/* The generation with which a set is committed. */
+static MaybeU32 committed(const Device *flash, Side side) {
+    const MarkRead mark_read = read_mark(set_word(flash, side, 0u, 1u));
+    if (mark_read == MarkRead_Present) {
+        return read_receive(set_word(flash, side, 0u, 0u));
+    }
+    return maybe_u32_none();
+}
+
+/* ---- ee_pages/state.rs: What a page's header says: the last word of it that is written names the
+ * state. */
+
+/* Whether every word of a page is erased. Pages are numbered as for `state_of`. */
+static bool state_is_blank(const Device *flash, uint32_t page) {
+    /* Asked first, since it is written in most pages that aren't blank. */
+    if (is_written(device_word(flash, page, 0u))) {
+        return false;
+    }
+    return blank_to(flash, page, 0u) == flash->shape.words;
+}
+
+/* The place, from one on, of a page's first word that is written; as many as it has words where
+ * none
+ * is. */
+static uint32_t blank_to(const Device *flash, uint32_t page, uint32_t from) {
+    const uint32_t words = flash->shape.words;
+    uint64_t room[RUN];
+    for (uint32_t at = 0u; at < RUN; at++) {
+        room[at] = 1u;
+    }
+    uint32_t at = from;
+    while (at < words) {
+        const ListOfU64 run = run_from(flash, page, at, words, room);
+        /* Asked first, since most runs are, and it is a shorter loop than one that counts. */
+        if (!is_erased(run)) {
+            return at + erased_in(run);
+        }
+        at += run.len;
+    }
+    return words;
+}
+
+/* Whether all numbers are all ones. */
+static bool is_erased(ListOfU64 numbers) {
+    uint64_t all = UINT64_MAX;
+    for (uint32_t at = 0u; at < numbers.len; at++) {
+        const uint64_t *const number = &numbers.items[at];
+        all &= *number;
+    }
+    return all == UINT64_MAX;
+}
+
+/* How many numbers, from the first on, are all ones. */
+static uint32_t erased_in(ListOfU64 numbers) {
+    for (uint32_t place = 0u; place < numbers.len; place++) {
+        const uint64_t *const number = &numbers.items[place];
+        if (*number != UINT64_MAX) {
+            return place;
+        }
+    }
+    return numbers.len;
+}
+
+/* Whether something was programmed into the word, whole or torn. */
+static bool is_written(Word word) {
+    return word.tag != Word_Erased;
+}
+
+/* Whether a program of the word, or an erase of its page, was cut. */
+static bool is_torn(Word word) {
+    return word.tag == Word_Torn;
+}
+
+/* ---- ee_pages/number.rs: What the number of a word says in the place of a slot. */
+
+/* Whether a number is that of an element or a forgetting. */
+static bool is_slot(uint64_t number) {
+    /* One comparison for an address that is neither 0 nor 65535, since 0 wraps. */
+    return u16_wrapping_sub(address_in(number), 1u) < (uint16_t)((uint32_t)UINT16_MAX - 1u) &&
+            says_something(number);
+}
+
+/* The address in the number of an element or a forgetting. */
+static uint16_t address_in(uint64_t number) {
+    return (uint16_t)(number & 0xFFFFu);
+}
+
+/* Whether a number with an address is that of an element or a forgetting. */
+static bool says_something(uint64_t number) {
+    return (((uint32_t)number >> 16u) & 0xFFFFu) < 2u;
+}
+
+/* Whether the number of an element or a forgetting gives its address a value. */
+static bool gives_value(uint64_t number) {
+    return (((uint32_t)number >> 16u) & 0xFFFFu) == 0u;
+}
+
+/* ---- ee_pages/table.rs: Which word may stand in which place of a live set: what makes an image
+ * legal. */
+
+/* The place of a word of a set. */
+static TablePlace place_of(uint32_t page, uint32_t at) {
+    if (at > 3u) {
+        return TablePlace_InSlot;
+    }
+    if (at == 3u) {
+        return TablePlace_Erasing;
+    }
+    if (at == 2u) {
+        return TablePlace_Marking;
+    }
+    if (page == 0u) {
+        return TablePlace_Committing;
+    }
+    if (at == 1u) {
+        return TablePlace_Marking;
+    }
+    return TablePlace_Receiving;
+}
+
+/* Whether the word may stand in the place of a live set of this generation. It stands in each of
+ * its
+ * callers, so that an opening has the same code in firmware whether bad words are counted or not.
+ * */
+EE_IN_PLACE bool fits(uint32_t generation, TablePlace place, Word word) {
+    switch (place) {
+    case TablePlace_Committing:
+        return true;
+    case TablePlace_Receiving: {
+        if (word.tag == Word_Held) {
+            const uint64_t number = word.held;
+            return number == receive_word(generation);
+        }
+        return true;
+    }
+    case TablePlace_Marking: {
+        const MarkRead mark_read = read_mark(word);
+        return mark_read != MarkRead_Foreign;
+    }
+    case TablePlace_Erasing:
+        return !is_written(word);
+    case TablePlace_InSlot:
+    default: {
+        const Slot slot = read_slot(word);
+        return slot.tag != Slot_Foreign;
+    }
+    }
+}
+
+/* ---- ee_pages/find.rs: The scan: where the live set of a legal image is and how far it is used,
+ * or why an image isn't legal. */
+
+/* Finds the live set of a legal image. It reads each word of the live set at most twice, and behind
+ * each torn slot once more the words that stood in one run with it, up to 15.
+ *
+ * Source: one of two sets takes the writes, AN4894; the rest is ours.
+ *
+ * Errors:
+ *
+ * The first `ScanFault` that applies, exactly where the image is not legal. */
+static ScanResult scan(const Device *flash) {
+    if (is_unformatted(flash)) {
+        return scan_result_err(scan_fault_unformatted());
+    }
+    const LiveSetResult live_set_result = live_set(flash);
+    if (!live_set_result.ok) {
+        return scan_result_err(live_set_result.error);
+    }
+    const LiveSet side_and_generation = live_set_result.value;
+    const Side side = side_and_generation.first;
+    const uint32_t generation = side_and_generation.second;
+    const uint32_t start = first_page(flash, side);
+    const FrontResult front_of_result = front_of(flash, side, generation);
+    if (!front_of_result.ok) {
+        const uint32_t page = front_of_result.error.first;
+        const uint32_t at = front_of_result.error.second;
+        return scan_result_err(scan_fault_foreign(start + page, at));
+    }
+    const uint32_t fill = front_of_result.value.first;
+    const uint32_t page = front_of_result.value.second;
+    return scan_result_ok((Layout){ .side = side, .generation = generation, .fill = fill,
+            .current = start + page });
+}
+
+/* Whether every word of the device is erased. */
+static bool is_unformatted(const Device *flash) {
+    for (uint32_t page = 0u, end = 2u * flash->shape.pages; page < end; page++) {
+        if (!state_is_blank(flash, page)) {
+            return false;
+        }
+    }
+    return true;
+}
+
+/* The live set and its generation. */
+static LiveSetResult live_set(const Device *flash) {
+    const MaybeU32 maybe_committed = committed(flash, Side_First);
+    const MaybeU32 maybe_committed_2 = committed(flash, Side_Second);
+    if (!maybe_committed.some && !maybe_committed_2.some) {
+        return live_set_result_err(scan_fault_no_live_set());
+    }
+    if (maybe_committed.some && !maybe_committed_2.some) {
+        const uint32_t first = maybe_committed.value;
+        return live_set_result_ok((LiveSet){ .first = Side_First, .second = first });
+    }
+    if (!maybe_committed.some && maybe_committed_2.some) {
+        const uint32_t second = maybe_committed_2.value;
+        return live_set_result_ok((LiveSet){ .first = Side_Second, .second = second });
+    }
+    const uint32_t first = maybe_committed.value;
+    const uint32_t second = maybe_committed_2.value;
+    if (first == second) {
+        return live_set_result_err(scan_fault_two_live());
+    }
+    if (second < first) {
+        return live_set_result_ok((LiveSet){ .first = Side_First, .second = first });
+    }
+    return live_set_result_ok((LiveSet){ .first = Side_Second, .second = second });
+}
+
+/* How many slots of a live set are used, and the page of the last of them, the first page where
+ * none
+ * is; or the first word, by page and then place, that may not stand there. Pages are counted from
+ * the
+ * set's first. */
+static FrontResult front_of(const Device *flash, Side side, uint32_t generation) {
+    const Shape shape = flash->shape;
+    for (uint32_t page = 0u, end = shape.pages; page < end; page++) {
+        const UsedResult front_of_page_result = front_of_page(flash, side, generation, page);
+        if (!front_of_page_result.ok) {
+            const uint32_t at = front_of_page_result.error;
+            return front_result_err((IndexPair){ .first = page, .second = at });
+        }
+        const uint32_t used = front_of_page_result.value;
+        if (used < shape.words - HEADER_WORDS) {
+            return front_in(flash, side, page, used);
+        }
+    }
+    return front_result_ok((IndexPair){ .first = shape_slots(shape), .second = shape.pages - 1u });
+}
+
+/* The same, where the first slot that isn't used is this one of a page: behind it all has to be
+ * erased. */
+static FrontResult front_in(const Device *flash, Side side, uint32_t page, uint32_t used) {
+    const BlankResult blank_behind_result = blank_behind(flash, side, page);
+    if (!blank_behind_result.ok) {
+        return front_result_err(blank_behind_result.error);
+    }
+    const uint32_t slots = flash->shape.words - HEADER_WORDS;
+    uint32_t last;
+    if (used == 0u) {
+        last = u32_saturating_sub(page, 1u);
+    } else {
+        last = page;
+    }
+    return front_result_ok((IndexPair){ .first = page * slots + used, .second = last });
+}
+
+/* That the pages of a set behind this one are blank, or their first word, by page and then place,
+ * that
+ * is written. */
+static BlankResult blank_behind(const Device *flash, Side side, uint32_t page) {
+    const Shape shape = flash->shape;
+    const uint32_t first = first_page(flash, side);
+    for (uint32_t behind = page + 1u, end = shape.pages; behind < end; behind++) {
+        const uint32_t at = blank_to(flash, first + behind, 0u);
+        if (at < shape.words) {
+            return blank_result_err((IndexPair){ .first = behind, .second = at });
+        }
+    }
+    return blank_result_ok();
+}
+
+/* How many slots of a page of a live set are used, where all before them are; or the first word of
+ * the
+ * page that may not stand there. */
+static UsedResult front_of_page(const Device *flash, Side side, uint32_t generation,
+        uint32_t page) {
+    const MaybeIndex maybe_at = foreign_in_header(flash, side, generation, page);
+    if (maybe_at.some) {
+        return used_result_err(maybe_at.value);
+    }
+    const uint32_t here = first_page(flash, side) + page;
+    const uint32_t end = used_to(flash, here);
+    /* Behind the slots that are used all have to be erased, the next one first of all. */
+    const uint32_t written = blank_to(flash, here, end);
+    if (written < flash->shape.words) {
+        return used_result_err(written);
+    }
+    return used_result_ok(end - HEADER_WORDS);
+}
+
+/* The first word of the header of a page of a live set that doesn't fit its place. */
+static MaybeIndex foreign_in_header(const Device *flash, Side side, uint32_t generation,
+        uint32_t page) {
+    for (uint32_t at = 0u; at < HEADER_WORDS; at++) {
+        if (!fits(generation, place_of(page, at), set_word(flash, side, page, at))) {
+            return maybe_index_some(at);
+        }
+    }
+    return maybe_index_none();
+}
+
+/* The place of a page's first slot that is neither torn nor has an element or a forgetting; as
+ * many as
+ * the page has words where each is or has. It stays out of the opening, whose stack is deep
+ * without it. */
+EE_APART uint32_t used_to(const Device *flash, uint32_t page) {
+    const uint32_t words = flash->shape.words;
+    uint64_t room[RUN];
+    for (uint32_t at = 0u; at < RUN; at++) {
+        room[at] = 1u;
+    }
+    uint32_t at = HEADER_WORDS;
+    while (at < words) {
+        const ListOfU64 run = run_from(flash, page, at, words, room);
+        const uint32_t slots = slots_in(run);
+        const bool all = slots == run.len;
+        at += slots;
+        if (!all) {
+            /* A torn word is 0 in a run, as one that holds 0 is. */
+            if (!is_torn(device_word(flash, page, at))) {
+                return at;
+            }
+            at += 1u;
+        }
+    }
+    return words;
+}
+
+/* How many numbers, from the first on, are each of an element or a forgetting. */
+static uint32_t slots_in(ListOfU64 numbers) {
+    for (uint32_t place = 0u; place < numbers.len; place++) {
+        const uint64_t *const number = &numbers.items[place];
+        if (!is_slot(*number)) {
+            return place;
+        }
+    }
+    return numbers.len;
+}
+
+/* ---- ee_pages/batch_items.rs: The room of a batch: up to `BATCH` addresses with their values,
+ * and while it is filled some with none. */
+
+/* An empty batch. */
+static void batch_new(Batch *made) {
+    /* Any number of an address serves where there is none yet. */
+    for (uint32_t at = 0u; at < BATCH; at++) {
+        made->numbers[at] = 1u;
+    }
+    made->len = 0u;
+}
+
+/* The address at this place, counted from 0, with its value. `None` behind the last. */
+EE_IN_PLACE MaybeLive batch_get(const Batch *self, uint32_t place) {
+    if (place >= self->len) {
+        return maybe_live_none();
+    }
+    const uint64_t number = self->numbers[place];
+    const MaybeAddress maybe_address = address_new(address_in(number));
+    if (!maybe_address.some) {
+        return maybe_live_none();
+    }
+    const Address address = maybe_address.value;
+    return maybe_live_some((Live){ .first = address, .second = (uint32_t)(number >> 32u) });
+}
+
+/* Takes all addresses out. */
+static void batch_take_out(Batch *self) {
+    self->len = 0u;
+}
+
+/* Notes what an element or a forgetting says of the last address, if it is of that. It is asked
+ * first,
+ * since an address that changes often has most of the slots. */
+EE_IN_PLACE bool batch_note_last(Batch *self, uint64_t number) {
+    const uint32_t len = self->len;
+    if (len == 0u || !says_something(number) || !batch_has(self, len - 1u, address_in(number))) {
+        return false;
+    }
+    batch_set(self, len - 1u, number);
+    return true;
+}
+
+/* Notes what a number with an address says of it, over what was noted of it, if it is that of an
+ * element or a forgetting. Where there is no room the last address falls out. Says whether there
+ * may
+ * be another last address, or one more, than before. */
+EE_APART bool batch_note(Batch *self, uint64_t number) {
+    return says_something(number) && batch_put(self, number);
+}
+
+/* The same for an element or a forgetting. */
+static bool batch_put(Batch *self, uint64_t number) {
+    const uint16_t address = address_in(number);
+    const uint32_t through = batch_place_through(self, address);
+    if (through > 0u && batch_has(self, through - 1u, address)) {
+        batch_set(self, through - 1u, number);
+        return false;
+    }
+    if (through < BATCH) {
+        batch_insert(self, through, number);
+    }
+    return true;
+}
+
+/* How many of the addresses, which rise, are no greater than this one. */
+static uint32_t batch_place_through(const Batch *self, uint16_t address) {
+    return place_in((ListOfU64){ .items = self->numbers, .len = self->len }, address);
+}
+
+/* Whether this address stands at this place. */
+static bool batch_has(const Batch *self, uint32_t place, uint16_t address) {
+    return place < self->len && address_in(self->numbers[place]) == address;
+}
+
+/* Notes of the address at this place what a number says of it. */
+static void batch_set(Batch *self, uint32_t place, uint64_t number) {
+    self->numbers[place] = number;
+}
+
+/* Puts a number in at this place. Where there is no room the last one falls out. */
+static void batch_insert(Batch *self, uint32_t place, uint64_t number) {
+    const uint32_t end = one_more(self->len);
+    batch_items_put_in((RoomOfU64){ .items = self->numbers, .len = BATCH }, place, end, number);
+    self->len = end;
+}
+
+/* The last address, where there is no room for one more. */
+EE_IN_PLACE MaybeAddress batch_last_if_full(const Batch *self) {
+    if (self->len < BATCH) {
+        return maybe_address_none();
+    }
+    return address_new(address_in(self->numbers[BATCH - 1u]));
+}
+
+/* The greatest address that has a place in it: the last one, where there is no room for one more.
+ * */
+static uint16_t batch_greatest(const Batch *self) {
+    if (self->len < BATCH) {
+        return (uint16_t)((uint32_t)UINT16_MAX - 1u);
+    }
+    return address_in(self->numbers[BATCH - 1u]);
+}
+
+/* Keeps those that have a value. */
+static void batch_keep_living(Batch *self) {
+    self->len = keep((RoomOfU64){ .items = self->numbers, .len = BATCH }, self->len);
+}
+
+/* One more, up to the room of a batch. */
+static uint32_t one_more(uint32_t count) {
+    if (count < BATCH) {
+        return count + 1u;
+    }
+    return BATCH;
+}
+
+/* How many of these addresses, which rise, are no greater than this one. It looks from the last
+ * down,
+ * since most addresses are above all. */
+static uint32_t place_in(ListOfU64 rising, uint16_t address) {
+    uint32_t place = rising.len;
+    while (place > 0u && address < address_in(rising.items[place - 1u])) {
+        place -= 1u;
+    }
+    return place;
+}
+
+/* Puts a number in at this place of a list, and moves what stands from there on to before `end` one
+ * further; the last of these falls out. */
+static void batch_items_put_in(RoomOfU64 list, uint32_t place, uint32_t end, uint64_t number) {
+    uint64_t carried = number;
+    for (uint32_t at = place; at < end; at++) {
+        const uint64_t next = list.items[at];
+        list.items[at] = carried;
+        carried = next;
+    }
+}
+
+/* Moves those of the first `count` that give a value to the front, and says how many there are. */
+static uint32_t keep(RoomOfU64 numbers, uint32_t count) {
+    uint32_t kept = 0u;
+    for (uint32_t place = 0u; place < count; place++) {
+        const uint64_t number = numbers.items[place];
+        if (gives_value(number)) {
+            numbers.items[kept] = number;
+            kept += 1u;
+        }
+    }
+    return kept;
+}
+
+/* ---- ee_pages/batch.rs: The next live addresses, as many as are found in one look through the
+ * slots. */
+
+/* One with no addresses. It stays out of the calls that begin with one, since it is long. */
+EE_APART void live_batch_new(LiveBatch *made) {
+    batch_new(&made->found);
+    made->through = maybe_address_none();
+}
+
+/* Puts the next live addresses above `after`, or the first of all if `after` is `None`, into a
+ * batch, with their values, in place of what it held: up to `BATCH`, from one look through the
+ * slots. There may be none, and more behind `through`, where addresses were forgotten. The layout
+ * is
+ * the image's. */
+static void next_batch(const Device *flash, const Layout *layout, MaybeAddress after,
+        LiveBatch *batch) {
+    batch_take_out(&batch->found);
+    gather(flash, layout->side, number_of(after), &batch->found);
+    batch->through = batch_last_if_full(&batch->found);
+    batch_keep_living(&batch->found);
+}
+
+/* The number above which a batch begins. */
+static uint16_t number_of(MaybeAddress after) {
+    if (!after.some) {
+        return 0u;
+    }
+    const Address address = after.value;
+    return address;
+}
+
+/* Puts in the next addresses above this one of which a slot says something, each with what the last
+ * one says. */
+static void gather(const Device *flash, Side side, uint16_t above, Batch *nearest) {
+    for (uint32_t page = 0u, end = flash->shape.pages; page < end; page++) {
+        gather_page(flash, side, page, above, nearest);
+    }
+}
+
+/* Notes what the slots of a page say, behind those of the pages before. */
+static void gather_page(const Device *flash, Side side, uint32_t page, uint16_t above,
+        Batch *nearest) {
+    const uint32_t here = first_page(flash, side) + page;
+    const uint32_t words = flash->shape.words;
+    uint32_t span = span_of(nearest, above);
+    uint64_t room[RUN];
+    for (uint32_t at = 0u; at < RUN; at++) {
+        room[at] = 1u;
+    }
+    uint32_t at = HEADER_WORDS;
+    while (at < words) {
+        const ListOfU64 run = run_from(flash, here, at, words, room);
+        at += run.len;
+        span = note_all(above, span, run, nearest);
+    }
+}
+
+/* Notes what these numbers say, of so many addresses above this one, which are those that have a
+ * place
+ * in the batch. Gives how many have one then. */
+EE_APART uint32_t note_all(uint16_t above, uint32_t span, ListOfU64 numbers, Batch *nearest) {
+    for (uint32_t at = 0u; at < numbers.len; at++) {
+        const uint64_t *const number = &numbers.items[at];
+        span = note(above, span, *number, nearest);
+    }
+    return span;
+}
+
+/* Notes what a number says, if it is of one of so many addresses above this one. */
+static uint32_t note(uint16_t above, uint32_t span, uint64_t number, Batch *nearest) {
+    /* Asked first, since most words are of an address that has no place in a batch. */
+    if (!is_within(address_in(number), above, span)) {
+        return span;
+    }
+    if (batch_note_last(nearest, number)) {
+        return span;
+    }
+    if (batch_note(nearest, number)) {
+        return span_of(nearest, above);
+    }
+    return span;
+}
+
+/* How many addresses above this one have a place in a batch. */
+static uint32_t span_of(const Batch *nearest, uint16_t above) {
+    return (uint32_t)(uint16_t)((uint32_t)batch_greatest(nearest) - above);
+}
+
+/* Whether an address is one of so many above another one. */
+static bool is_within(uint16_t address, uint16_t above, uint32_t span) {
+    /* One comparison, since what is no greater than `above` wraps. */
+    return u32_wrapping_sub((uint32_t)address, (uint32_t)above + 1u) < span;
+}
+
+/* ---- ee_pages/read.rs: What the slots of a live set say: values, the next live address, how many
+ * are live, how many torn. */
+
+/* The value of an address, `None` if it has none. It reads the slots in runs from the newest down,
+ * each
+ * once, to the run with the first that says something of the address. The layout is the image's.
+ *
+ * Source: the last element written for an address is its value, AN4894; a forgetting is ours. */
+static MaybeU32 latest(const Device *flash, const Layout *layout, Address address) {
+    /* Page by page, since finding a slot by its number takes a division. */
+    const uint32_t slots = flash->shape.words - HEADER_WORDS;
+    const uint32_t last = layout->current - first_page(flash, layout->side);
+    uint32_t left = layout->fill;
+    for (uint32_t page_end = last + 1u; page_end > 0u; page_end--) {
+        const uint32_t page = page_end - 1u;
+        const uint32_t before = page * slots;
+        const MaybeSaidValue maybe_said = said_in_page(flash, layout->side, page, left - before,
+                address);
+        if (maybe_said.some) {
+            return maybe_said.value;
+        }
+        left = before;
+    }
+    return maybe_u32_none();
+}
+
+/* The next live address above `after`, or of all if `after` is `None`, with its value. `None` if
+ * there is none. It looks through the slots once, and once more for each batch of addresses that
+ * were all forgotten. The layout is the image's. */
+static MaybeLive next_live(const Device *flash, const Layout *layout, MaybeAddress after) {
+    MaybeAddress behind = after;
+    LiveBatch batch;
+    live_batch_new(&batch);
+    for (;;) {
+        next_batch(flash, layout, behind, &batch);
+        const MaybeLive maybe_found = batch_get(&batch.found, 0u);
+        if (maybe_found.some) {
+            return maybe_live_some(maybe_found.value);
+        }
+        if (!batch.through.some) {
+            return maybe_live_none();
+        }
+        const Address through = batch.through.value;
+        behind = maybe_address_some(through);
+    }
+}
+
+/* How many addresses have a value, 0 to the capacity. It looks through the slots once for each
+ * batch
+ * of live addresses. The layout is the image's. */
+static uint32_t live_count(const Device *flash, const Layout *layout) {
+    uint32_t count = 0u;
+    MaybeAddress after = maybe_address_none();
+    LiveBatch batch;
+    live_batch_new(&batch);
+    for (;;) {
+        next_batch(flash, layout, after, &batch);
+        count += batch.found.len;
+        if (!batch.through.some) {
+            return count;
+        }
+        const Address through = batch.through.value;
+        after = maybe_address_some(through);
+    }
+}
+
+/* How many slots of the live set are torn, 0 to its fill. It reads each slot once. The layout is
+ * the
+ * image's. */
+static uint32_t torn_slots(const Device *flash, const Layout *layout) {
+    uint32_t torn = 0u;
+    for (uint32_t page = 0u, end = flash->shape.pages; page < end; page++) {
+        torn = torn_through(flash, layout->side, page, torn);
+    }
+    return torn;
+}
+
+/* How many slots are torn up to the end of a page of a set, where this many are torn before it.
+ * Page
+ * by page, since finding a slot by its number takes a division. */
+static uint32_t torn_through(const Device *flash, Side side, uint32_t page, uint32_t before) {
+    uint32_t torn = before;
+    for (uint32_t slot = 0u, end = flash->shape.words - HEADER_WORDS; slot < end; slot++) {
+        if (is_torn(page_slot(flash, side, page, slot))) {
+            torn += 1u;
+        }
+    }
+    return torn;
+}
+
+/* What the first `used` slots of a page of a set say of an address: the newest that says something
+ * counts. */
+static MaybeSaidValue said_in_page(const Device *flash, Side side, uint32_t page, uint32_t used,
+        Address address) {
+    const uint32_t here = first_page(flash, side) + page;
+    uint64_t room[RUN];
+    for (uint32_t at = 0u; at < RUN; at++) {
+        room[at] = 1u;
+    }
+    uint32_t left = used;
+    while (left > 0u) {
+        const uint32_t count = u32_least(RUN, left);
+        left -= count;
+        const ListOfU64 run = device_run(flash, here, HEADER_WORDS + left,
+                (RoomOfU64){ .items = room, .len = count });
+        const uint32_t ends = ending_in(run, address);
+        if (ends > 0u) {
+            const MaybeSaidValue maybe_said = said(run.items[ends - 1u]);
+            if (maybe_said.some) {
+                return maybe_said_value_some(maybe_said.value);
+            }
+            left += ends - 1u;
+        }
+    }
+    return maybe_said_value_none();
+}
+
+/* How many of these numbers stand up to the last that ends in an address, 0 where none does. It
+ * does no
+ * more than that, since most numbers end in another one. */
+EE_APART uint32_t ending_in(ListOfU64 numbers, Address address) {
+    uint32_t left = numbers.len;
+    while (left > 0u && address_in(numbers.items[left - 1u]) != address) {
+        left -= 1u;
+    }
+    return left;
+}
+
+/* What a number says of the address that it ends in: nothing, or that it has a value or none from
+ * here
+ * on. */
+EE_IN_PLACE MaybeSaidValue said(uint64_t number) {
+    if (!says_something(number)) {
+        return maybe_said_value_none();
+    }
+    if (gives_value(number)) {
+        return maybe_said_value_some(maybe_u32_some((uint32_t)(number >> 32u)));
+    }
+    return maybe_said_value_some(maybe_u32_none());
+}
+
+/* ---- ee_pages/marking.rs: A mark as a step: none where its word is written. */
+
+/* Programs a mark, unless its word is written, torn or not: then it takes no step. Pages are
+ * numbered from 0, those of the first set first.
+ *
+ * Errors:
+ *
+ * `Cut`, only with the device off afterwards: power failed in this step, or was off before it and
+ * nothing changed. */
+static Step marking_mark(Device *flash, uint32_t page, Mark mark) {
+    uint32_t at;
+    uint64_t number;
+    switch (mark.tag) {
+    case Mark_Receive: {
+        const uint32_t generation = mark.receive;
+        at = 0u;
+        number = receive_word(generation);
+        break;
+    }
+    case Mark_Active:
+        at = 1u;
+        number = MARK;
+        break;
+    case Mark_Valid:
+        at = 2u;
+        number = MARK;
+        break;
+    case Mark_Erasing:
+    default:
+        at = 3u;
+        number = MARK;
+        break;
+    }
+    if (is_written(device_word(flash, page, at))) {
+        return DONE;
+    }
+    return device_program(flash, page, at, number);
+}
+
+/* ---- ee_pages/rescue.rs: Which set of a device with any words whatever is rescued, and how many
+ * of its words are bad. */
+
+/* The set that is rescued, of any device. `None` where no set is begun. */
+static MaybeSide rescued_side(const Device *flash) {
+    const bool first = has_begun(flash, Side_First);
+    const bool second = has_begun(flash, Side_Second);
+    if (!(first || second)) {
+        return maybe_side_none();
+    }
+    const MaybeSide maybe_side = only(first, second);
+    if (maybe_side.some) {
+        return maybe_side_some(maybe_side.value);
+    }
+    const bool first_left = is_left_behind(flash, Side_First);
+    const bool second_left = is_left_behind(flash, Side_Second);
+    const MaybeSide maybe_side_2 = only(!first_left, !second_left);
+    if (maybe_side_2.some) {
+        return maybe_side_some(maybe_side_2.value);
+    }
+    const bool first_commits = committed(flash, Side_First).some;
+    const bool second_commits = committed(flash, Side_Second).some;
+    const MaybeSide maybe_side_3 = only(first_commits, second_commits);
+    if (maybe_side_3.some) {
+        return maybe_side_some(maybe_side_3.value);
+    }
+    const uint32_t first_generation = named_generation(flash, Side_First);
+    const uint32_t second_generation = named_generation(flash, Side_Second);
+    if (first_generation < second_generation) {
+        return maybe_side_some(Side_Second);
+    }
+    return maybe_side_some(Side_First);
+}
+
+/* The generation that a set names, of any device: that of its first receive word that can be read,
+ * by page, and 1 where none can. */
+static uint32_t named_generation(const Device *flash, Side side) {
+    for (uint32_t page = 0u, end = flash->shape.pages; page < end; page++) {
+        const MaybeU32 maybe_generation = read_receive(set_word(flash, side, page, 0u));
+        if (maybe_generation.some) {
+            return maybe_generation.value;
+        }
+    }
+    return 1u;
+}
+
+/* How many words of the set that is rescued are bad: they can't be read, or may not stand where
+ * they
+ * stand. 0 to the words of a set, and 0 where no set is begun. */
+static uint32_t bad_words(const Device *flash) {
+    const MaybeSide maybe_rescued_side = rescued_side(flash);
+    if (!maybe_rescued_side.some) {
+        return 0u;
+    }
+    const Side side = maybe_rescued_side.value;
+    return bad_in_set(flash, side);
+}
+
+/* How many words of a set are bad. */
+static uint32_t bad_in_set(const Device *flash, Side side) {
+    const uint32_t generation = named_generation(flash, side);
+    const uint32_t written = written_front(flash, side);
+    uint32_t bad = 0u;
+    for (uint32_t page = 0u, end = flash->shape.pages; page < end; page++) {
+        bad += bad_in_page(flash, side, generation, written, page);
+    }
+    return bad;
+}
+
+/* How many words of a page of a set are bad. */
+static uint32_t bad_in_page(const Device *flash, Side side, uint32_t generation, uint32_t written,
+        uint32_t page) {
+    const Shape shape = flash->shape;
+    uint32_t bad = 0u;
+    for (uint32_t at = 0u, end = shape.words; at < end; at++) {
+        if (is_bad(shape, generation, written, page, at, set_word(flash, side, page, at))) {
+            bad += 1u;
+        }
+    }
+    return bad;
+}
+
+/* Whether a word of a set can't be read, or may not stand in its place: `written` slots stand
+ * before
+ * the first erased one. */
+static bool is_bad(Shape shape, uint32_t generation, uint32_t written, uint32_t page, uint32_t at,
+        Word word) {
+    const uint32_t before = page * (shape.words - HEADER_WORDS) + u32_saturating_sub(at,
+            HEADER_WORDS);
+    const bool allowed = fits(generation, place_of(page, at), word) && (!is_written(word) ||
+            before <= written);
+    return is_torn(word) || !allowed || fails_to_commit(page, at, word);
+}
+
+/* How many slots of a set stand before the first erased one. Page by page, since finding a slot by
+ * its
+ * number takes a division. */
+static uint32_t written_front(const Device *flash, Side side) {
+    const Shape shape = flash->shape;
+    const uint32_t slots = shape.words - HEADER_WORDS;
+    for (uint32_t page = 0u, end = shape.pages; page < end; page++) {
+        const uint32_t front = front_in_page(flash, side, page);
+        if (front < slots) {
+            return page * slots + front;
+        }
+    }
+    return shape_slots(shape);
+}
+
+/* How many slots of a page of a set stand before the first erased one of them. */
+static uint32_t front_in_page(const Device *flash, Side side, uint32_t page) {
+    const uint32_t slots = flash->shape.words - HEADER_WORDS;
+    for (uint32_t slot = 0u; slot < slots; slot++) {
+        if (!is_written(page_slot(flash, side, page, slot))) {
+            return slot;
+        }
+    }
+    return slots;
+}
+
+/* Whether the word stands in one of the two places that commit a set, and doesn't do so. */
+static bool fails_to_commit(uint32_t page, uint32_t at, Word word) {
+    if (page != 0u) {
+        return false;
+    }
+    if (at == 0u) {
+        return !read_receive(word).some;
+    }
+    if (at == 1u) {
+        const MarkRead mark_read = read_mark(word);
+        return mark_read != MarkRead_Present;
+    }
+    return false;
+}
+
+/* The one of the two sets of which this holds, if it holds of one alone. */
+EE_IN_PLACE MaybeSide only(bool first, bool second) {
+    if (first == second) {
+        return maybe_side_none();
+    }
+    if (first) {
+        return maybe_side_some(Side_First);
+    }
+    return maybe_side_some(Side_Second);
+}
+
+/* Whether something was programmed where the mark that commits the set stands. */
+static bool has_begun(const Device *flash, Side side) {
+    return is_written(set_word(flash, side, 0u, 1u));
+}
+
+/* Whether a page of the set has the whole mark that it may be erased. */
+static bool is_left_behind(const Device *flash, Side side) {
+    for (uint32_t page = 0u, end = flash->shape.pages; page < end; page++) {
+        const MarkRead mark_read = read_mark(set_word(flash, side, page, 3u));
+        if (mark_read == MarkRead_Present) {
+            return true;
+        }
+    }
+    return false;
+}
+
+/* ---- ee_core/change.rs: A change of the map, and the word that spells it; a value that is put
+ * with others. */
+
+/* What a transfer carries for it: its address with the value, and whether it forgets. */
+static PutAndBool change_entry(Change self) {
+    if (self.tag == Change_Put) {
+        const Address address = self.address;
+        const uint32_t value = self.value;
+        return (PutAndBool){ .first = (Put){ .address = address, .value = value },
+                .second = false };
+    }
+    const Address address = self.address;
+    const uint32_t value = self.value;
+    return (PutAndBool){ .first = (Put){ .address = address, .value = value }, .second = true };
+}
+
+/* The number of the word that spells it, below `u64::MAX`. */
+static uint64_t change_word(Change self) {
+    if (self.tag == Change_Put) {
+        const Address address = self.address;
+        const uint32_t value = self.value;
+        return element_word(address, value);
+    }
+    const Address address = self.address;
+    const uint32_t value = self.value;
+    return forget_word(address, value);
+}
+
+/* ---- ee_core/puts.rs: Lists of values that are put at once: which addresses they have, and
+ * whether one has an address twice. */
+
+/* Whether one of the values is put at the address. */
+static bool has_put(ListOfPut puts, Address address) {
+    for (uint32_t at = 0u; at < puts.len; at++) {
+        const Put *const put = &puts.items[at];
+        if (put->address == address) {
+            return true;
+        }
+    }
+    return false;
+}
+
+/* Of what a transfer carries the values that are put: none, where their addresses are forgotten. */
+static ListOfPut values_put(ListOfPut puts, bool forgets) {
+    if (forgets) {
+        return (ListOfPut){ .items = NULL, .len = 0u };
+    }
+    return puts;
+}
+
+/* The first entry, counted from 0, whose address an earlier one has. */
+static MaybeIndex first_twice(ListOfPut puts) {
+    for (uint32_t place = 0u, end = puts.len; place < end; place++) {
+        if (has_put((ListOfPut){ .items = puts.items, .len = place }, puts.items[place].address)) {
+            return maybe_index_some(place);
+        }
+    }
+    return maybe_index_none();
+}
+
+/* How many addresses have a value with these values, each of which is of an address of its own. */
+static uint32_t live_with(const Device *flash, const Layout *layout, ListOfPut puts) {
+    uint32_t count = live_count(flash, layout);
+    for (uint32_t at = 0u; at < puts.len; at++) {
+        const Put *const put = &puts.items[at];
+        if (!latest(flash, layout, put->address).some) {
+            count += 1u;
+        }
+    }
+    return count;
+}
+
+/* ---- ee_core/marking.rs: The marks that a transfer or a cut left to set: pages used up, the page
+ * in use, pages to be erased. */
+
+/* Sets the marks that a transfer or a cut left to set: in the live set the pages before the last
+ * used one become valid and that one active, in the other set each page that is not blank becomes
+ * one that may be erased. A mark whose word is written already takes no step. */
+static Step finish(Device *flash, const Layout *layout) {
+    if (mark_live_set(flash, layout) == CUT) {
+        return CUT;
+    }
+    if (mark_old_set(flash, layout) == CUT) {
+        return CUT;
+    }
+    return DONE;
+}
+
+/* Marks the pages of the live set: those before the last used one, and that one. */
+static Step mark_live_set(Device *flash, const Layout *layout) {
+    const uint32_t first = first_page(flash, layout->side);
+    for (uint32_t page = first, end = layout->current; page < end; page++) {
+        if (mark_live(flash, layout, page, mark_valid()) == CUT) {
+            return CUT;
+        }
+    }
+    if (mark_live(flash, layout, layout->current, mark_active()) == CUT) {
+        return CUT;
+    }
+    return DONE;
+}
+
+/* Marks the pages of the other set that are not blank. */
+static Step mark_old_set(Device *flash, const Layout *layout) {
+    const uint32_t first = first_page(flash, side_other(layout->side));
+    for (uint32_t page = first, end = first + flash->shape.pages; page < end; page++) {
+        if (!state_is_blank(flash, page)) {
+            if (mark_old(flash, layout, page) == CUT) {
+                return CUT;
+            }
+        }
+    }
+    return DONE;
+}
+
+/* Sets an active or valid mark of a page of the live set, behind written slots. */
+static Step mark_live(Device *flash, const Layout *layout, uint32_t page, Mark kind) {
+    (void)layout;
+    if (marking_mark(flash, page, kind) == CUT) {
+        return CUT;
+    }
+    return DONE;
+}
+
+/* Marks a page of the other set, which is not blank, as one that may be erased. */
+static Step mark_old(Device *flash, const Layout *layout, uint32_t page) {
+    (void)layout;
+    if (marking_mark(flash, page, mark_erasing()) == CUT) {
+        return CUT;
+    }
+    return DONE;
+}
+
+/* ---- ee_core/cleaning.rs: The set that isn't live: how many of its pages wait to be erased, and
+ * the erasing of one. */
+
+/* Erases the lowest page of the other set that is not blank. `false` if there is none. */
+static BoolOrCut cleaning_clean(Device *flash, const Layout *layout) {
+    const MaybeIndex maybe_page = first_pending(flash, side_other(layout->side));
+    if (!maybe_page.some) {
+        return bool_or_cut_ok(false);
+    }
+    const uint32_t page = maybe_page.value;
+    if (erase_other(flash, layout->side, page) == CUT) {
+        return bool_or_cut_err();
+    }
+    return bool_or_cut_ok(true);
+}
+
+/* Erases a page, which is not blank, of the other set, whatever stands in either. */
+static Step erase_other(Device *flash, Side side, uint32_t page) {
+    (void)side;
+    if (device_erase(flash, page) == CUT) {
+        return CUT;
+    }
+    return DONE;
+}
+
+/* The lowest page of a set that is not blank, by its number in the device. */
+static MaybeIndex first_pending(const Device *flash, Side side) {
+    const uint32_t first = first_page(flash, side);
+    for (uint32_t page = first, end = first + flash->shape.pages; page < end; page++) {
+        if (!state_is_blank(flash, page)) {
+            return maybe_index_some(page);
+        }
+    }
+    return maybe_index_none();
+}
+
+/* How many pages of a set are not blank, 0 to 64. Those of the set that is not live wait to be
+ * erased. */
+static uint32_t count_pending(const Device *flash, Side side) {
+    const uint32_t first = first_page(flash, side);
+    uint32_t count = 0u;
+    for (uint32_t page = first, end = first + flash->shape.pages; page < end; page++) {
+        if (!state_is_blank(flash, page)) {
+            count += 1u;
+        }
+    }
+    return count;
+}
+
+/* ---- ee_core/copying.rs: The copying of a transfer: the map after its change, written into the
+ * other set word by word. */
+
+/* Before the first. */
+static void cursor_new(const Device *flash, const Layout *layout, Cursor *made) {
+    live_batch_new(&made->batch);
+    made->given = 0u;
+    next_batch(flash, layout, maybe_address_none(), &made->batch);
+}
+
+/* The next live address, with its value. `None` if there is none. */
+static MaybeLive cursor_next(Cursor *self, const Device *flash, const Layout *layout) {
+    return next_given(flash, layout, &self->batch, &self->given);
+}
+
+/* The next live address behind those that were given of a batch. Where all were, the batch becomes
+ * the next one with an address. */
+static MaybeLive next_given(const Device *flash, const Layout *layout, LiveBatch *batch,
+        uint32_t *given) {
+    for (;;) {
+        const MaybeLive maybe_live = batch_get(&batch->found, *given);
+        if (maybe_live.some) {
+            const Live live = maybe_live.value;
+            *given += 1u;
+            return maybe_live_some(live);
+        }
+        if (!batch->through.some) {
+            return maybe_live_none();
+        }
+        const Address through = batch->through.value;
+        next_batch(flash, layout, maybe_address_some(through), batch);
+        *given = 0u;
+    }
+}
+
+/* Fills the other set, which was opened, with the map after changes: the values that are put come
+ * first, in their order, and then each other live address, rising. Where they are forgotten, their
+ * addresses are left out alone. Gives how many slots that takes. */
+static IndexOrCut fill_set(Device *flash, const Layout *layout, ListOfPut puts, bool forgets,
+        Cursor *cursor) {
+    const CopyingPlaceOrCut first_result = put_all(flash, layout, values_put(puts, forgets));
+    if (!first_result.ok) {
+        return index_or_cut_err();
+    }
+    const CopyingPlace first = first_result.value;
+    const IndexOrCut count_result = copy_others(flash, layout, puts, first, cursor);
+    if (!count_result.ok) {
+        return index_or_cut_err();
+    }
+    const uint32_t count = count_result.value;
+    return index_or_cut_ok(count);
+}
+
+/* Writes values into the first slots of the other set, in their order. Gives the place of the next
+ * slot. */
+static CopyingPlaceOrCut put_all(Device *flash, const Layout *layout, ListOfPut puts) {
+    CopyingPlace place = first_place(flash, layout);
+    for (uint32_t at = 0u; at < puts.len; at++) {
+        const Put *const put = &puts.items[at];
+        const Address address = put->address;
+        const uint32_t value = put->value;
+        if (stage(flash, layout, &place, change_put(address, value)) == CUT) {
+            return copying_place_or_cut_err();
+        }
+    }
+    return copying_place_or_cut_ok(place);
+}
+
+/* Copies each live address but those of the changes to the other set, from this place on. Gives how
+ * many of its slots are written then. */
+static IndexOrCut copy_others(Device *flash, const Layout *layout, ListOfPut puts,
+        CopyingPlace place, Cursor *cursor) {
+    for (;;) {
+        const MaybeLive maybe_address_and_value = cursor_next(cursor, flash, layout);
+        if (!maybe_address_and_value.some) {
+            break;
+        }
+        const Address address = maybe_address_and_value.value.first;
+        const uint32_t value = maybe_address_and_value.value.second;
+        const bool carries = has_put(puts, address);
+        if (copy_one(flash, layout, carries, &place, address, value) == CUT) {
+            return index_or_cut_err();
+        }
+    }
+    return index_or_cut_ok(place.slot);
+}
+
+/* Copies a live address to this place of the other set, unless it is passed over. The place becomes
+ * that of the next free slot. */
+static Step copy_one(Device *flash, const Layout *layout, bool passed, CopyingPlace *place,
+        Address address, uint32_t value) {
+    if (passed) {
+        return DONE;
+    }
+    if (stage(flash, layout, place, change_put(address, value)) == CUT) {
+        return CUT;
+    }
+    return DONE;
+}
+
+/* Writes a change into this place of the other set, its first free slot. A further page gets its
+ * receive word first. The place becomes that of the next slot. */
+static Step stage(Device *flash, const Layout *layout, CopyingPlace *place, Change change) {
+    if (place->at == HEADER_WORDS) {
+        if (receive(flash, layout, *place) == CUT) {
+            return CUT;
+        }
+    }
+    if (copying_put_in(flash, layout, *place, change) == CUT) {
+        return CUT;
+    }
+    step(flash, layout, place);
+    return DONE;
+}
+
+/* Gives the page of this place of the other set the receive word, if it has none. */
+static Step receive(Device *flash, const Layout *layout, CopyingPlace place) {
+    if (marking_mark(flash, place.page, mark_receive(layout->generation + 1u)) == CUT) {
+        return CUT;
+    }
+    return DONE;
+}
+
+/* Programs a change into this place of the other set, its first free slot. */
+static Step copying_put_in(Device *flash, const Layout *layout, CopyingPlace place, Change change) {
+    (void)layout;
+    if (device_program(flash, place.page, place.at, change_word(change)) == CUT) {
+        return CUT;
+    }
+    return DONE;
+}
+
+/* The place of the first slot of the other set. */
+static CopyingPlace first_place(const Device *flash, const Layout *layout) {
+    return (CopyingPlace){ .slot = 0u, .page = first_page(flash, side_other(layout->side)),
+            .at = HEADER_WORDS };
+}
+
+/* Goes on to the next slot of the other set: one further in the page, or the first one of the next
+ * page. Behind the set's last slot it is in no page of the set. */
+static void step(const Device *flash, const Layout *layout, CopyingPlace *place) {
+    (void)layout;
+    place->slot += 1u;
+    place->at += 1u;
+    if (place->at == flash->shape.words) {
+        place->page += 1u;
+        place->at = HEADER_WORDS;
+    }
+}
+
+/* ---- ee_core/moving.rs: A transfer: the other set is erased, opened and filled, and one mark
+ * makes it the live one. */
+
+/* Moves the map, with values that are put or without their addresses, where these are forgotten, to
+ * the other set, and makes that one live. The cursor, which is before the first, goes over the live
+ * addresses. Of the layout it takes the set, in which any words may stand, and its generation, no
+ * smaller than the one that the set is committed with. The layout follows. */
+static Step transfer(Device *flash, Layout *layout, ListOfPut puts, bool forgets, Cursor *cursor) {
+    const IndexOrCut count_result = move_map(flash, layout, puts, forgets, cursor);
+    if (!count_result.ok) {
+        return CUT;
+    }
+    const uint32_t count = count_result.value;
+    const uint32_t slots = flash->shape.words - HEADER_WORDS;
+    *layout = (Layout){ .side = side_other(layout->side), .generation = layout->generation + 1u,
+            .fill = count, .current = first_page(flash,
+            side_other(layout->side)) + u32_saturating_sub(count, 1u) / slots };
+    if (finish(flash, layout) == CUT) {
+        return CUT;
+    }
+    return DONE;
+}
+
+/* Moves the map as `transfer` does. It looks for the live addresses in the slots. */
+static Step transfer_by_slots(Device *flash, Layout *layout, ListOfPut puts, bool forgets) {
+    Cursor cursor;
+    cursor_new(flash, layout, &cursor);
+    if (transfer(flash, layout, puts, forgets, &cursor) == CUT) {
+        return CUT;
+    }
+    return DONE;
+}
+
+/* Moves the map, with what it is to carry, to the other set, and makes that one live. Gives how
+ * many
+ * slots it takes there. */
+static IndexOrCut move_map(Device *flash, const Layout *layout, ListOfPut puts, bool forgets,
+        Cursor *cursor) {
+    if (clear(flash, layout) == CUT) {
+        return index_or_cut_err();
+    }
+    if (open_set(flash, layout) == CUT) {
+        return index_or_cut_err();
+    }
+    const IndexOrCut count_result = fill_set(flash, layout, puts, forgets, cursor);
+    if (!count_result.ok) {
+        return index_or_cut_err();
+    }
+    const uint32_t count = count_result.value;
+    if (commit(flash, layout) == CUT) {
+        return index_or_cut_err();
+    }
+    return index_or_cut_ok(count);
+}
+
+/* Makes the other set the live one with nothing in it, as `transfer` does with a map in which
+ * nothing
+ * has a value. The layout follows. */
+static Step transfer_nothing(Device *flash, Layout *layout) {
+    if (move_nothing(flash, layout) == CUT) {
+        return CUT;
+    }
+    *layout = (Layout){ .side = side_other(layout->side), .generation = layout->generation + 1u,
+            .fill = 0u, .current = first_page(flash, side_other(layout->side)) };
+    if (finish(flash, layout) == CUT) {
+        return CUT;
+    }
+    return DONE;
+}
+
+/* Makes the other set the live one with nothing in it, but for the marks of its pages and of those
+ * that it leaves. */
+static Step move_nothing(Device *flash, const Layout *layout) {
+    if (clear(flash, layout) == CUT) {
+        return CUT;
+    }
+    if (open_set(flash, layout) == CUT) {
+        return CUT;
+    }
+    if (commit(flash, layout) == CUT) {
+        return CUT;
+    }
+    return DONE;
+}
+
+/* Erases each page of the other set that is not blank, by rising page. Like the two below it stands
+ * in both of its callers, so that no code of one is the other's in firmware. */
+EE_IN_PLACE Step clear(Device *flash, const Layout *layout) {
+    const uint32_t first = first_page(flash, side_other(layout->side));
+    for (uint32_t page = first, end = first + flash->shape.pages; page < end; page++) {
+        if (!state_is_blank(flash, page)) {
+            if (erase_other(flash, layout->side, page) == CUT) {
+                return CUT;
+            }
+        }
+    }
+    return DONE;
+}
+
+/* Gives the first page of the other set, which is blank, the receive word of the next generation.
+ * */
+EE_IN_PLACE Step open_set(Device *flash, const Layout *layout) {
+    const uint32_t first = first_page(flash, side_other(layout->side));
+    if (marking_mark(flash, first, mark_receive(layout->generation + 1u)) == CUT) {
+        return CUT;
+    }
+    return DONE;
+}
+
+/* Makes the other set, which is filled, the live one. */
+EE_IN_PLACE Step commit(Device *flash, const Layout *layout) {
+    const uint32_t first = first_page(flash, side_other(layout->side));
+    if (marking_mark(flash, first, mark_active()) == CUT) {
+        return CUT;
+    }
+    return DONE;
+}
+
+/* ---- ee_core/writing.rs: The appending of a change: where its slot begins a further page, two
+ * marks come first. */
+
+/* Writes a change into the first free slot of the live set. If that slot is the first of a further
+ * page, the page before it is marked valid and that one active first. The layout follows. */
+EE_IN_PLACE Step append(Device *flash, Layout *layout, Change change) {
+    const IndexPair page_and_at = free_slot(flash, layout);
+    const uint32_t page = page_and_at.first;
+    const uint32_t at = page_and_at.second;
+    if (open_page(flash, layout, page) == CUT) {
+        return CUT;
+    }
+    if (push(flash, layout, page, at, change) == CUT) {
+        return CUT;
+    }
+    layout->current = page;
+    layout->fill += 1u;
+    return DONE;
+}
+
+/* The page of the first free slot, and the slot's place in it. The layout has the page in use, so
+ * that
+ * this takes no division. */
+EE_IN_PLACE IndexPair free_slot(const Device *flash, const Layout *layout) {
+    const uint32_t slots = flash->shape.words - HEADER_WORDS;
+    const uint32_t used = layout->fill - (layout->current - first_page(flash,
+            layout->side)) * slots;
+    if (used == slots) {
+        return (IndexPair){ .first = layout->current + 1u, .second = HEADER_WORDS };
+    }
+    return (IndexPair){ .first = layout->current, .second = HEADER_WORDS + used };
+}
+
+/* Marks the page of the first free slot, which is this one, as the one that is used, if it is a
+ * further
+ * one, and the page before it as used up. */
+EE_IN_PLACE Step open_page(Device *flash, const Layout *layout, uint32_t page) {
+    if (page == layout->current) {
+        return DONE;
+    }
+    if (mark_live(flash, layout, layout->current, mark_valid()) == CUT) {
+        return CUT;
+    }
+    if (mark_live(flash, layout, layout->current + 1u, mark_active()) == CUT) {
+        return CUT;
+    }
+    return DONE;
+}
+
+/* Programs a change into the first free slot of the live set, which stands in this place of this
+ * page. */
+EE_IN_PLACE Step push(Device *flash, const Layout *layout, uint32_t page, uint32_t at,
+        Change change) {
+    (void)layout;
+    if (device_program(flash, page, at, change_word(change)) == CUT) {
+        return CUT;
+    }
+    return DONE;
+}
+
+/* ---- ee_core/changing.rs: The making of changes that nothing refuses: one is appended where a
+ * slot is free, and else they are */
+
+/* Makes a change to which no refusal applies: in a free slot if there is one, else with a transfer.
+ * The layout and the look-up follow. It stands in both of its callers, so that a write takes fewer
+ * instructions in firmware. */
+EE_IN_PLACE WrittenOrCut make_change(Device *flash, Layout *layout, Change change) {
+    if (layout->fill < shape_slots(flash->shape)) {
+        const Step append_result = slots_append(flash, layout, change);
+        if (append_result == DONE) {
+            return written_or_cut_ok(Written_Appended);
+        }
+        return written_or_cut_err();
+    }
+    const PutAndBool put_and_forgets = change_entry(change);
+    const Put put = put_and_forgets.first;
+    const bool forgets = put_and_forgets.second;
+    const Step transfer_result = slots_transfer(flash, layout, (ListOfPut){ .items = &put,
+            .len = 1u }, forgets);
+    if (transfer_result == DONE) {
+        return written_or_cut_ok(Written_Moved);
+    }
+    return written_or_cut_err();
+}
+
+/* Makes a look-up ready for a value in the first free slot or, where none is free, makes room for
+ * it in a transfer. An
+ * `Err`, which only a new address meets, leaves it as it was. */
+EE_IN_PLACE Step prepare(const Device *flash, const Layout *layout, Put put) {
+    if (layout->fill == shape_slots(flash->shape)) {
+        return slots_make_room(flash, layout, (ListOfPut){ .items = &put, .len = 1u });
+    }
+    return slots_make_ready(flash, layout, put);
+}
+
+/* Makes a change to which no refusal applies in the first free slot. The layout follows. */
+EE_IN_PLACE Step append_change(Device *flash, Layout *layout, Change change) {
+    if (append(flash, layout, change) == CUT) {
+        return CUT;
+    }
+    return DONE;
+}
+
+/* Makes changes to which no refusal applies with a transfer that they need, as `move_changes`
+ * does, in
+ * a store without an index: it looks for the live addresses in the slots. The layout follows. */
+static Step move_unindexed(Device *flash, Layout *layout, ListOfPut puts, bool forgets) {
+    if (transfer_by_slots(flash, layout, puts, forgets) == CUT) {
+        return CUT;
+    }
+    return DONE;
+}
+
+/* Makes a clear to which no refusal applies. The layout follows. */
+static Step empty(Device *flash, Layout *layout) {
+    if (transfer_nothing(flash, layout) == CUT) {
+        return CUT;
+    }
+    return DONE;
+}
+
+/* ---- ee_core/lookup.rs: How a store finds values, and makes the changes that nothing refuses:
+ * each kind of store has a look-up of its own. */
+
+/* The value of an address, `None` if it has none. */
+EE_IN_PLACE MaybeU32 slots_value_of(const Device *flash, const Layout *layout, Address address) {
+    return latest(flash, layout, address);
+}
+
+/* How many addresses have a value. */
+EE_IN_PLACE uint32_t slots_live_count(const Device *flash, const Layout *layout) {
+    return live_count(flash, layout);
+}
+
+/* How many addresses have a value with these values, each of which is of an address of its own. */
+EE_IN_PLACE uint32_t slots_live_with(const Device *flash, const Layout *layout, ListOfPut puts) {
+    return live_with(flash, layout, puts);
+}
+
+/* The next live address above `after`, or of all if `after` is `None`, with its value. */
+EE_IN_PLACE MaybeLive slots_next_live(const Device *flash, const Layout *layout,
+        MaybeAddress after) {
+    return next_live(flash, layout, after);
+}
+
+/* Makes ready for a value in the first free slot. An `Err`, which only a new address meets, leaves
+ * it as it was. */
+EE_IN_PLACE Step slots_make_ready(const Device *_flash, const Layout *_layout, Put _put) {
+    (void)_flash;
+    (void)_layout;
+    (void)_put;
+    return DONE;
+}
+
+/* Makes room for a transfer with these values. An `Err`, which only a new address meets, leaves it
+ * as it was. */
+EE_IN_PLACE Step slots_make_room(const Device *_flash, const Layout *_layout, ListOfPut _puts) {
+    (void)_flash;
+    (void)_layout;
+    (void)_puts;
+    return DONE;
+}
+
+/* Follows a clear: it finds nothing from here on. */
+EE_IN_PLACE void slots_find_nothing(void) {
+}
+
+/* Makes a change to which no refusal applies in the first free slot. The layout and the look-up
+ * follow. */
+EE_IN_PLACE Step slots_append(Device *flash, Layout *layout, Change change) {
+    return append_change(flash, layout, change);
+}
+
+/* Makes changes to which no refusal applies with a transfer that they need. The layout and the
+ * look-up follow. */
+EE_IN_PLACE Step slots_transfer(Device *flash, Layout *layout, ListOfPut puts, bool forgets) {
+    return move_unindexed(flash, layout, puts, forgets);
+}
+
+/* ---- ee_core/store.rs: The store: it knows where the live set is and how far it is used, and
+ * finds values by a look-up. */
+
+/* A store of this device, of which this is the layout. It looks through the slots. */
+static Store store_of(Device flash, Layout layout) {
+    return store_with(flash, layout);
+}
+
+/* A store of this device, of which this is the layout. It finds values by this look-up. */
+static Store store_with(Device flash, Layout layout) {
+    return (Store){ .flash = flash, .layout = layout };
+}
+
+/* How many slots of the live set are torn, 0 to its fill: words in whose step power was cut. It
+ * reads each slot once. */
+static uint32_t store_torn_slots(const Store *self) {
+    return torn_slots(&self->flash, &self->layout);
+}
+
+/* Writes the one value of a list. */
+static WriteAllResult store_write_one(Store *self, Put put) {
+    const WriteResult write_result = store_write(self, put.address, put.value);
+    if (write_result.ok) {
+        return write_all_result_ok(write_result.value);
+    }
+    if (!write_result.ok && write_result.error == WriteFault_Off) {
+        return write_all_result_err(write_all_fault_off());
+    }
+    if (!write_result.ok && write_result.error == WriteFault_Full) {
+        return write_all_result_err(write_all_fault_full());
+    }
+    if (!write_result.ok && write_result.error == WriteFault_Spent) {
+        return write_all_result_err(write_all_fault_spent());
+    }
+    if (!write_result.ok && write_result.error == WriteFault_Cut) {
+        return write_all_result_err(write_all_fault_cut());
+    }
+    return write_all_result_err(write_all_fault_memory());
+}
+
+/* Writes two values or more, with a transfer. */
+static WriteAllResult store_write_several(Store *self, ListOfPut puts) {
+    const MaybeIndex maybe_place = first_twice(puts);
+    if (maybe_place.some) {
+        return write_all_result_err(write_all_fault_twice(maybe_place.value));
+    }
+    if (store_is_full_for_all(self, puts)) {
+        return write_all_result_err(write_all_fault_full());
+    }
+    if (store_is_last(self)) {
+        return write_all_result_err(write_all_fault_spent());
+    }
+    const Step make_room_result = slots_make_room(&self->flash, &self->layout, puts);
+    if (make_room_result != DONE) {
+        return write_all_result_err(write_all_fault_memory());
+    }
+    const Step transfer_result = slots_transfer(&self->flash, &self->layout, puts, false);
+    if (transfer_result == DONE) {
+        return write_all_result_ok(Written_Moved);
+    }
+    return write_all_result_err(write_all_fault_cut());
+}
+
+/* Whether more addresses would have a value than there are slots, with these values, each of which
+ * is of an address of its own. */
+static bool store_is_full_for_all(const Store *self, ListOfPut puts) {
+    const uint32_t slots = shape_slots(self->flash.shape);
+    return puts.len > slots || slots_live_with(&self->flash, &self->layout, puts) > slots;
+}
+
+/* Whether a write or forgetting must be refused since no generation is left for the transfer
+ * that it needs. */
+static bool store_is_spent(const Store *self) {
+    return self->layout.fill == shape_slots(self->flash.shape) &&
+            self->layout.generation == GREATEST_GENERATION;
+}
+
+/* Whether no generation is left for a transfer. */
+static bool store_is_last(const Store *self) {
+    return self->layout.generation == GREATEST_GENERATION;
+}
+
+/* Whether the address has no value and there is no slot for one more. Live addresses are counted
+ * only where every slot is used. */
+static bool store_is_full_for(const Store *self, Address address) {
+    const uint32_t slots = shape_slots(self->flash.shape);
+    if (self->layout.fill < slots) {
+        return false;
+    }
+    const MaybeU32 maybe_value_of = slots_value_of(&self->flash, &self->layout, address);
+    if (maybe_value_of.some) {
+        return false;
+    }
+    return slots_live_count(&self->flash, &self->layout) == slots;
+}
+
+/* The slots of a set, 1 to 32512: as many changes as it takes, and as many addresses can have a
+ * value. */
+static uint32_t store_slots(const Store *self) {
+    return shape_slots(self->flash.shape);
+}
+
+/* The value of an address, `None` if it has none.
+ *
+ * Errors:
+ *
+ * `Off`: the device is off. */
+static ReadResult store_read(const Store *self, Address address) {
+    if (!device_is_on(&self->flash)) {
+        return read_result_err();
+    }
+    return read_result_ok(slots_value_of(&self->flash, &self->layout, address));
+}
+
+/* Writes a value, also one that the address has already.
+ *
+ * Errors:
+ *
+ * The first `WriteFault` that applies. */
+EE_IN_PLACE WriteResult store_write(Store *self, Address address, uint32_t value) {
+    if (!device_is_on(&self->flash)) {
+        return write_result_err(WriteFault_Off);
+    }
+    if (store_is_full_for(self, address)) {
+        return write_result_err(WriteFault_Full);
+    }
+    if (store_is_spent(self)) {
+        return write_result_err(WriteFault_Spent);
+    }
+    const Step prepare_result = prepare(&self->flash, &self->layout, (Put){ .address = address,
+            .value = value });
+    if (prepare_result != DONE) {
+        return write_result_err(WriteFault_Memory);
+    }
+    const WrittenOrCut make_change_result = make_change(&self->flash, &self->layout,
+            change_put(address, value));
+    if (make_change_result.ok) {
+        return write_result_ok(make_change_result.value);
+    }
+    return write_result_err(WriteFault_Cut);
+}
+
+/* Writes these values at once: after this call, and after a cut in it too, the map has all of them
+ * or is as it was. A list of one is written as by `write`; for more the live set moves to the other
+ * set, whether a slot is free or not.
+ *
+ * Errors:
+ *
+ * The first `WriteAllFault` that applies. */
+static WriteAllResult store_write_all(Store *self, ListOfPut changes) {
+    if (!device_is_on(&self->flash)) {
+        return write_all_result_err(write_all_fault_off());
+    }
+    if (changes.len == 0u) {
+        return write_all_result_ok(Written_Appended);
+    }
+    if (changes.len == 1u) {
+        return store_write_one(self, changes.items[0u]);
+    }
+    return store_write_several(self, changes);
+}
+
+/* Takes the value of an address away.
+ *
+ * Errors:
+ *
+ * The first `ForgetFault` that applies. */
+static ForgetResult store_forget(Store *self, Address address) {
+    if (!device_is_on(&self->flash)) {
+        return forget_result_err(ForgetFault_Off);
+    }
+    const MaybeU32 maybe_value = slots_value_of(&self->flash, &self->layout, address);
+    if (!maybe_value.some) {
+        return forget_result_err(ForgetFault_Absent);
+    }
+    const uint32_t value = maybe_value.value;
+    if (store_is_spent(self)) {
+        return forget_result_err(ForgetFault_Spent);
+    }
+    const WrittenOrCut make_change_result = make_change(&self->flash, &self->layout,
+            change_forget(address, value));
+    if (make_change_result.ok) {
+        return forget_result_ok(make_change_result.value);
+    }
+    return forget_result_err(ForgetFault_Cut);
+}
+
+/* Takes the values of all addresses away at once: after this call, and after a cut in it too, none
+ * has a value or all have theirs. `false` if no slot is used: then it takes no step. Else the
+ * other set becomes the live one with nothing in it. The words of the old values stay in the
+ * flash until their set is erased.
+ *
+ * Errors:
+ *
+ * The first `ClearFault` that applies. */
+static ClearResult store_clear(Store *self) {
+    if (!device_is_on(&self->flash)) {
+        return clear_result_err(ClearFault_Off);
+    }
+    if (self->layout.fill == 0u) {
+        return clear_result_ok(false);
+    }
+    if (store_is_last(self)) {
+        return clear_result_err(ClearFault_Spent);
+    }
+    const Step empty_result = empty(&self->flash, &self->layout);
+    if (empty_result == DONE) {
+        slots_find_nothing();
+        return clear_result_ok(true);
+    }
+    return clear_result_err(ClearFault_Cut);
+}
+
+/* Erases the lowest page of the other set that is not blank. `false` if there is none.
+ *
+ * Errors:
+ *
+ * `WriteFault::Off` or `WriteFault::Cut`, and no other. */
+static CleanResult store_clean_step(Store *self) {
+    if (!device_is_on(&self->flash)) {
+        return clean_result_err(WriteFault_Off);
+    }
+    const BoolOrCut clean_result = cleaning_clean(&self->flash, &self->layout);
+    if (clean_result.ok) {
+        return clean_result_ok(clean_result.value);
+    }
+    return clean_result_err(WriteFault_Cut);
+}
+
+/* How many pages of the other set are not blank, 0 to 64. */
+static uint32_t store_pending(const Store *self) {
+    return count_pending(&self->flash, side_other(self->layout.side));
+}
+
+/* How many slots are used, torn ones too: 0 to the slots. */
+static uint32_t store_fill(const Store *self) {
+    return self->layout.fill;
+}
+
+/* The generation of the live set, 1 to 4294967294: one more with each transfer. */
+static uint32_t store_generation(const Store *self) {
+    return self->layout.generation;
+}
+
+/* How many addresses have a value, 0 to the slots. */
+static uint32_t store_live_count(const Store *self) {
+    return slots_live_count(&self->flash, &self->layout);
+}
+
+/* The next address above `after`, or of all if `after` is `None`, that has a value, with the
+ * value. `None` if there is none. */
+static MaybeLive store_next_live(const Store *self, MaybeAddress after) {
+    return slots_next_live(&self->flash, &self->layout, after);
+}
+
+/* ---- ee_core/formatting.rs: A store with nothing in it: what is written is erased, and the first
+ * set becomes the live one. */
+
+/* Erases what is not blank, makes the first set the live one with generation 1, and gives the
+ * layout. */
+static LayoutOrCut write_format(Device *flash) {
+    if (erase_all(flash) == CUT) {
+        return layout_or_cut_err();
+    }
+    if (marking_mark(flash, 0u, mark_receive(1u)) == CUT) {
+        return layout_or_cut_err();
+    }
+    if (marking_mark(flash, 0u, mark_active()) == CUT) {
+        return layout_or_cut_err();
+    }
+    return layout_or_cut_ok((Layout){ .side = Side_First, .generation = 1u, .fill = 0u,
+            .current = 0u });
+}
+
+/* Erases each page that is not blank, by rising page. */
+static Step erase_all(Device *flash) {
+    for (uint32_t page = 0u, end = 2u * flash->shape.pages; page < end; page++) {
+        if (!state_is_blank(flash, page)) {
+            if (device_erase(flash, page) == CUT) {
+                return CUT;
+            }
+        }
+    }
+    return DONE;
+}
+
+/* ---- ee_core/opening.rs: How a store comes to be: opened from a legal image, or made anew on any
+ * device. */
+
+/* Opens the store of a legal image, on a device that is on, and sets the marks that a cut left to
+ * set. The variables are as before. Where no mark was left it takes no step.
+ *
+ * Errors:
+ *
+ * The device and the first `OpenFault` that applies. */
+static OpenResult opening_open(Device flash) {
+    Layout layout;
+    const ScanResult scan_result = scan(&flash);
+    if (scan_result.ok) {
+        layout = scan_result.value;
+    } else {
+        const ScanFault fault = scan_result.error;
+        return open_result_err((OpenRefusal){ .first = flash, .second = open_fault_scan(fault) });
+    }
+    const Step finish_result = finish(&flash, &layout);
+    if (finish_result == DONE) {
+        return open_result_ok(store_of(flash, layout));
+    }
+    return open_result_err((OpenRefusal){ .first = flash, .second = open_fault_cut() });
+}
+
+/* Makes a store with nothing in it, of a device that is on: each page that is not blank is erased,
+ * by rising page, and the first set becomes the live set with generation 1.
+ *
+ * Errors:
+ *
+ * The device, off: power failed. What it held is gone in part, until a `format` ends. */
+static FormatResult opening_format(Device flash) {
+    const LayoutOrCut write_format_result = write_format(&flash);
+    if (write_format_result.ok) {
+        const Layout layout = write_format_result.value;
+        return format_result_ok(store_of(flash, layout));
+    }
+    return format_result_err((FormatRefusal){ .first = flash });
+}
+
+/* ---- ee_core/first_start.rs: The call for whenever a device is switched on: it opens the store,
+ * or makes the first one. */
+
+/* Opens the store of a device that is on, as `open` does, or makes the first one, as `format`
+ * does: on
+ * a device in which no set is committed and no word behind a page's header can be read, torn words
+ * or not. So it is the call to make whenever the device is switched on: a first start in which
+ * power
+ * is cut is made again, and no word that may be a value is ever erased.
+ *
+ * Errors:
+ *
+ * The device and the first `OpenFault` that applies. At a fault of the scan nothing changed. After
+ * a
+ * cut the variables are as before: in a first start there are none. */
+static OpenResult first_start_start(Device flash) {
+    Device flash_2;
+    OpenFault fault;
+    const OpenResult open_result = opening_open(flash);
+    if (open_result.ok) {
+        return open_result_ok(open_result.value);
+    }
+    flash_2 = open_result.error.first;
+    fault = open_result.error.second;
+    if (fault.tag != OpenFault_Scan) {
+        return open_result_err((OpenRefusal){ .first = flash_2, .second = fault });
+    }
+    const ScanFault scan = fault.scan;
+    if (!is_startable(&flash_2, scan)) {
+        return open_result_err((OpenRefusal){ .first = flash_2, .second = fault });
+    }
+    return start_anew(flash_2);
+}
+
+/* Whether a device of which a scan says this can be started. */
+static bool is_startable(const Device *flash, ScanFault fault) {
+    switch (fault.tag) {
+    case ScanFault_Unformatted:
+        return true;
+    case ScanFault_NoLiveSet:
+        return holds_none(flash);
+    case ScanFault_TwoLive:
+        return false;
+    case ScanFault_Foreign:
+    default:
+        return false;
+    }
+}
+
+/* Whether no word behind a page's header can be read. */
+static bool holds_none(const Device *flash) {
+    for (uint32_t page = 0u, end = 2u * flash->shape.pages; page < end; page++) {
+        if (page_holds(flash, page)) {
+            return false;
+        }
+    }
+    return true;
+}
+
+/* Whether a word behind the header of a page can be read. */
+static bool page_holds(const Device *flash, uint32_t page) {
+    for (uint32_t at = HEADER_WORDS, end = flash->shape.words; at < end; at++) {
+        const Word word = device_word(flash, page, at);
+        if (word.tag == Word_Held) {
+            return true;
+        }
+    }
+    return false;
+}
+
+/* Makes the first store. */
+static OpenResult start_anew(Device flash) {
+    const LayoutOrCut write_format_result = write_format(&flash);
+    if (write_format_result.ok) {
+        const Layout layout = write_format_result.value;
+        return open_result_ok(store_of(flash, layout));
+    }
+    return open_result_err((OpenRefusal){ .first = flash, .second = open_fault_cut() });
+}
+
+/* ---- ee_core/rescuing.rs: A rescue: the map that a set says is moved to the other set, whatever
+ * stands in either. */
+
+/* Makes a store as `rescue` does, and counts no bad words, so that firmware that doesn't ask for
+ * them carries no code for it. Gives how many addresses have a value, 0 to the capacity.
+ *
+ * Errors:
+ *
+ * The device and the first `RescueFault` that applies. */
+static RescueResult rescue_uncounted(Device flash) {
+    const MaybeSide maybe_side = rescued_side(&flash);
+    if (!maybe_side.some) {
+        return rescue_result_err((RescueRefusal){ .first = flash,
+                .second = RescueFault_NothingBegun });
+    }
+    const Side side = maybe_side.value;
+    const uint32_t generation = named_generation(&flash, side);
+    if (generation == GREATEST_GENERATION) {
+        return rescue_result_err((RescueRefusal){ .first = flash, .second = RescueFault_Spent });
+    }
+    const LayoutOrCut rescue_set_result = rescue_set(&flash, side, generation);
+    if (rescue_set_result.ok) {
+        const Layout layout = rescue_set_result.value;
+        const uint32_t live = layout.fill;
+        return rescue_result_ok((RescuedStore){ .first = store_of(flash, layout), .second = live });
+    }
+    return rescue_result_err((RescueRefusal){ .first = flash, .second = RescueFault_Cut });
+}
+
+/* Moves the map that a set says to the other set, in the generation above this one, which is no
+ * smaller than the one that the set is committed with. Gives the layout there. */
+static LayoutOrCut rescue_set(Device *flash, Side side, uint32_t generation) {
+    Layout layout = (Layout){ .side = side, .generation = generation, .fill = 0u, .current = 0u };
+    if (transfer_by_slots(flash, &layout, (ListOfPut){ .items = NULL, .len = 0u }, false) == CUT) {
+        return layout_or_cut_err();
+    }
+    return layout_or_cut_ok(layout);
+}
+
+/* ---- ee_pairs/pairs.rs: A device of words on a flash of numbers. */
+
+/* The word that two numbers are: erased where both are `u64::MAX`, held where the second is the
+ * complement of the first, which
+ * is below `u64::MAX`; else torn. */
+static Word word_of(uint64_t number, uint64_t check) {
+    if (number == UINT64_MAX) {
+        if (check == UINT64_MAX) {
+            return word_erased();
+        }
+        return word_torn();
+    }
+    if (check == complement_of(number)) {
+        return word_held(number);
+    }
+    return word_torn();
+}
+
+/* The number that has a one where this one has a zero. */
+static uint64_t complement_of(uint64_t number) {
+    return UINT64_MAX - number;
+}
+
+/* What a word holds, whether power is on or off. */
+static Word pairs_word(const Numbers *self, uint32_t page, uint32_t at) {
+    const uint64_t number = numbers_read(self, page, 2u * at);
+    const uint64_t check = numbers_read(self, page, 2u * at + 1u);
+    return word_of(number, check);
+}
+
+/* The numbers of the words from a place on, as many as there is room for, whether power is on
+ * or off: `u64::MAX` of an erased word, 0 of a torn one. They stand in the room, or where the
+ * device has them. `word` tells a torn word from one that holds 0. */
+static ListOfU64 pairs_run(const Numbers *self, uint32_t page, uint32_t at, RoomOfU64 room) {
+    fill_run(self, page, at, room);
+    return (ListOfU64){ .items = room.items, .len = room.len };
+}
+
+/* The complement of 0 is what an erased place reads as. */
+static Step pairs_program(Numbers *self, uint32_t page, uint32_t at, uint64_t value) {
+    if (numbers_program(self, page, 2u * at, value) == CUT) {
+        return CUT;
+    }
+    const uint64_t check = complement_of(value);
+    if (check == UINT64_MAX) {
+        return DONE;
+    }
+    return numbers_program(self, page, 2u * at + 1u, check);
+}
+
+/* ---- ee_pairs/runs.rs: The numbers of words one behind another, each of two numbers of the
+ * flash. */
+
+/* Puts the numbers of as many words as there is room for into the room, from a place of a page on:
+ * those that the flash has in memory are not read one by one. */
+static void fill_run(const Numbers *nor, uint32_t page, uint32_t at, RoomOfU64 room) {
+    const ListOfU64 maybe_window = numbers_window(nor, page, 2u * at, 2u * room.len);
+    if (maybe_window.items != NULL) {
+        const ListOfU64 numbers = maybe_window;
+        fill_from_window(numbers, room);
+    } else {
+        fill_by_reading(nor, page, at, room);
+    }
+}
+
+/* The same of numbers in memory, two of each word. */
+static void fill_from_window(ListOfU64 numbers, RoomOfU64 room) {
+    for (uint32_t word = 0u; word < room.len; word++) {
+        uint64_t *const number = &room.items[word];
+        *number = number_of_pair(numbers.items[2u * word], numbers.items[2u * word + 1u]);
+    }
+}
+
+/* The same of numbers that are read. */
+static void fill_by_reading(const Numbers *nor, uint32_t page, uint32_t at, RoomOfU64 room) {
+    for (uint32_t word = 0u; word < room.len; word++) {
+        uint64_t *const number = &room.items[word];
+        const uint32_t first = 2u * (at + word);
+        const uint64_t number_2 = numbers_read(nor, page, first);
+        const uint64_t check = numbers_read(nor, page, first + 1u);
+        *number = number_of_pair(number_2, check);
+    }
+}
+
+/* The number of the word that two numbers are: `u64::MAX` of an erased word, 0 of a torn one. */
+static uint64_t number_of_pair(uint64_t number, uint64_t check) {
+    return word_number(word_of(number, check));
+}
+
+/* ---- ee_pairs/low_pair.rs: The first word of a flash of numbers whose numbers sum to less than
+ * all ones. */
+
+/* The first word whose numbers sum to less than all ones. */
+static MaybeLowPair first_low(const Numbers *nor) {
+    for (uint32_t page = 0u, end = 2u * nor->shape.pages; page < end; page++) {
+        const MaybeIndex maybe_word = first_low_in(nor, page);
+        if (maybe_word.some) {
+            const uint32_t word = maybe_word.value;
+            return maybe_low_pair_some((LowPair){ .page = page, .word = word });
+        }
+    }
+    return maybe_low_pair_none();
+}
+
+/* The first such word of a page. */
+static MaybeIndex first_low_in(const Numbers *nor, uint32_t page) {
+    const uint32_t words = nor->shape.words;
+    uint32_t from = 0u;
+    while (from < words) {
+        const uint32_t count = u32_least(STRETCH, words - from);
+        const MaybeIndex maybe_word = first_low_from(nor, page, from, count);
+        if (maybe_word.some) {
+            return maybe_index_some(maybe_word.value);
+        }
+        from += count;
+    }
+    return maybe_index_none();
+}
+
+/* The first such word of so many of a page, from this one on. */
+static MaybeIndex first_low_from(const Numbers *nor, uint32_t page, uint32_t from, uint32_t count) {
+    const ListOfU64 maybe_window = numbers_window(nor, page, 2u * from, 2u * count);
+    if (maybe_window.items != NULL) {
+        const ListOfU64 numbers = maybe_window;
+        const MaybeIndex maybe_low_in_window = low_in_window(numbers, count);
+        if (maybe_low_in_window.some) {
+            const uint32_t word = maybe_low_in_window.value;
+            return maybe_index_some(from + word);
+        }
+        return maybe_index_none();
+    }
+    return low_read(nor, page, from, count);
+}
+
+/* The first such word of so many whose numbers stand in memory, two of each. */
+static MaybeIndex low_in_window(ListOfU64 numbers, uint32_t count) {
+    for (uint32_t word = 0u; word < count; word++) {
+        if (is_low(numbers.items[2u * word], numbers.items[2u * word + 1u])) {
+            return maybe_index_some(word);
+        }
+    }
+    return maybe_index_none();
+}
+
+/* The first such word of so many that are read. */
+static MaybeIndex low_read(const Numbers *nor, uint32_t page, uint32_t from, uint32_t count) {
+    for (uint32_t word = from, end = from + count; word < end; word++) {
+        const uint64_t number = numbers_read(nor, page, 2u * word);
+        const uint64_t check = numbers_read(nor, page, 2u * word + 1u);
+        if (is_low(number, check)) {
+            return maybe_index_some(word);
+        }
+    }
+    return maybe_index_none();
+}
+
+/* Whether two numbers sum to less than `u64::MAX`, as those of no word do that a store wrote. */
+static bool is_low(uint64_t number, uint64_t check) {
+    return check < UINT64_MAX - number;
+}
+
+/* ---- ee_pairs/wiping.rs: A flash of numbers made blank. */
+
+/* Erases each page that holds something, by rising page. */
+static Step wipe(Numbers *nor) {
+    for (uint32_t page = 0u, end = 2u * nor->shape.pages; page < end; page++) {
+        if (!wiping_is_blank(nor, page)) {
+            if (numbers_erase(nor, page) == CUT) {
+                return CUT;
+            }
+        }
+    }
+    return DONE;
+}
+
+/* Whether each number of a page is all ones. */
+static bool wiping_is_blank(const Numbers *nor, uint32_t page) {
+    for (uint32_t at = 0u, end = 2u * nor->shape.words; at < end; at++) {
+        if (numbers_read(nor, page, at) != UINT64_MAX) {
+            return false;
+        }
+    }
+    return true;
+}
+
+/* ---- By hand: the thirteen calls of ee.h. A store stays in the memory that the caller lends. */
+
+/* The memory has the size that the files of assembly take, and more where a pointer has 16 bits. */
+typedef char ee_store_has_its_size[sizeof(ee_store) == (sizeof(uintptr_t) < 4u ? 32u :
+        8u * sizeof(uintptr_t)) ? 1 : -1];
+
+/* Why the store in memory that C lends is not on, or EE_OK. A copy of a store is off: its device
+ * looks at the memory that it was opened in. */
+static ee_result standing(const ee_store *memory) {
+    if (memory == NULL) {
+        return EE_NULL;
+    }
+    const ee_flash *const *const power = &memory->memory.parts.flash;
+    if (*power == NULL || memory->memory.parts.store.flash.power != power) {
+        return EE_OFF;
+    }
+    return EE_OK;
+}
+
+/* The status of a call that answered this: what a store says counts only where its flash didn't
+ * fail. */
+static ee_result status_of(const ee_store *memory, ee_result status) {
+    return memory->memory.parts.flash == NULL ? (ee_result)EE_DRIVER : status;
+}
+
+static ee_result scan_status(ScanFault fault) {
+    switch (fault.tag) {
+    case ScanFault_Unformatted:
+        return EE_UNFORMATTED;
+    case ScanFault_NoLiveSet:
+        return EE_NO_LIVE_SET;
+    case ScanFault_TwoLive:
+        return EE_TWO_LIVE;
+    case ScanFault_Foreign:
+    default:
+        return EE_FOREIGN;
+    }
+}
+
+/* The flash of C as a device in memory that is on, where its members are in range; else why not. */
+static ee_result device_in(ee_store *memory, const ee_flash *flash, Device *device) {
+    if (memory == NULL) {
+        return EE_NULL;
+    }
+    memory->memory.parts.flash = NULL;
+    if (flash == NULL || flash->word == NULL || flash->program == NULL || flash->erase == NULL) {
+        return EE_NULL;
+    }
+    const MaybeShape shape = shape_new(flash->pages, flash->page_words);
+    if (!shape.some || flash->pairs > 2u) {
+        return EE_WRONG_SHAPE;
+    }
+    memory->memory.parts.flash = flash;
+    *device = (Device){ .power = &memory->memory.parts.flash, .shape = shape.value };
+    return EE_OK;
+}
+
+/* An opening ends with this status: the store is off unless it is EE_OK. */
+static ee_result opening_ended(ee_store *memory, ee_result status) {
+    const ee_result ended = status_of(memory, status);
+    if (ended != EE_OK) {
+        memory->memory.parts.flash = NULL;
+    }
+    return ended;
+}
+
+/* Keeps what an opening gave, and gives its status. */
+static ee_result keep_opened(ee_store *memory, const OpenResult *answer) {
+    if (answer->ok) {
+        memory->memory.parts.store = answer->value;
+        return EE_OK;
+    }
+    if (answer->error.second.tag == OpenFault_Scan) {
+        return scan_status(answer->error.second.scan);
+    }
+    return EE_DRIVER;
+}
+
+/* Looks a flash of numbers through before it is opened, unless its erases clear first: EE_FOREIGN
+ * where a word is no store's. */
+static ee_result looked_through(const Device *device) {
+    const ee_flash *const flash = *device->power;
+    if (flash->pairs == 1u) {
+        const Numbers numbers = numbers_of(device, flash);
+        if (first_low(&numbers).some) {
+            return EE_FOREIGN;
+        }
+    }
+    return EE_OK;
+}
+
+/* Whether a word is written that a first start which was cut doesn't leave: any but the first two
+ * of
+ * page 0, or but those of page 0 where an erase clears first. */
+static bool holds_more(const Device *device, bool clears_first) {
+    for (uint32_t at = clears_first ? device->shape.words : 2u; at < device->shape.words; at++) {
+        if (is_written(device_word(device, 0u, at))) {
+            return true;
+        }
+    }
+    for (uint32_t page = 1u; page < 2u * device->shape.pages; page++) {
+        if (!state_is_blank(device, page)) {
+            return true;
+        }
+    }
+    return false;
+}
+
+ee_result ee_open(ee_store *store, const ee_flash *flash) {
+    Device device;
+    ee_result status = device_in(store, flash, &device);
+    if (status != EE_OK) {
+        return status;
+    }
+    status = looked_through(&device);
+    if (status == EE_OK) {
+        const OpenResult answer = opening_open(device);
+        status = keep_opened(store, &answer);
+    }
+    return opening_ended(store, status);
+}
+
+/* Where a flash of numbers holds more than a first start leaves it is opened, and no first store
+ * made there. */
+ee_result ee_start(ee_store *store, const ee_flash *flash) {
+    Device device;
+    ee_result status = device_in(store, flash, &device);
+    if (status != EE_OK) {
+        return status;
+    }
+    status = looked_through(&device);
+    if (status == EE_OK) {
+        const bool holds = flash->pairs != 0u && holds_more(&device, flash->pairs == 2u);
+        const OpenResult answer = holds ? opening_open(device) : first_start_start(device);
+        status = keep_opened(store, &answer);
+    }
+    return opening_ended(store, status);
+}
+
+ee_result ee_format(ee_store *store, const ee_flash *flash) {
+    Device device;
+    const ee_result status = device_in(store, flash, &device);
+    if (status != EE_OK) {
+        return status;
+    }
+    if (flash->pairs != 0u) {
+        Numbers numbers = numbers_of(&device, flash);
+        /* Where it fails the device is off. */
+        (void)wipe(&numbers);
+    }
+    const FormatResult answer = opening_format(device);
+    if (!answer.ok) {
+        return opening_ended(store, EE_DRIVER);
+    }
+    store->memory.parts.store = answer.value;
+    return opening_ended(store, EE_OK);
+}
+
+static ee_result rescue_status(RescueFault fault) {
+    switch (fault) {
+    case RescueFault_NothingBegun:
+        return EE_NOTHING;
+    case RescueFault_Spent:
+        return EE_SPENT;
+    case RescueFault_Cut:
+    default:
+        return EE_DRIVER;
+    }
+}
+
+/* A pair of numbers that no store wrote is torn here, where an opening refuses it. */
+ee_result ee_rescue(ee_store *store, const ee_flash *flash) {
+    Device device;
+    const ee_result status = device_in(store, flash, &device);
+    if (status != EE_OK) {
+        return status;
+    }
+    const RescueResult answer = rescue_uncounted(device);
+    if (!answer.ok) {
+        return opening_ended(store, rescue_status(answer.error.second));
+    }
+    store->memory.parts.store = answer.value.first;
+    return opening_ended(store, EE_OK);
+}
+
+ee_result ee_bad_words(const ee_flash *flash, uint32_t *count) {
+    ee_store looked;
+    Device device;
+    const ee_result status = device_in(&looked, flash, &device);
+    if (status != EE_OK) {
+        return status;
+    }
+    if (count == NULL) {
+        return EE_NULL;
+    }
+    const uint32_t bad = bad_words(&device);
+    const ee_result answer = status_of(&looked, EE_OK);
+    if (answer == EE_OK) {
+        *count = bad;
+    }
+    return answer;
+}
+
+static ee_result write_status(WriteFault fault) {
+    switch (fault) {
+    case WriteFault_Off:
+        return EE_OFF;
+    case WriteFault_Full:
+    case WriteFault_Memory: /* This store keeps no index, and never says it. */
+        return EE_FULL;
+    case WriteFault_Spent:
+        return EE_SPENT;
+    case WriteFault_Cut:
+    default:
+        return EE_DRIVER;
+    }
+}
+
+ee_result ee_write(ee_store *store, uint16_t address, uint32_t value) {
+    const ee_result standing_so = standing(store);
+    if (standing_so != EE_OK) {
+        return standing_so;
+    }
+    if (!address_new(address).some) {
+        return EE_WRONG_NUMBER;
+    }
+    const WriteResult answer = store_write(&store->memory.parts.store, address, value);
+    return status_of(store, answer.ok ? (ee_result)EE_OK : write_status(answer.error));
+}
+
+static ee_result write_all_status(WriteAllFault fault) {
+    switch (fault.tag) {
+    case WriteAllFault_Off:
+        return EE_OFF;
+    case WriteAllFault_Twice:
+        return EE_TWICE;
+    case WriteAllFault_Full:
+    case WriteAllFault_Memory: /* As of `write_status`. */
+        return EE_FULL;
+    case WriteAllFault_Spent:
+        return EE_SPENT;
+    case WriteAllFault_Cut:
+    default:
+        return EE_DRIVER;
+    }
+}
+
+ee_result ee_write_all(ee_store *store, const ee_value *values, uint32_t count) {
+    const ee_result standing_so = standing(store);
+    if (standing_so != EE_OK) {
+        return standing_so;
+    }
+    if (values == NULL) {
+        return EE_NULL;
+    }
+    for (uint32_t at = 0u; at < count; at++) {
+        if (!address_new(values[at].address).some) {
+            return EE_WRONG_NUMBER;
+        }
+    }
+    const ListOfPut list = { .items = values, .len = count };
+    const WriteAllResult answer = store_write_all(&store->memory.parts.store, list);
+    return status_of(store, answer.ok ? (ee_result)EE_OK : write_all_status(answer.error));
+}
+
+static ee_result forget_status(ForgetFault fault) {
+    switch (fault) {
+    case ForgetFault_Off:
+        return EE_OFF;
+    case ForgetFault_Absent:
+        return EE_ABSENT;
+    case ForgetFault_Spent:
+        return EE_SPENT;
+    case ForgetFault_Cut:
+    default:
+        return EE_DRIVER;
+    }
+}
+
+ee_result ee_forget(ee_store *store, uint16_t address) {
+    const ee_result standing_so = standing(store);
+    if (standing_so != EE_OK) {
+        return standing_so;
+    }
+    if (!address_new(address).some) {
+        return EE_WRONG_NUMBER;
+    }
+    const ForgetResult answer = store_forget(&store->memory.parts.store, address);
+    return status_of(store, answer.ok ? (ee_result)EE_OK : forget_status(answer.error));
+}
+
+static ee_result clear_status(ClearFault fault) {
+    switch (fault) {
+    case ClearFault_Off:
+        return EE_OFF;
+    case ClearFault_Spent:
+        return EE_SPENT;
+    case ClearFault_Cut:
+    default:
+        return EE_DRIVER;
+    }
+}
+
+ee_result ee_clear(ee_store *store) {
+    const ee_result standing_so = standing(store);
+    if (standing_so != EE_OK) {
+        return standing_so;
+    }
+    const ClearResult answer = store_clear(&store->memory.parts.store);
+    return status_of(store, answer.ok ? (ee_result)EE_OK : clear_status(answer.error));
+}
+
+ee_result ee_clean(ee_store *store) {
+    const ee_result standing_so = standing(store);
+    if (standing_so != EE_OK) {
+        return standing_so;
+    }
+    const CleanResult answer = store_clean_step(&store->memory.parts.store);
+    return status_of(store, answer.ok && answer.value ? (ee_result)EE_OK : (ee_result)EE_NOTHING);
+}
+
+ee_result ee_read(const ee_store *store, uint16_t address, uint32_t *value) {
+    const ee_result standing_so = standing(store);
+    if (standing_so != EE_OK) {
+        return standing_so;
+    }
+    if (value == NULL) {
+        return EE_NULL;
+    }
+    if (!address_new(address).some) {
+        return EE_WRONG_NUMBER;
+    }
+    const ReadResult answer = store_read(&store->memory.parts.store, address);
+    const bool found = answer.ok && answer.value.some;
+    const ee_result status = status_of(store, found ? (ee_result)EE_OK : (ee_result)EE_NOTHING);
+    if (status == EE_OK) {
+        *value = answer.value.value;
+    }
+    return status;
+}
+
+ee_result ee_next(const ee_store *store, uint16_t *address, uint32_t *value) {
+    const ee_result standing_so = standing(store);
+    if (standing_so != EE_OK) {
+        return standing_so;
+    }
+    if (address == NULL || value == NULL) {
+        return EE_NULL;
+    }
+    const MaybeAddress after = address_new(*address);
+    if (*address != 0u && !after.some) {
+        return EE_WRONG_NUMBER;
+    }
+    const MaybeLive found = store_next_live(&store->memory.parts.store, after);
+    const ee_result answer = found.some ? (ee_result)EE_OK : (ee_result)EE_NOTHING;
+    const ee_result status = status_of(store, answer);
+    if (status == EE_OK) {
+        *address = found.value.first;
+        *value = found.value.second;
+    }
+    return status;
+}
+
+ee_result ee_counts(const ee_store *store, ee_numbers *numbers) {
+    const ee_result standing_so = standing(store);
+    if (standing_so != EE_OK) {
+        return standing_so;
+    }
+    if (numbers == NULL) {
+        return EE_NULL;
+    }
+    const Store *const it = &store->memory.parts.store;
+    const uint32_t live = store_live_count(it);
+    const uint32_t torn = store_torn_slots(it);
+    const uint32_t pending = store_pending(it);
+    const ee_result status = status_of(store, EE_OK);
+    if (status == EE_OK) {
+        *numbers = (ee_numbers){ .slots = store_slots(it), .fill = store_fill(it), .live = live,
+            .pending = pending, .torn = torn, .generation = store_generation(it) };
+    }
+    return status;
+}

@@ -1,0 +1,214 @@
+#include "stm32g0.h"
+
+#include <stddef.h>
+
+/* What a test puts in place of the part. On the part these are plain reads and writes, and a barrier behind which all of
+ * them are done, and an NMI that they raise has come. */
+#ifndef STM32G0_SET
+#define STM32G0_SET(address, value) (*(address) = (value))
+#define STM32G0_GET(address) (*(address))
+/* A page takes 40 ms to be erased, and a turn of the loop some cycles of at most 64 MHz. */
+#define STM32G0_MOST_TURNS 4000000
+#ifdef __arm__
+#define STM32G0_BARRIER() __asm__ volatile("dsb\n\tisb" : : : "memory")
+#else
+#define STM32G0_BARRIER() ((void)0)
+#endif
+#endif
+
+/* What is done in each turn of the loop that waits for a step's end: yours, as feeding a watchdog. */
+#ifndef STM32G0_WAIT
+#define STM32G0_WAIT() ((void)0)
+#endif
+
+enum {
+    KEY_1 = 0x45670123,
+    KEY_2 = (int32_t)0xcdef89ab,
+    SR_EOP = 1 << 0,
+    SR_ERRORS = 0xc3fa, /* OPERR, PROGERR, WRPERR, PGAERR, SIZERR, PGSERR, MISERR, FASTERR, RDERR, OPTVERR */
+    SR_BUSY = 7 << 16, /* BSY1, BSY2, CFGBSY */
+    CR_PG = 1 << 0,
+    CR_PER = 1 << 1,
+    CR_PNB_SHIFT = 3,
+    CR_BKER_SHIFT = 13,
+    CR_STRT = 1 << 16,
+    PAGE_WORDS = 256
+};
+static const uint32_t ACR_ICEN = 1u << 9, ACR_ICRST = 1u << 11;
+static const uint32_t CR_LOCK = 1u << 31;
+static const uint32_t ECCR_ADDR = 0x7ffff, ECCR_SYSF = 1u << 20, ECCR_ECCIE = 1u << 24;
+static const uint32_t ECCR_ECCC = 1u << 30, ECCR_ECCD = 1u << 31;
+
+/* Whether the flash ends what it does. */
+static int is_ready(stm32g0_registers *registers) {
+    for (uint32_t turn = 0; turn < STM32G0_MOST_TURNS; turn++) {
+        if ((STM32G0_GET(&registers->sr) & SR_BUSY) == 0) return 1;
+        STM32G0_WAIT();
+    }
+    return 0;
+}
+
+/* Takes the errors of before away, and unlocks the control register. */
+static int begin(stm32g0_registers *registers) {
+    if (!is_ready(registers)) return 0;
+    STM32G0_SET(&registers->sr, SR_ERRORS | SR_EOP);
+    if (STM32G0_GET(&registers->cr) & CR_LOCK) {
+        STM32G0_SET(&registers->keyr, (uint32_t)KEY_1);
+        STM32G0_SET(&registers->keyr, (uint32_t)KEY_2);
+    }
+    return (STM32G0_GET(&registers->cr) & CR_LOCK) == 0;
+}
+
+/* Waits for the end, and locks the control register. Whether there was no error. */
+static int end(stm32g0_registers *registers) {
+    int is_well = is_ready(registers) && (STM32G0_GET(&registers->sr) & SR_ERRORS) == 0;
+    STM32G0_SET(&registers->cr, 0);
+    STM32G0_SET(&registers->cr, CR_LOCK);
+    return is_well;
+}
+
+/* Turns the cache off: what is read then is what the flash has. What the register was. */
+static uint32_t cache_off(stm32g0_registers *registers) {
+    uint32_t acr = STM32G0_GET(&registers->acr);
+    STM32G0_SET(&registers->acr, acr & ~ACR_ICEN);
+    return acr;
+}
+
+/* Empties the cache, which is off, for whoever else reads the pages, and turns it on where it was on. */
+static void cache_as(stm32g0_registers *registers, uint32_t acr) {
+    STM32G0_SET(&registers->acr, (acr & ~ACR_ICEN) | ACR_ICRST);
+    STM32G0_SET(&registers->acr, acr & ~ACR_ICEN);
+    STM32G0_SET(&registers->acr, acr);
+    STM32G0_BARRIER();
+}
+
+/* The register that tells the errors of the bank. */
+static volatile uint32_t *eccr_of(const stm32g0 *part) {
+    return part->bank ? &part->registers->ecc2r : &part->registers->eccr;
+}
+
+/* Clears those of the flags that stand. A flag is cleared by a 1, so the others are written with 0, and stay. */
+static void clear_flags(const stm32g0 *part, uint32_t eccr, uint32_t flags) {
+    STM32G0_SET(eccr_of(part), (eccr & ECCR_ECCIE) | (eccr & flags));
+    STM32G0_BARRIER();
+}
+
+/* Takes the flag of a corrected error away: while it stands the part tells no other error's address. */
+static void note_corrected(stm32g0 *part) {
+    uint32_t eccr = STM32G0_GET(eccr_of(part));
+    if ((eccr & ECCR_ECCC) == 0) return;
+    part->corrected = eccr;
+    clear_flags(part, eccr, ECCR_ECCC);
+}
+
+/* Whether the last error was in this word. It is kept until an erase, since a second read may raise no NMI. */
+static int has_error(const stm32g0 *part, uint32_t page, uint32_t place) {
+    uint32_t number = (part->first_page + page) * PAGE_WORDS + place, error = part->error;
+    return (error & ECCR_ECCD) != 0 && (error & ECCR_ADDR) == number;
+}
+
+static volatile uint32_t *word_at(const stm32g0 *part, uint32_t page, uint32_t place) {
+    return part->flash + 2 * (page * PAGE_WORDS + place);
+}
+
+/* Reads a word while the cache is off. */
+static uint32_t look(stm32g0 *part, uint32_t page, uint32_t place, uint64_t *value) {
+    volatile uint32_t *at = word_at(part, page, place);
+    note_corrected(part);
+    STM32G0_BARRIER(); /* the cache is off */
+    uint32_t low = STM32G0_GET(&at[0]);
+    uint32_t high = STM32G0_GET(&at[1]);
+    STM32G0_BARRIER(); /* the NMI of the two reads has come */
+    *value = (uint64_t)high << 32 | low;
+    return (uint32_t)has_error(part, page, place);
+}
+
+static uint32_t word(void *context, uint32_t page, uint32_t place, uint64_t *value) {
+    stm32g0 *part = context;
+    uint32_t acr = cache_off(part->registers);
+    uint32_t status = look(part, page, place, value);
+    STM32G0_SET(&part->registers->acr, acr);
+    return status;
+}
+
+/* Reads words into the port's room, up to the first that can't be read. */
+static const uint64_t *words(void *context, uint32_t page, uint32_t place, uint32_t count) {
+    stm32g0 *part = context;
+    uint32_t acr = cache_off(part->registers), read = 0;
+    while (read < count && look(part, page, place + read, &part->run[read]) == 0) read++;
+    STM32G0_SET(&part->registers->acr, acr);
+    return read == count ? part->run : NULL;
+}
+
+static uint32_t programmed(stm32g0 *part, uint32_t page, uint32_t place, uint64_t value) {
+    volatile uint32_t *at = word_at(part, page, place);
+    uint64_t found;
+    if (!begin(part->registers)) return 1;
+    STM32G0_SET(&part->registers->cr, CR_PG);
+    STM32G0_SET(&at[0], (uint32_t)value);
+    STM32G0_SET(&at[1], (uint32_t)(value >> 32));
+    STM32G0_BARRIER(); /* the flash is busy */
+    if (!end(part->registers)) return 1;
+    return look(part, page, place, &found) != 0 || found != value;
+}
+
+static uint32_t erased(stm32g0 *part, uint32_t page) {
+    uint32_t number = part->first_page + page;
+    uint64_t found;
+    if (!begin(part->registers)) return 1;
+    uint32_t which = CR_PER | number << CR_PNB_SHIFT | part->bank << CR_BKER_SHIFT;
+    STM32G0_SET(&part->registers->cr, which);
+    STM32G0_SET(&part->registers->cr, which | CR_STRT);
+    if (!end(part->registers)) return 1;
+    part->error = 0;
+    for (uint32_t place = 0; place < PAGE_WORDS; place++) {
+        if (look(part, page, place, &found) != 0 || found != UINT64_MAX) return 1;
+    }
+    return 0;
+}
+
+/* The cache is off from before the write until it was emptied behind it. */
+static uint32_t program(void *context, uint32_t page, uint32_t place, uint64_t value) {
+    stm32g0 *part = context;
+    uint32_t acr = cache_off(part->registers);
+    uint32_t status = programmed(part, page, place, value);
+    cache_as(part->registers, acr);
+    return status;
+}
+
+static uint32_t erase(void *context, uint32_t page) {
+    stm32g0 *part = context;
+    uint32_t acr = cache_off(part->registers);
+    uint32_t status = erased(part, page);
+    cache_as(part->registers, acr);
+    return status;
+}
+
+ee_flash stm32g0_flash(stm32g0 *part, uint32_t pages) {
+    ee_flash flash = {
+        .context = part,
+        .pages = pages,
+        .page_words = PAGE_WORDS,
+        .word = word,
+        .program = program,
+        .erase = erase,
+        .pairs = 0,
+        .words = words,
+    };
+    part->pages = 2 * pages;
+    return flash;
+}
+
+/* Whether the error that the register tells is in the store's pages. */
+static int is_in_pages(const stm32g0 *part, uint32_t eccr) {
+    uint32_t page = (eccr & ECCR_ADDR) / PAGE_WORDS - part->first_page;
+    return (eccr & ECCR_SYSF) == 0 && page < part->pages;
+}
+
+int stm32g0_nmi(stm32g0 *part) {
+    uint32_t eccr = STM32G0_GET(eccr_of(part));
+    if ((eccr & ECCR_ECCD) == 0 || (eccr & ECCR_ECCC) != 0 || !is_in_pages(part, eccr)) return 0;
+    part->error = eccr;
+    clear_flags(part, eccr, ECCR_ECCD);
+    return 1;
+}

@@ -1,0 +1,252 @@
+"""Models of parts without error correction: STM32F1 and STM32F4, whose cells go one way, and the flash beside an RP2040, whose
+erase clears the cells of its sector first."""
+from unicorn import arm_const as arm
+
+from core import check
+from parts import ONES, Part, Stm32, part_of
+
+
+class OneWay(Stm32):
+    """A controller of cells that a program only clears and an erase only sets."""
+
+    KEYR, SR, CR, ACR = 4, 12, 16, 0
+
+    def blank(self):
+        return [(1 << self.BITS) - 1] * self.COUNT
+
+    def leave(self, cells, at, value):
+        cells[at] = value
+
+    def tear(self, cells, at, value):
+        """Any of the bits that the step changes are changed."""
+        bits = self.dice.choice((0, ONES, self.any_bits()))
+        cells[at] ^= (cells[at] ^ value) & bits
+
+
+class Stm32f1(OneWay):
+    """Four pages of 1 KB of half words. There is no cache of data."""
+
+    BASE, PLACE, FLASH, SIZE, BITS, COUNT, PAGES = 0x40022000, 0, 0x0800f000, 0x1000, 16, 2048, 4
+    LOCK, STRT, BSY, ERROR, AR = 1 << 7, 1 << 6, 1, 1 << 2, 20
+    AFTER_RESET = {OneWay.ACR: 0x30, AR: 0}
+
+    def regions(self):
+        return [(self.BASE, 0x1000, self.read_register, self.write_register),
+                (self.FLASH, self.SIZE, self.read_flash, self.write_flash)]
+
+    def set(self, offset, value):
+        check(offset == self.AR and self.cr == self.ERASE and not self.busy, "another register is written")
+        self.others[offset] = value
+
+    def read_flash(self, offset, width):
+        self.settle()
+        return part_of(self.expected(offset & ~3), offset, width)
+
+    def write_flash(self, offset, width, value):
+        half = offset // 2
+        check(width == 2 and not self.busy, "a write that is not of a half word, or of a busy flash")
+        self.is_queued = self.is_touched = True
+        check(self.cr == self.PG, "a write of the flash that nothing asked for")
+        if self.cells[half] != 0xffff:
+            self.sr |= self.ERROR  # a second program
+        else:
+            self.begin([(half, value)], 9)
+
+    def erased(self, value):
+        page, rest = divmod(self.others[self.AR] - self.FLASH, 1024)
+        check(value == self.STRT | self.ERASE and 0 <= page < self.PAGES and rest == 0, "an erase of another page")
+        return [(half, 0xffff) for half in range(page * 512, (page + 1) * 512)]
+
+    def is_at_rest(self):
+        self.others[self.AR] = 0
+        return super().is_at_rest()
+
+    def expected(self, offset):
+        return self.cells[offset // 2] | self.cells[offset // 2 + 1] << 16
+
+
+class Stm32f4(OneWay):
+    """The first 2 KB of two sectors, and the data cache: eight lines of 16 bytes."""
+
+    BASE, PLACE, FLASH, BITS, COUNT, SECTOR = 0x40023000, 0xc00, 0x08008000, 32, 1024, 0x4000
+    BY_32, DCEN, DCRST, LINES, LINE = 2 << 8, 1 << 10, 1 << 12, 8, 4
+    AFTER_RESET = {OneWay.ACR: 0x705}
+
+    def regions(self):
+        return [(self.BASE, 0x1000, self.read_register, self.write_register),
+                (self.FLASH, 2 * self.SECTOR, self.read_flash, self.write_flash)]
+
+    def reset(self):
+        self.lines = {}
+        # A program writes what was asked for into the data cache too; else it leaves an old line there.
+        self.updates = self.dice.random() < 0.5
+        super().reset()
+        self.is_settled = True
+
+    def write_register(self, offset, width, value):
+        was_settled = self.is_settled
+        super().write_register(offset, width, value)
+        self.is_settled = was_settled and offset - self.PLACE != self.ACR
+
+    def set(self, offset, value):
+        check(offset == self.ACR and not (value ^ self.others[offset]) & ~(self.DCEN | self.DCRST), "another bit is written")
+        if value & self.DCRST:
+            check(not (value | self.others[offset]) & self.DCEN, "the cache is emptied while it is on")
+            self.lines = {}
+        self.others[offset] = value
+
+    def any_place(self):
+        return self.dice.randrange(2) * self.SECTOR + self.dice.randrange(0, 2048, 4)
+
+    def at(self, offset):
+        """The place of 32 bits among the cells."""
+        sector, rest = divmod(offset, self.SECTOR)
+        check(rest < 2048, "the rest of a sector is not the store's")
+        return sector * self.COUNT // 2 + rest // 4
+
+    def read_flash(self, offset, width):
+        check(self.is_settled, "a read before the cache is on or off as it was told")
+        self.settle()
+        half = self.at(offset)
+        if not self.others[self.ACR] & self.DCEN:
+            return part_of(self.cells[half], offset, width)
+        line = half // self.LINE
+        if line not in self.lines:
+            if len(self.lines) == self.LINES:
+                del self.lines[next(iter(self.lines))]
+            self.lines[line] = self.cells[line * self.LINE:(line + 1) * self.LINE]
+        return part_of(self.lines[line][half % self.LINE], offset, width)
+
+    def write_flash(self, offset, width, value):
+        half = self.at(offset)
+        check(width == 4 and not self.busy, "a write that is not of 32 bits, or of a busy flash")
+        self.is_queued = self.is_touched = True
+        check(self.cr == self.BY_32 | self.PG, "a write of the flash that nothing asked for")
+        self.begin([(half, self.cells[half] & value)], 9)
+        if self.updates and half // self.LINE in self.lines:
+            self.lines[half // self.LINE][half % self.LINE] = value
+
+    def erased(self, value):
+        sector = (value >> 3 & 0x1f) - 2
+        check(value & ~(0x1f << 3) == self.STRT | self.BY_32 | self.ERASE and sector in (0, 1), "an erase of another sector")
+        return [(half, ONES) for half in range(sector * self.COUNT // 2, (sector + 1) * self.COUNT // 2)]
+
+    def expected(self, offset):
+        return self.cells[self.at(offset)]
+
+
+class Rp2040(Part):
+    """Two sectors of 4 KB behind the XIP cache, and the functions of the boot ROM."""
+
+    FLASH, OFFSET, SIZE = 0x101fe000, 0x1fe000, 0x2000
+    TABLE, LOOKUP, FUNCTIONS, END = 0x100, 0x200, 0x300, 6
+    # The functions by their codes, and how many turns each takes.
+    NAMES = {"IF": ("connect", 2), "EX": ("leave_xip", 5), "RE": ("erase", 200), "RP": ("program", 60), "FC": ("flush", 5),
+             "CX": ("enter_xip", 5)}
+
+    def blank(self):
+        return bytearray(b"\xff" * self.SIZE)
+
+    def hook(self, core):
+        """The ROM: a look-up, and functions that wait a while and return."""
+        rom = bytearray(0x1000)
+        rom[0x14:0x16], rom[0x18:0x1a] = self.TABLE.to_bytes(2, "little"), (self.LOOKUP | 1).to_bytes(2, "little")
+        rom[self.LOOKUP:self.LOOKUP + 2] = bytes.fromhex("7047")  # bx lr
+        core.hook(self.LOOKUP, self.look_up)
+        for i, (name, turns) in enumerate(self.NAMES.values()):
+            place = self.FUNCTIONS + 16 * i
+            # movs r3, #turns; 1: subs r3, #1; bne 1b; bx lr
+            rom[place:place + 8] = bytes([turns]) + bytes.fromhex("23013bfdd17047")
+            core.hook(place, getattr(self, name))
+            core.hook(place + self.END, self.end)
+        core.uc.mem_map(0, 0x1000)
+        core.uc.mem_write(0, bytes(rom))
+
+    def regions(self):
+        return [(self.FLASH, self.SIZE, self.read_flash, self.no_write)]
+
+    def reset(self):
+        self.state, self.step, self.is_erase, self.lines = "reads", None, False, {}
+
+    def look_up(self, core):
+        table, code = (core.uc.reg_read(it) for it in (arm.UC_ARM_REG_R0, arm.UC_ARM_REG_R1))
+        name = chr(code & 0xff) + chr(code >> 8)
+        check(table == self.TABLE and name in self.NAMES, "another function of the ROM is looked up")
+        core.uc.reg_write(arm.UC_ARM_REG_R0, (self.FUNCTIONS + 16 * list(self.NAMES).index(name)) | 1)
+
+    def goes(self, core, state, *before):
+        """The ROM is called in one of some states, while interrupts are off and the program stands in RAM."""
+        caller = core.uc.reg_read(arm.UC_ARM_REG_LR)
+        check(self.state in before, f"the ROM's function for {state} is called while flash {self.state}")
+        check(core.uc.reg_read(arm.UC_ARM_REG_PRIMASK) == 1, "interrupts are on while flash is written")
+        check(0x20000000 <= caller < 0x20004000, "the program stands in flash while flash is written")
+        self.state, self.is_touched = state, True
+
+    def connect(self, core):
+        self.goes(core, "connected", "reads")
+
+    def leave_xip(self, core):
+        self.goes(core, "commands", "connected")
+
+    def flush(self, core):
+        self.goes(core, "flushed", "commands")
+        self.lines = {}
+
+    def enter_xip(self, core):
+        self.goes(core, "reads", "commands", "flushed")
+
+    def erase(self, core):
+        self.goes(core, "commands", "commands")
+        offset, count, size, command = (core.uc.reg_read(it) for it in (arm.UC_ARM_REG_R0, arm.UC_ARM_REG_R1, arm.UC_ARM_REG_R2,
+                                                                       arm.UC_ARM_REG_R3))
+        at = offset - self.OFFSET
+        check(at in (0, 4096) and (count, size, command) == (4096, 65536, 0xd8), "an erase of other sectors")
+        self.step, self.is_erase = [(i, 0xff) for i in range(at, at + count)], True
+
+    def program(self, core):
+        self.goes(core, "commands", "commands")
+        offset, source, count = (core.uc.reg_read(it) for it in (arm.UC_ARM_REG_R0, arm.UC_ARM_REG_R1, arm.UC_ARM_REG_R2))
+        at = offset - self.OFFSET
+        check(0 <= at < self.SIZE and at % 256 == 0 and count == 256, "a program of another place")
+        given = core.uc.mem_read(source, count)
+        self.step, self.is_erase = [(at + i, self.cells[at + i] & given[i]) for i in range(count)], False
+
+    def end(self, _):
+        """A function of the ROM returns."""
+        self.is_touched = True
+        for at, value in self.step or ():
+            self.cells[at] = value
+        self.step = None
+
+    def cut(self):
+        """What a cut of power leaves now: of a program any of the bits that it changes are changed, of an erase some cleared,
+        or all and some set again."""
+        cells = self.cells.copy()
+        if self.step and self.is_erase:
+            kept = self.dice.choice((0, 0xff))
+            for at, _ in self.step:
+                cells[at] = (cells[at] | kept) & self.dice.randrange(256)
+            return cells
+        for at, value in self.step or ():
+            cells[at] ^= (cells[at] ^ value) & self.dice.choice((0, 0xff, self.any_bits() & 0xff))
+        return cells
+
+    def read_flash(self, offset, width):
+        check(self.state == "reads", "flash is read while it is written")
+        line, rest = divmod(offset, 8)
+        found = self.lines.get(line)
+        if found is None:
+            found = self.lines[line] = bytes(self.cells[8 * line:8 * line + 8])
+        return int.from_bytes(found[rest:rest + width], "little")
+
+    def no_write(self, *_):
+        check(False, "flash is written as memory is")
+
+    def is_away(self, place):
+        return self.state != "reads" and place >> 24 == 0x10
+
+    def is_at_rest(self):
+        return self.state == "reads"
+
+    def expected(self, offset):
+        return int.from_bytes(self.cells[offset:offset + 4], "little")

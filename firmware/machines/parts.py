@@ -1,0 +1,140 @@
+"""What the models of parts share: a flash with a step that is under way, and the lock of an STM32's controller."""
+from core import check
+
+ONES = 0xffffffff
+KEYS = (0x45670123, 0xcdef89ab)
+
+
+def part_of(word, offset, width):
+    """The bytes of a word of 32 bits that a read takes."""
+    return word >> 8 * (offset % 4) & (1 << 8 * width) - 1
+
+
+class Part:
+    """A part with its flash as `cells`. The model of a family says what its registers do, and what a cut leaves."""
+
+    def __init__(self, dice):
+        self.dice, self.taken = dice, 0
+        self.cells = self.blank()
+        self.power(self.cells)
+
+    def power(self, cells):
+        """Power comes: the cells are as they were left, and all else as after a reset."""
+        self.cells = cells.copy()
+        self.is_raised = self.is_touched = False
+        self.reset()
+
+    def any_bits(self):
+        """Bits that look random: half of them, few, or many."""
+        one, other = self.dice.getrandbits(32), self.dice.getrandbits(32)
+        return self.dice.choice((one, one & other, one | other))
+
+    def any_place(self):
+        """The offset of 32 bits of the store's pages."""
+        return self.dice.randrange(0, self.SIZE, 4)
+
+    def hook(self, core):
+        """Where the model wants to be called."""
+
+    def barrier(self):
+        """All writes are done."""
+
+    def is_of_others(self):
+        """Whether an error that the product meets as it reads the pages by itself may be one for its own handler, which ends it."""
+        return False
+
+    def is_away(self, _):
+        """Whether no instruction can be read at a place now."""
+        return False
+
+
+class Stm32(Part):
+    """The controller of an STM32's flash: keys and lock, errors, and a step that takes a while."""
+
+    # Of a family: where the registers of keys, status and control stand, and their bits.
+    KEYR, SR, CR = 8, 16, 20
+    LOCK, PG, STRT, BSY = 1 << 31, 1, 1 << 16, 1 << 16
+    ERASE, ERROR = 2, 1 << 3  # what asks for an erase; a program over what stands
+
+    def reset(self):
+        self.sr, self.cr, self.keys, self.busy, self.step, self.is_queued, self.is_settled = 0, self.LOCK, 0, 0, None, False, False
+        self.others = dict(self.AFTER_RESET)
+        self.forget()
+
+    def barrier(self):
+        self.is_settled, self.is_queued = True, False
+
+    def read_register(self, offset, width):
+        check(width == 4, "a register that is not read whole")
+        offset -= self.PLACE
+        if offset == self.SR:
+            check(not self.is_queued, "the status is read before a write has come")
+            if self.busy:
+                self.busy -= 1
+                if self.busy:
+                    return self.sr | self.BSY
+                self.finish()
+            return self.sr
+        check(offset == self.CR or offset in self.others, "another register is read")
+        return self.cr if offset == self.CR else self.others[offset]
+
+    def write_register(self, offset, width, value):
+        check(width == 4, "a register that is not written whole")
+        offset -= self.PLACE
+        self.is_touched, self.is_settled = True, False
+        if offset == self.KEYR:
+            self.unlock(value)
+        elif offset == self.SR:
+            self.sr &= ~value
+        elif offset == self.CR:
+            self.control(value)
+        else:
+            self.set(offset, value)
+
+    def unlock(self, value):
+        """Two keys open the control register. A wrong one closes it until the next reset."""
+        right = self.keys < 2 and value == KEYS[self.keys]
+        self.keys = self.keys + 1 if right else 3
+        if self.keys == 2:
+            self.cr &= ~self.LOCK
+
+    def control(self, value):
+        if self.cr & self.LOCK:
+            check(value in (0, self.LOCK), "the control register is written while it is locked")
+            return
+        check(not self.busy, "the control register is written while the flash is busy")
+        self.cr = value & ~self.STRT
+        if value & self.LOCK:
+            self.keys = 0
+        if value & self.STRT:
+            check(value & self.ERASE, "what is started is no erase")
+            self.begin(self.erased(value), 40)
+
+    def begin(self, step, most):
+        """A step begins, which is busy for a few looks at the status."""
+        self.step, self.busy = step, self.dice.randint(2, most)
+
+    def finish(self):
+        self.busy, step, self.step = 0, self.step, None
+        self.forget()
+        for at, values in step:
+            self.leave(self.cells, at, values)
+
+    def settle(self):
+        """A read of the flash waits until the step is done."""
+        if self.busy:
+            self.finish()
+
+    def cut(self):
+        """What a cut of power leaves now."""
+        cells = self.cells.copy()
+        for at, values in self.step or ():
+            self.tear(cells, at, values)
+        return cells
+
+    def forget(self):
+        """What the part read last isn't known to it any more."""
+
+    def is_at_rest(self):
+        """Whether a call left the controller locked, and nothing else changed."""
+        return self.cr == self.LOCK and not self.busy and self.others == self.AFTER_RESET

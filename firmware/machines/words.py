@@ -1,0 +1,265 @@
+"""Models of parts with error correction over units of two or four times 32 bits: STM32G0, L4, G4 and U5."""
+from core import check
+from parts import ONES, Stm32
+
+FINE, CORRECTED, TORN = range(3)
+
+
+class Units:
+    """Units of some times 32 bits, each with a state."""
+
+    def __init__(self, count, parts):
+        self.parts, self.values, self.states = parts, [ONES] * (count * parts), bytearray(count)
+
+    def copy(self):
+        other = Units(0, self.parts)
+        other.values, other.states = self.values[:], self.states[:]
+        return other
+
+
+class EccFlash(Stm32):
+    """A controller with error correction, the address of an error, and its NMI."""
+
+    BASE, PLACE = 0x40022000, 0
+    # Where the bank stands in the control register, what stands beside the address of an error, by how many a unit counts there,
+    # and the bit of the status while a unit isn't given whole.
+    BANK_SHIFT, BESIDE, UNIT, WAITS = 11, 1 << 21, 8, 0
+    ECCIE, CORRECTION, DETECTION = 1 << 24, 1 << 30, 1 << 31
+    FLAGS = CORRECTION | DETECTION
+
+    def blank(self):
+        return Units(self.COUNT, self.PARTS)
+
+    def forget(self):
+        self.buffer = None
+
+    def reset(self):
+        super().reset()
+        self.filled = []
+        # While a flag stands no other error is told; else its flag is, with the address of before.
+        self.hides = self.dice.random() < 0.5
+
+    def leave(self, cells, at, values):
+        cells.values[at * self.PARTS:(at + 1) * self.PARTS] = values
+        cells.states[at] = FINE
+
+    def tear(self, cells, at, values):
+        """Nothing done, done, done and read with a correction, or torn."""
+        kind = self.dice.randrange(6)
+        if kind == 0:
+            return
+        self.leave(cells, at, values if kind < 3 else [self.any_bits() for _ in values])
+        cells.states[at] = FINE if kind == 1 else CORRECTED if kind == 2 else TORN
+
+    def tell(self, unit, flag):
+        """An error with its flag, and where no flag stands its address."""
+        eccr, address = self.others[self.ECCR], self.UNIT * (self.FIRST_UNIT + unit)
+        if eccr & self.FLAGS & ~flag and self.hides:
+            return
+        if not eccr & self.FLAGS:
+            eccr = (eccr & self.ECCIE) | self.BESIDE | address
+        self.others[self.ECCR] = eccr | flag
+        self.is_raised |= flag == self.DETECTION
+
+    def sense(self, unit):
+        """The flash reads a unit, but for the one that it read last, and tells what is wrong."""
+        if self.buffer == unit:
+            return
+        self.buffer = unit
+        if self.cells.states[unit]:
+            self.tell(unit, self.CORRECTION if self.cells.states[unit] == CORRECTED else self.DETECTION)
+
+    def write_flash(self, offset, width, value):
+        at, i = divmod(offset // 4, self.PARTS)
+        check(width == 4, "a write of the flash that is not of 32 bits")
+        check(not self.busy and not self.is_cached(), "a write of the flash while it is busy or cached")
+        self.is_queued = self.is_touched = True
+        check(self.cr == self.PG and i == len(self.filled), "a write of the flash that nothing asked for, or in another order")
+        self.filled.append(value)
+        if len(self.filled) < self.PARTS:
+            return
+        values, self.filled = self.filled, []
+        stands = self.cells.values[at * self.PARTS:(at + 1) * self.PARTS]
+        if stands != [ONES] * self.PARTS or self.cells.states[at] == TORN:
+            self.sr |= self.ERROR  # a second program
+        else:
+            self.begin([(at, values)], 9)
+
+    def erased(self, value):
+        page = (value >> 3 & self.PAGES_MASK) - self.FIRST_PAGE
+        check(value >> self.BANK_SHIFT & 1 == self.BANK and 0 <= page < self.PAGES, "an erase of another page")
+        check(not self.is_cached(), "an erase while the cache is on")
+        units = self.COUNT // self.PAGES
+        return [(at, [ONES] * self.PARTS) for at in range(page * units, (page + 1) * units)]
+
+    def read_register(self, offset, width):
+        waits = self.WAITS if offset == self.SR and self.filled else 0
+        return super().read_register(offset, width) | waits
+
+    def set_eccr(self, value):
+        flags = self.others[self.ECCR] & ~(value & self.FLAGS) & ~self.ECCIE
+        self.others[self.ECCR] = flags | (value & self.ECCIE)
+
+    def is_of_others(self):
+        """So it is beside a corrected one, which may have been first: the address may be that of either."""
+        flags = self.others[self.ECCR] & self.FLAGS
+        self.others[self.ECCR] &= ~self.FLAGS
+        return flags == self.FLAGS
+
+    def is_at_rest(self):
+        flags = self.others[self.ECCR]
+        self.others[self.ECCR] = self.AFTER_RESET[self.ECCR]
+        is_well = super().is_at_rest() and flags & self.ECCIE
+        self.others[self.ECCR] = flags
+        return is_well and not flags & self.DETECTION
+
+    def expected(self, offset):
+        """What 32 bits of the flash have, None in a torn unit."""
+        half = offset // 4
+        return None if self.cells.states[half // self.PARTS] == TORN else self.cells.values[half]
+
+
+class DoubleWords(EccFlash):
+    """Two pages of 2 KB of units of 64 bits, and a cache of data: eight lines of 32 bytes."""
+
+    SIZE, PARTS, PAGES, COUNT, LINES, LINE = 0x1000, 2, 2, 512, 8, 8
+
+    def regions(self):
+        return [(self.BASE, 0x1000, self.read_register, self.write_register),
+                (self.FLASH, self.SIZE, self.read_flash, self.write_flash)]
+
+    def reset(self):
+        self.lines = {}
+        # A program writes what was asked for into the data cache too; else it leaves an old line there.
+        self.updates = self.dice.random() < 0.5
+        super().reset()
+
+    def is_cached(self):
+        return self.others[self.ACR] & self.ON
+
+    def read_flash(self, offset, width):
+        check(width == 4 and self.is_settled, "a read before the cache is on or off as it was told")
+        self.settle()
+        half = offset // 4
+        if not self.others[self.ACR] & self.ON:
+            self.sense(half // 2)
+            return self.cells.values[half]
+        line = half // self.LINE
+        if line not in self.lines:
+            for unit in range(line * self.LINE // 2, (line + 1) * self.LINE // 2):
+                self.sense(unit)
+            if len(self.lines) == self.LINES:
+                del self.lines[next(iter(self.lines))]
+            self.lines[line] = self.cells.values[line * self.LINE:(line + 1) * self.LINE]
+        return self.lines[line][half % self.LINE]
+
+    def leave(self, cells, at, values):
+        super().leave(cells, at, values)
+        line = self.lines.get(2 * at // self.LINE) if self.updates and cells is self.cells and values != [ONES, ONES] else None
+        if line:
+            line[2 * at % self.LINE:2 * at % self.LINE + 2] = values
+
+    def set(self, offset, value):
+        if offset == self.ECCR:
+            self.set_eccr(value)
+            return
+        check(offset == self.ACR and not (value ^ self.others[offset]) & ~(self.ON | self.EMPTY), "another bit is written")
+        if value & self.EMPTY:
+            check(not (value | self.others[offset]) & self.ON, "the cache is emptied while it is on")
+            self.lines = {}
+        self.others[offset] = value
+
+
+class Stm32g4(DoubleWords):
+    """The last two pages of the second bank of 256 KB."""
+
+    FLASH, FIRST_PAGE, BANK, PAGES_MASK = 0x0807f000, 126, 1, 0x7f
+    FIRST_UNIT = FIRST_PAGE * 256
+    ACR, ECCR, ON, EMPTY = 0, 24, 1 << 10, 1 << 12
+    AFTER_RESET = {ACR: 0x40600, ECCR: EccFlash.ECCIE}
+
+
+class Stm32g0(DoubleWords):
+    """The last two pages of the second bank of 256 KB. That bank has a register of errors for itself."""
+
+    FLASH, FIRST_PAGE, BANK, PAGES_MASK = 0x0807f000, 126, 1, 0x3ff
+    FIRST_UNIT = FIRST_PAGE * 256
+    BANK_SHIFT, BESIDE, UNIT, WAITS = 13, 0, 1, 1 << 18
+    ACR, ECCR, ON, EMPTY = 0, 28, 1 << 9, 1 << 11
+    AFTER_RESET = {ACR: 0x40600, 24: 0, ECCR: EccFlash.ECCIE}
+
+
+class Stm32l4(DoubleWords):
+    """The last two pages of the second bank of 512 KB."""
+
+    FLASH, FIRST_PAGE, BANK, PAGES_MASK = 0x080ff000, 254, 1, 0xff
+    FIRST_UNIT, BESIDE = FIRST_PAGE * 256, 1 << 19
+    ACR, ECCR, ON, EMPTY = 0, 24, 1 << 10, 1 << 12
+    AFTER_RESET = {ACR: 0x600, ECCR: EccFlash.ECCIE}
+
+
+class Stm32u5(EccFlash):
+    """The last two pages of 8 KB of the second bank, and ICACHE: a line for each unit of 16 bytes."""
+
+    FLASH, SIZE, PARTS, PAGES, COUNT, FIRST_PAGE, BANK, PAGES_MASK = 0x081fc000, 0x4000, 4, 2, 1024, 126, 1, 0xff
+    FIRST_UNIT, UNIT = FIRST_PAGE * 512, 16
+    SR, CR, ECCR = 32, 40, 48
+    CACHE, CACHE_CR, CACHE_SR, CACHE_FCR = 0x40030000, 0x400, 0x404, 0x40c
+    AFTER_RESET = {ECCR: EccFlash.ECCIE, CACHE_CR: 0x30005}
+    WAITS = 1 << 17
+
+    def regions(self):
+        return [(self.BASE, 0x1000, self.read_register, self.write_register),
+                (self.CACHE, 0x1000, self.read_cache, self.write_cache),
+                (self.FLASH, self.SIZE, self.read_flash, self.write_flash)]
+
+    def reset(self):
+        self.lines, self.cache_busy, self.is_ended = {}, 0, False
+        # The cache is emptied as it is turned off.
+        self.empties = self.dice.random() < 0.5
+        super().reset()
+
+    def is_cached(self):
+        return self.others[self.CACHE_CR] & 1
+
+    def set(self, offset, value):
+        check(offset == self.ECCR, "another register is written")
+        self.set_eccr(value)
+
+    def read_cache(self, offset, _):
+        if offset == self.CACHE_CR:
+            return self.others[offset]
+        check(offset == self.CACHE_SR, "another register of the cache is read")
+        if self.cache_busy:
+            self.cache_busy -= 1
+            self.is_ended = self.cache_busy == 0
+            return 1
+        self.is_settled = True
+        return 2 * self.is_ended
+
+    def write_cache(self, offset, _, value):
+        self.is_touched = True
+        if offset == self.CACHE_FCR:
+            self.is_ended &= not value & 2
+            return
+        self.is_settled, before = False, self.others[self.CACHE_CR]
+        check(offset == self.CACHE_CR and not (value ^ before) & ~3 and not self.cache_busy, "another bit of the cache is written")
+        self.others[self.CACHE_CR] = value & ~2
+        if value & 2 or (self.empties and before & ~value & 1):
+            self.lines, self.cache_busy = {}, 9
+
+    def read_flash(self, offset, width):
+        check(width == 4 and self.is_settled, "a read before the cache is on or off as it was told")
+        self.settle()
+        unit, i = divmod(offset // 4, 4)
+        if not self.others[self.CACHE_CR] & 1 or self.cache_busy:
+            self.sense(unit)
+            return self.cells.values[offset // 4]
+        line = self.lines.get(unit)
+        if line is None:
+            self.sense(unit)
+            line = self.lines[unit] = self.cells.values[4 * unit:4 * unit + 4]
+        return line[i]
+
+    def is_at_rest(self):
+        return super().is_at_rest() and not self.is_ended

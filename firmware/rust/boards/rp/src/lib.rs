@@ -1,0 +1,28 @@
+//! Settings in the last two sectors of 2 MiB of flash on an RP2040, by embassy's HAL.
+//!
+//! In `main`: `let mut settings = settings(Flash::new_blocking(p.FLASH))`, where `p` is what `embassy_rp::init` gives.
+#![no_std]
+#![forbid(unsafe_code)]
+
+use ee_store::nor::{Clearing, NorDriver};
+use ee_store::{start, Shape, Store};
+use embassy_rp::flash::{Blocking, Flash};
+use embassy_rp::peripherals::FLASH;
+
+const SIZE: usize = 2 * 1024 * 1024;
+/// Two sectors of 4 KiB. A word of the store takes 16 bytes.
+const OFFSET: u32 = SIZE as u32 - 2 * 4096;
+const SHAPE: Shape = match Shape::new(1, 256) {
+    Some(shape) => shape,
+    None => panic!("1 to 64 pages, 5 to 512 words"),
+};
+
+/// The store, as it stands in a `static` or in a resource. Many serial flashes clear a sector's cells before they erase it.
+pub type Settings = Store<NorDriver<Flash<'static, FLASH, Blocking, SIZE>, Clearing>>;
+
+/// Opens the settings, or makes them on a new part. `None` where the sectors hold something else, or the flash fails.
+#[must_use]
+pub fn settings(flash: Flash<'static, FLASH, Blocking, SIZE>) -> Option<Settings> {
+    let driver = NorDriver::new(flash, OFFSET, SHAPE, Clearing).ok()?;
+    start(driver).ok()
+}

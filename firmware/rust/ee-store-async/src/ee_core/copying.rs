@@ -1,0 +1,176 @@
+// Made by firmware/rust/erase from crates/ee_core/src/copying.rt. Change that file.
+//! The copying of a transfer: the map after its change, written into the other set word by word.
+
+use crate::ee_core::change::{Change, Put};
+use crate::ee_core::live_cursor::LiveCursor;
+use crate::ee_core::puts::{has_put, values_put};
+use crate::ee_codec::Address;
+use crate::ee_flash::{Cut, Flash, HEADER_WORDS};
+use crate::ee_pages::{Layout, LiveBatch, Mark, first_page, mark, next_batch};
+
+/// Goes over the live addresses of a set, by rising address. It looks through the slots once for each
+/// batch.
+pub(crate) struct Cursor {
+    batch: LiveBatch,
+    /// How many of the batch it gave.
+    given: usize,
+}
+
+impl Cursor {
+    /// Before the first.
+    pub(crate) fn new<F: Flash>(flash: &F, layout: &Layout) -> Cursor {
+        let mut cursor = Cursor {
+            batch: LiveBatch::new(),
+            given: 0,
+        };
+        next_batch(flash, layout, None, &mut cursor.batch);
+        cursor
+    }
+}
+
+impl LiveCursor for Cursor {
+    fn next<F: Flash>(&mut self, flash: &F, layout: &Layout) -> Option<(Address, u32)> {
+        next_given(flash, layout, &mut self.batch, &mut self.given)
+    }
+}
+
+/// The next live address behind those that were given of a batch. Where all were, the batch becomes
+/// the next one with an address.
+fn next_given<F: Flash>(
+    flash: &F,
+    layout: &Layout,
+    batch: &mut LiveBatch,
+    given: &mut usize,
+) -> Option<(Address, u32)> {
+    loop {
+        if let Some(live) = batch.found.get(*given) {
+            *given += 1;
+            return Some(live);
+        }
+        let Some(through) = batch.through else {
+            return None;
+        };
+        next_batch(flash, layout, Some(through), batch);
+        *given = 0;
+    }
+}
+
+/// Where the next word goes. A transfer goes on from place to place, so that no word takes a
+/// division.
+#[derive(Clone, Copy)]
+struct Place {
+    /// The number of the slot, counted from 0.
+    slot: usize,
+    /// Its page, counted from the device's first.
+    page: usize,
+    /// Its place in the page, behind the header.
+    at: usize,
+}
+
+/// Fills the other set, which was opened, with the map after changes: the values that are put come
+/// first, in their order, and then each other live address, rising. Where they are forgotten, their
+/// addresses are left out alone. Gives how many slots that takes.
+pub(crate) async fn fill_set<F: Flash, C: LiveCursor>(
+    flash: &mut F,
+    layout: &Layout,
+    puts: &[Put],
+    forgets: bool,
+    cursor: &mut C,
+) -> Result<usize, Cut> {
+    let first = put_all(flash, layout, values_put(puts, forgets)).await?;
+    let count = copy_others(flash, layout, puts, first, cursor).await?;
+    Ok(count)
+}
+
+/// Writes values into the first slots of the other set, in their order. Gives the place of the next
+/// slot.
+async fn put_all<F: Flash>(flash: &mut F, layout: &Layout, puts: &[Put]) -> Result<Place, Cut> {
+    let mut place = first_place(flash, layout);
+    for put in puts {
+        let (address, value) = (put.address, put.value);
+        stage(flash, layout, &mut place, Change::Put { address, value }).await?;
+    }
+    Ok(place)
+}
+
+/// Copies each live address but those of the changes to the other set, from this place on. Gives how
+/// many of its slots are written then.
+async fn copy_others<F: Flash, C: LiveCursor>(
+    flash: &mut F,
+    layout: &Layout,
+    puts: &[Put],
+    place: Place,
+    cursor: &mut C,
+) -> Result<usize, Cut> {
+    let mut place = place;
+    while let Some((address, value)) = cursor.next(flash, layout) {
+        let carries = has_put(puts, address);
+        copy_one(flash, layout, carries, &mut place, address, value).await?;
+    }
+    Ok(place.slot)
+}
+
+/// Copies a live address to this place of the other set, unless it is passed over. The place becomes
+/// that of the next free slot.
+async fn copy_one<F: Flash>(
+    flash: &mut F,
+    layout: &Layout,
+    passed: bool,
+    place: &mut Place,
+    address: Address,
+    value: u32,
+) -> Result<(), Cut> {
+    if passed {
+        return Ok(());
+    }
+    stage(flash, layout, place, Change::Put { address, value }).await?;
+    Ok(())
+}
+
+/// Writes a change into this place of the other set, its first free slot. A further page gets its
+/// receive word first. The place becomes that of the next slot.
+async fn stage<F: Flash>(
+    flash: &mut F,
+    layout: &Layout,
+    place: &mut Place,
+    change: Change,
+) -> Result<(), Cut> {
+    if place.at == HEADER_WORDS {
+        receive(flash, layout, *place).await?;
+    }
+    put_in(flash, layout, *place, change).await?;
+    step(flash, layout, place);
+    Ok(())
+}
+
+/// Gives the page of this place of the other set the receive word, if it has none.
+async fn receive<F: Flash>(flash: &mut F, layout: &Layout, place: Place) -> Result<(), Cut> {
+    mark(flash, place.page, Mark::Receive(layout.generation + 1)).await?;
+    Ok(())
+}
+
+/// Programs a change into this place of the other set, its first free slot.
+async fn put_in<F: Flash>(flash: &mut F, layout: &Layout, place: Place, change: Change) -> Result<(), Cut> {
+    flash.program(place.page, place.at, change.word()).await?;
+    Ok(())
+}
+
+/// The place of the first slot of the other set.
+fn first_place<F: Flash>(flash: &F, layout: &Layout) -> Place {
+    Place {
+        slot: 0,
+        page: first_page(flash, layout.side.other()),
+        at: HEADER_WORDS,
+    }
+}
+
+/// Goes on to the next slot of the other set: one further in the page, or the first one of the next
+/// page. Behind the set's last slot it is in no page of the set.
+fn step<F: Flash>(flash: &F, layout: &Layout, place: &mut Place) {
+    place.slot += 1;
+    place.at += 1;
+    if place.at == flash.shape().words() {
+        place.page += 1;
+        place.at = HEADER_WORDS;
+    }
+}

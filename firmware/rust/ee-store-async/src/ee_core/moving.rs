@@ -1,0 +1,113 @@
+// Made by firmware/rust/erase from crates/ee_core/src/moving.rt. Change that file.
+//! A transfer: the other set is erased, opened and filled, and one mark makes it the live one.
+
+use crate::ee_core::change::Put;
+use crate::ee_core::cleaning::erase_other;
+use crate::ee_core::copying::{Cursor, fill_set};
+use crate::ee_core::live_cursor::LiveCursor;
+use crate::ee_core::marking::finish;
+use crate::ee_flash::{Cut, Flash, HEADER_WORDS};
+use crate::ee_pages::{Layout, Mark, first_page, is_blank as page_is_blank, mark};
+
+/// Moves the map, with values that are put or without their addresses, where these are forgotten, to
+/// the other set, and makes that one live. The cursor, which is before the first, goes over the live
+/// addresses. Of the layout it takes the set, in which any words may stand, and its generation, no
+/// smaller than the one that the set is committed with. The layout follows.
+pub(crate) async fn transfer<F: Flash, C: LiveCursor>(
+    flash: &mut F,
+    layout: &mut Layout,
+    puts: &[Put],
+    forgets: bool,
+    cursor: &mut C,
+) -> Result<(), Cut> {
+    let count = move_map(flash, layout, puts, forgets, cursor).await?;
+    let slots = flash.shape().words() - HEADER_WORDS;
+    *layout = Layout {
+        side: layout.side.other(),
+        generation: layout.generation + 1,
+        fill: count,
+        current: first_page(flash, layout.side.other()) + count.saturating_sub(1) / slots,
+    };
+    finish(flash, layout).await?;
+    Ok(())
+}
+
+/// Moves the map as `transfer` does. It looks for the live addresses in the slots.
+pub(crate) async fn transfer_by_slots<F: Flash>(
+    flash: &mut F,
+    layout: &mut Layout,
+    puts: &[Put],
+    forgets: bool,
+) -> Result<(), Cut> {
+    let mut cursor = Cursor::new(flash, layout);
+    transfer(flash, layout, puts, forgets, &mut cursor).await?;
+    Ok(())
+}
+
+/// Moves the map, with what it is to carry, to the other set, and makes that one live. Gives how many
+/// slots it takes there.
+async fn move_map<F: Flash, C: LiveCursor>(
+    flash: &mut F,
+    layout: &Layout,
+    puts: &[Put],
+    forgets: bool,
+    cursor: &mut C,
+) -> Result<usize, Cut> {
+    clear(flash, layout).await?;
+    open_set(flash, layout).await?;
+    let count = fill_set(flash, layout, puts, forgets, cursor).await?;
+    commit(flash, layout).await?;
+    Ok(count)
+}
+
+/// Makes the other set the live one with nothing in it, as `transfer` does with a map in which nothing
+/// has a value. The layout follows.
+pub(crate) async fn transfer_nothing<F: Flash>(flash: &mut F, layout: &mut Layout) -> Result<(), Cut> {
+    move_nothing(flash, layout).await?;
+    *layout = Layout {
+        side: layout.side.other(),
+        generation: layout.generation + 1,
+        fill: 0,
+        current: first_page(flash, layout.side.other()),
+    };
+    finish(flash, layout).await?;
+    Ok(())
+}
+
+/// Makes the other set the live one with nothing in it, but for the marks of its pages and of those
+/// that it leaves.
+async fn move_nothing<F: Flash>(flash: &mut F, layout: &Layout) -> Result<(), Cut> {
+    clear(flash, layout).await?;
+    open_set(flash, layout).await?;
+    commit(flash, layout).await?;
+    Ok(())
+}
+
+/// Erases each page of the other set that is not blank, by rising page. Like the two below it stands
+/// in both of its callers, so that no code of one is the other's in firmware.
+#[inline(always)]
+async fn clear<F: Flash>(flash: &mut F, layout: &Layout) -> Result<(), Cut> {
+    let first = first_page(flash, layout.side.other());
+    for page in first..first + flash.shape().pages() {
+        if !page_is_blank(flash, page) {
+            erase_other(flash, layout.side, page).await?;
+        }
+    }
+    Ok(())
+}
+
+/// Gives the first page of the other set, which is blank, the receive word of the next generation.
+#[inline(always)]
+async fn open_set<F: Flash>(flash: &mut F, layout: &Layout) -> Result<(), Cut> {
+    let first = first_page(flash, layout.side.other());
+    mark(flash, first, Mark::Receive(layout.generation + 1)).await?;
+    Ok(())
+}
+
+/// Makes the other set, which is filled, the live one.
+#[inline(always)]
+async fn commit<F: Flash>(flash: &mut F, layout: &Layout) -> Result<(), Cut> {
+    let first = first_page(flash, layout.side.other());
+    mark(flash, first, Mark::Active).await?;
+    Ok(())
+}

@@ -1,0 +1,216 @@
+// Made by firmware/rust/erase from crates/ee_pages/src/find.rt. Change that file.
+//! The scan: where the live set of a legal image is and how far it is used, or why an image isn't legal.
+
+use crate::ee_pages::number::is_slot;
+use crate::ee_pages::runs::{RUN, run_from};
+use crate::ee_pages::side::{Side, committed, first_page, set_word};
+use crate::ee_pages::state::{blank_to, is_blank, is_torn};
+use crate::ee_pages::table::{fits, place_of};
+use crate::ee_flash::{Flash, HEADER_WORDS};
+
+/// Where the live set of a legal image is and how far it is used.
+#[derive(Clone, Copy, Debug, PartialEq, Eq)]
+pub struct Layout {
+    /// The live set.
+    pub side: Side,
+    /// Its generation, 1 to 4294967294.
+    pub generation: u32,
+    /// How many of its slots are written, torn ones too: 0 to the capacity.
+    pub fill: usize,
+    /// Its last used page, by its number in the device; its first page if no slot is used.
+    pub current: usize,
+}
+
+/// Why an image is not legal.
+#[derive(Clone, Copy, Debug, PartialEq, Eq)]
+pub enum ScanFault {
+    /// Every word of the device is erased.
+    Unformatted,
+    /// No set is committed.
+    NoLiveSet,
+    /// Both sets are committed, with equal generations.
+    TwoLive,
+    /// The first word of the live set, by page and then place, that may not stand there. The page
+    /// is its number in the device.
+    Foreign { page: usize, at: usize },
+}
+
+/// Finds the live set of a legal image. It reads each word of the live set at most twice, and behind
+/// each torn slot once more the words that stood in one run with it, up to 15.
+///
+/// Source: one of two sets takes the writes, AN4894; the rest is ours.
+///
+/// # Errors
+///
+/// The first `ScanFault` that applies, exactly where the image is not legal.
+pub fn scan<F: Flash>(flash: &F) -> Result<Layout, ScanFault> {
+    if is_unformatted(flash) {
+        return Err(ScanFault::Unformatted);
+    }
+    let (side, generation) = live_set(flash)?;
+    let start = first_page(flash, side);
+    match front_of(flash, side, generation) {
+        Err((page, at)) => Err(ScanFault::Foreign {
+            page: start + page,
+            at,
+        }),
+        Ok((fill, page)) => Ok(Layout {
+            side,
+            generation,
+            fill,
+            current: start + page,
+        }),
+    }
+}
+
+/// Whether every word of the device is erased.
+fn is_unformatted<F: Flash>(flash: &F) -> bool {
+    for page in 0..2 * flash.shape().pages() {
+        if !is_blank(flash, page) {
+            return false;
+        }
+    }
+    true
+}
+
+/// The live set and its generation.
+fn live_set<F: Flash>(flash: &F) -> Result<(Side, u32), ScanFault> {
+    match (
+        committed(flash, Side::First),
+        committed(flash, Side::Second),
+    ) {
+        (None, None) => Err(ScanFault::NoLiveSet),
+        (Some(first), None) => Ok((Side::First, first)),
+        (None, Some(second)) => Ok((Side::Second, second)),
+        (Some(first), Some(second)) => {
+            if first == second {
+                Err(ScanFault::TwoLive)
+            } else if second < first {
+                Ok((Side::First, first))
+            } else {
+                Ok((Side::Second, second))
+            }
+        }
+    }
+}
+
+/// How many slots of a live set are used, and the page of the last of them, the first page where none
+/// is; or the first word, by page and then place, that may not stand there. Pages are counted from the
+/// set's first.
+fn front_of<F: Flash>(
+    flash: &F,
+    side: Side,
+    generation: u32,
+) -> Result<(usize, usize), (usize, usize)> {
+    let shape = flash.shape();
+    for page in 0..shape.pages() {
+        match front_of_page(flash, side, generation, page) {
+            Err(at) => return Err((page, at)),
+            Ok(used) => {
+                if used < shape.words() - HEADER_WORDS {
+                    return front_in(flash, side, page, used);
+                }
+            }
+        }
+    }
+    Ok((shape.slots(), shape.pages() - 1))
+}
+
+/// The same, where the first slot that isn't used is this one of a page: behind it all has to be erased.
+fn front_in<F: Flash>(
+    flash: &F,
+    side: Side,
+    page: usize,
+    used: usize,
+) -> Result<(usize, usize), (usize, usize)> {
+    blank_behind(flash, side, page)?;
+    let slots = flash.shape().words() - HEADER_WORDS;
+    let last = if used == 0 {
+        page.saturating_sub(1)
+    } else {
+        page
+    };
+    Ok((page * slots + used, last))
+}
+
+/// That the pages of a set behind this one are blank, or their first word, by page and then place, that
+/// is written.
+fn blank_behind<F: Flash>(flash: &F, side: Side, page: usize) -> Result<(), (usize, usize)> {
+    let shape = flash.shape();
+    let first = first_page(flash, side);
+    for behind in page + 1..shape.pages() {
+        let at = blank_to(flash, first + behind, 0);
+        if at < shape.words() {
+            return Err((behind, at));
+        }
+    }
+    Ok(())
+}
+
+/// How many slots of a page of a live set are used, where all before them are; or the first word of the
+/// page that may not stand there.
+fn front_of_page<F: Flash>(
+    flash: &F,
+    side: Side,
+    generation: u32,
+    page: usize,
+) -> Result<usize, usize> {
+    if let Some(at) = foreign_in_header(flash, side, generation, page) {
+        return Err(at);
+    }
+    let here = first_page(flash, side) + page;
+    let end = used_to(flash, here);
+    // Behind the slots that are used all have to be erased, the next one first of all.
+    let written = blank_to(flash, here, end);
+    if written < flash.shape().words() {
+        return Err(written);
+    }
+    Ok(end - HEADER_WORDS)
+}
+
+/// The first word of the header of a page of a live set that doesn't fit its place.
+fn foreign_in_header<F: Flash>(flash: &F, side: Side, generation: u32, page: usize) -> Option<usize> {
+    for at in 0..HEADER_WORDS {
+        if !fits(
+            generation,
+            place_of(page, at),
+            set_word(flash, side, page, at),
+        ) {
+            return Some(at);
+        }
+    }
+    None
+}
+
+/// The place of a page's first slot that is neither torn nor has an element or a forgetting; as many as
+/// the page has words where each is or has. It stays out of the opening, whose stack is deep without it.
+#[inline(never)]
+fn used_to<F: Flash>(flash: &F, page: usize) -> usize {
+    let words = flash.shape().words();
+    let mut room = [1; RUN];
+    let mut at = HEADER_WORDS;
+    while at < words {
+        let run = run_from(flash, page, at, words, &mut room);
+        let slots = slots_in(run);
+        let all = slots == run.len();
+        at += slots;
+        if !all {
+            // A torn word is 0 in a run, as one that holds 0 is.
+            if !is_torn(flash.word(page, at)) {
+                return at;
+            }
+            at += 1;
+        }
+    }
+    words
+}
+
+/// How many numbers, from the first on, are each of an element or a forgetting.
+fn slots_in(numbers: &[u64]) -> usize {
+    for (place, number) in numbers.iter().enumerate() {
+        if !is_slot(*number) {
+            return place;
+        }
+    }
+    numbers.len()
+}

@@ -1,0 +1,21 @@
+// Made by firmware/rust/erase from crates/ee_pages/src/runs.rt. Change that file.
+//! The words of a page, several at a time.
+
+use crate::ee_flash::Flash;
+
+/// How many words a loop over a page asks its flash for at once.
+pub(crate) const RUN: usize = 16;
+
+/// The numbers of the words of a page from a place on: up to `RUN` of them, all before `end`, and at
+/// least one.
+#[inline(always)]
+pub(crate) fn run_from<'a, F: Flash>(
+    flash: &'a F,
+    page: usize,
+    at: usize,
+    end: usize,
+    room: &'a mut [u64; RUN],
+) -> &'a [u64] {
+    let count = RUN.min(end - at);
+    flash.run(page, at, &mut room[..count])
+}

@@ -1,0 +1,104 @@
+// Made by firmware/rust/erase from crates/ee_pages/src/state.rt. Change that file.
+//! What a page's header says: the last word of it that is written names the state.
+
+use crate::ee_pages::runs::{RUN, run_from};
+use crate::ee_flash::{Flash, Word};
+
+/// What a page's header says of it. A torn mark counts as present.
+#[derive(Clone, Copy, Debug, PartialEq, Eq)]
+pub enum State {
+    /// Empty, or left by a cut erase.
+    Erased,
+    /// Takes elements in a transfer.
+    Receive,
+    /// Takes new elements.
+    Active,
+    /// Full.
+    Valid,
+    /// Its elements were transferred, and it may be erased.
+    Erasing,
+}
+
+/// A word of a page's header that can be programmed.
+#[derive(Clone, Copy, Debug, PartialEq, Eq)]
+pub enum Mark {
+    /// The set has this generation, 1 to 4294967294, and takes elements.
+    Receive(u32),
+    /// The page takes new elements.
+    Active,
+    /// The page is full.
+    Valid,
+    /// The page's elements were transferred.
+    Erasing,
+}
+
+/// The state of a page, which the last written word of its header names. Pages are numbered from 0,
+/// those of the first set first.
+pub fn state_of<F: Flash>(flash: &F, page: usize) -> State {
+    if is_written(flash.word(page, 3)) {
+        State::Erasing
+    } else if is_written(flash.word(page, 2)) {
+        State::Valid
+    } else if is_written(flash.word(page, 1)) {
+        State::Active
+    } else if is_written(flash.word(page, 0)) {
+        State::Receive
+    } else {
+        State::Erased
+    }
+}
+
+/// Whether every word of a page is erased. Pages are numbered as for `state_of`.
+pub fn is_blank<F: Flash>(flash: &F, page: usize) -> bool {
+    // Asked first, since it is written in most pages that aren't blank.
+    if is_written(flash.word(page, 0)) {
+        return false;
+    }
+    blank_to(flash, page, 0) == flash.shape().words()
+}
+
+/// The place, from one on, of a page's first word that is written; as many as it has words where none
+/// is.
+pub(crate) fn blank_to<F: Flash>(flash: &F, page: usize, from: usize) -> usize {
+    let words = flash.shape().words();
+    let mut room = [1; RUN];
+    let mut at = from;
+    while at < words {
+        let run = run_from(flash, page, at, words, &mut room);
+        // Asked first, since most runs are, and it is a shorter loop than one that counts.
+        if !is_erased(run) {
+            return at + erased_in(run);
+        }
+        at += run.len();
+    }
+    words
+}
+
+/// Whether all numbers are all ones.
+fn is_erased(numbers: &[u64]) -> bool {
+    let mut all = u64::MAX;
+    for number in numbers {
+        all &= *number;
+    }
+    all == u64::MAX
+}
+
+/// How many numbers, from the first on, are all ones.
+fn erased_in(numbers: &[u64]) -> usize {
+    for (place, number) in numbers.iter().enumerate() {
+        if *number != u64::MAX {
+            return place;
+        }
+    }
+    numbers.len()
+}
+
+/// Whether something was programmed into the word, whole or torn.
+pub(crate) fn is_written(word: Word) -> bool {
+    !matches!(word, Word::Erased)
+}
+
+/// Whether a program of the word, or an erase of its page, was cut.
+pub(crate) fn is_torn(word: Word) -> bool {
+    matches!(word, Word::Torn)
+}

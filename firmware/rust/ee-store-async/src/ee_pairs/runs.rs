@@ -1,0 +1,34 @@
+// Made by firmware/rust/erase from crates/ee_pairs/src/runs.rt. Change that file.
+//! The numbers of words one behind another, each of two numbers of the flash.
+
+use crate::ee_pairs::nor::Nor;
+use crate::ee_pairs::pairs::word_of;
+
+/// Puts the numbers of as many words as there is room for into the room, from a place of a page on:
+/// those that the flash has in memory are not read one by one.
+pub(crate) fn fill_run<N: Nor>(nor: &N, page: usize, at: usize, room: &mut [u64]) {
+    match nor.window(page, 2 * at, 2 * room.len()) {
+        Some(numbers) => fill_from_window(numbers, room),
+        None => fill_by_reading(nor, page, at, room),
+    }
+}
+
+/// The same of numbers in memory, two of each word.
+fn fill_from_window(numbers: &[u64], room: &mut [u64]) {
+    for (word, number) in room.iter_mut().enumerate() {
+        *number = number_of_pair(numbers[2 * word], numbers[2 * word + 1]);
+    }
+}
+
+/// The same of numbers that are read.
+fn fill_by_reading<N: Nor>(nor: &N, page: usize, at: usize, room: &mut [u64]) {
+    for (word, number) in room.iter_mut().enumerate() {
+        let first = 2 * (at + word);
+        *number = number_of_pair(nor.read(page, first), nor.read(page, first + 1));
+    }
+}
+
+/// The number of the word that two numbers are: `u64::MAX` of an erased word, 0 of a torn one.
+fn number_of_pair(number: u64, check: u64) -> u64 {
+    word_of(number, check).number()
+}

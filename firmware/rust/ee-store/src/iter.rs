@@ -1,0 +1,56 @@
+use crate::driver::Driver;
+use crate::ee_codec::Address;
+use crate::ee_core::LiveBatch;
+use crate::error::ReadFault;
+use crate::store::Store;
+use core::fmt;
+use core::iter::FusedIterator;
+
+/// The addresses of a store that have a value, by rising address, with their values: what [`Store::iter`] gives.
+pub struct Iter<'a, D: Driver> {
+    store: &'a Store<D>,
+    batch: LiveBatch,
+    /// How many of the batch it gave.
+    given: usize,
+    /// Behind which address the next look begins. `None` where no other look is to be made.
+    next: Option<Option<Address>>,
+}
+
+impl<'a, D: Driver> Iter<'a, D> {
+    pub(crate) fn of(store: &'a Store<D>) -> Iter<'a, D> {
+        Iter {
+            store,
+            batch: LiveBatch::new(),
+            given: 0,
+            next: Some(None),
+        }
+    }
+}
+
+impl<D: Driver> Iterator for Iter<'_, D> {
+    type Item = Result<(Address, u32), ReadFault<D::Error>>;
+
+    fn next(&mut self) -> Option<Self::Item> {
+        loop {
+            if let Some(found) = self.batch.found.get(self.given) {
+                self.given += 1;
+                return Some(Ok(found));
+            }
+            let after = self.next.take()?;
+            match self.store.next_batch(after) {
+                Ok(batch) => self.batch = batch,
+                Err(fault) => return Some(Err(fault)),
+            }
+            self.given = 0;
+            self.next = self.batch.through.map(Some);
+        }
+    }
+}
+
+impl<D: Driver> FusedIterator for Iter<'_, D> {}
+
+impl<D: Driver> fmt::Debug for Iter<'_, D> {
+    fn fmt(&self, f: &mut fmt::Formatter<'_>) -> fmt::Result {
+        f.debug_struct("Iter").finish_non_exhaustive()
+    }
+}
