@@ -38,6 +38,8 @@ WRITERS = {
     "import-hex --pairs": ["import-hex", "--pairs", "1", "6", "0807f000", "pairs-hex", "image"],
     "apply": ["apply", "image", "settings", "values"],
     "clean": ["clean", "image"],
+    "rescue": ["rescue", "image"],
+    "clear": ["clear", "image"],
     "tidy": ["tidy", "image", "settings"],
 }
 READERS = {
