@@ -15,6 +15,9 @@ Step = namedtuple("Step", "words printed status")
 # step of `ee run`.
 Run = namedtuple("Run", "name start script step")
 
+# The commands that change the image that they name first.
+CHANGERS = ("run", "clean", "rescue", "clear", "set", "apply", "tidy")
+
 
 def steps_of(transcript):
     steps = []
@@ -64,7 +67,7 @@ def runs_of(worked):
             start, script = images.get(words[2]), images.get(words[3])
             if start is not None and script is not None:
                 yield Run(f"{worked.name}, {words[3]} on {words[2]}", start, script, step)
-        if step.status == 0 and words[:2] in (["ee", "run"], ["ee", "clean"], ["ee", "set"], ["ee", "apply"], ["ee", "tidy"]):
+        if step.status == 0 and words[0] == "ee" and words[1] in CHANGERS:
             images[words[2]] = None
         elif step.status == 0 and words[:2] in (["ee", "import"], ["ee", "import-hex"]):
             images[words[-1]] = None
