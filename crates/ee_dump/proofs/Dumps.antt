@@ -3,15 +3,13 @@ use Rattle.std.proofs.Common.{rules, ◌≡◌, ◌≢◌, ◌⊎◌, ℕ, ◌*�
 use Rattle.std.specs.List.{All, flat_map}
 use Rattle.std.proofs.lemmas.List.{length-map, length-replicate}
 use Rattle.std.proofs.lemmas.List.Elements.{All-append, All-head, All-nil, All-replicate, All-tail}
-use Rattle.ee_flash.specs.Cells.{IsCellFault, device_from}
+use Rattle.ee_flash.specs.Cells.{HasLengths, device_from}
 use Rattle.ee_flash.specs.Device.{Device, IsBelowAllOnes, IsFormed, all_ones}
 use Rattle.ee_flash.specs.Formed.{IsFormed-pages_of}
 use Rattle.ee_flash.specs.Memory.{Memory, unused_memory}
 use Rattle.ee_flash.specs.Pages.{pages_of}
 use Rattle.ee_flash.specs.Size.{IsWithinLimits, Size, page_count}
 use Rattle.ee_flash.specs.declared.word.Word.{Word}
-use Rattle.ee_flash.specs.declared.memory.CellFault.{CellFault}
-use Rattle.ee_flash.specs.declared.memory.CellFault.TheVariants.{AllOnes, WrongLength}
 use Rattle.ee_flash.specs.declared.word.Word.TheVariants.{Erased, Torn}
 use Rattle.ee_flash.proofs.Public.{joined_pages, pages_join}
 use Rattle.ee_dump.specs.Pair.{AreWordsOfPairs}
@@ -147,7 +145,5 @@ read_device form size dump words wear memory are none is =
     subst (λ (m : Memory). IsImport form size dump m.device) (sym (is ∙ ap (λ (w : List ℕ). unused_memory (device_from size words w)) none)) (import_of_words form size dump words are.as_many are.spelled)
 
 -- and words that were read are those of a device
-pub no_cell_fault : (form : Form) (size : Size) (dump : List ℕ) (words : List Word) (wear : List ℕ) (fault : CellFault) → AreCells form size dump words → wear ≡ replicate (page_count size) 0
-    → IsCellFault size words wear fault → ⊥
-no_cell_fault form size dump words wear WrongLength are none wrong = wrong record { cells_length = are.as_many; wear_length = ap length none ∙ length-replicate (page_count size) 0 }
-no_cell_fault form size dump words wear (AllOnes at) are none wrong = absurd (omega (arith, are.below_all_ones at Erased wrong.1.within all_ones wrong.1.all_ones_there))
+pub have_lengths : (form : Form) (size : Size) (dump : List ℕ) (words : List Word) (wear : List ℕ) → AreCells form size dump words → wear ≡ replicate (page_count size) 0 → HasLengths size words wear
+have_lengths form size dump words wear are none = record { cells_length = are.as_many; wear_length = ap length none ∙ length-replicate (page_count size) 0 }

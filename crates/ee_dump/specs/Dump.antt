@@ -11,8 +11,8 @@ use Rattle.ee_dump.specs.Pair.{AreWordsOfPairs}
 use Rattle.ee_dump.specs.declared.form.Form.{Form}
 use Rattle.ee_dump.specs.declared.form.Form.TheVariants.{Words, Pairs}
 
--- the bytes of a word: eight, or twice eight, of which the second are those of the complement; erased flash reads as ones, a
--- number has its least byte first, and a torn word has none
+-- the bytes of a word: eight, or twice eight, of which the second are those of the complement;
+-- erased flash reads as ones, a number has its least byte first, and a torn word has none
 abbrev pub word_bytes : Form → Word → List ℕ
 word_bytes Words Erased = replicate 8 255
 word_bytes Words (Held value) = to_le_bytes w64 value

@@ -12,7 +12,8 @@ use Rattle.ee_dump.specs.declared.form.Form.TheVariants.{Words}
 abbrev pub unworn_device : Device → Device
 unworn_device device = record (blank_device device.size) { image = device.image }
 
--- what a device's dump makes is the device, unworn; and it has no pair that sums to less than all ones
+-- what a device's dump makes is the device, unworn; and it has no pair that sums to less than all
+-- ones
 abbrev pub ImportOfExport : Type 0
 ImportOfExport =
     (form : Form) (device other : Device) (dump : List ℕ) → IsFormed device → IsDump form device dump

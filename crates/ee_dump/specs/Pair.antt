@@ -50,7 +50,8 @@ pub record AreWordsOfPairs (dump : List ℕ) (words : List Word) : Type 0 where
 abbrev pub sum_at : List Pair → ℕ → ℕ
 sum_at pairs place = pair_sum (slice_index_or pairs place erased_pair)
 
--- Of the pairs that the bytes spell this one, by page and place, sums to less than all ones, and none before it does.
+-- Of the pairs that the bytes spell this one, by page and place, sums to less than all ones, and
+-- none before it does.
 pub record IsFirstLowPair (size : Size) (dump : List ℕ) (page at : ℕ) : Type 0 where
   pub pairs : List Pair
   pub spelled : AreBytesOf dump pairs

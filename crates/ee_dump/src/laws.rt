@@ -1,8 +1,8 @@
 //! What holds of every device and every dump. Each function does nothing: its contract is the law.
 ghost use Rattle.ee_dump.specs.Laws.{DumpOrTorn, DumpsAreRead, ExportOfImport, ImportOfExport, OneDevice, OneTorn, WholeImportIsADump};
 
-/// The device that a device's dump makes is that device, with no wear, and the dump has no pair that sums to less than all
-/// ones.
+/// The device that a device's dump makes is that device, with no wear, and the dump has no pair
+/// that sums to less than all ones.
 pub fn import_of_export()
     ensures { ImportOfExport }
 {}

@@ -7,7 +7,7 @@ ghost use Rattle.ee_dump.specs.Reading.{AreCells, AreWords};
 
 use crate::word::word_of;
 use crate::{DumpFault, Form};
-use ee_flash::{MemFlash, Shape, Word};
+use ee_flash::{Cells, MemFlash, Shape};
 use ee_pairs::is_low;
 use std::alloc::{AllocError, Allocator};
 
@@ -16,8 +16,9 @@ use std::alloc::{AllocError, Allocator};
 ///
 /// # Errors
 ///
-/// `Length`, where the dump has not as many bytes as the words of both sets; else `LowPair`, of pairs the first that sums to
-/// less than `u64::MAX`. `Memory` can come in place of any answer but `Length`.
+/// `Length`, where the dump has not as many bytes as the words of both sets; else `LowPair`,
+/// of pairs the first that sums to less than `u64::MAX`. `Memory` can come in place of any
+/// answer but `Length`.
 ///
 /// Source: ours.
 pub fn read_dump<A: Allocator + Copy>(
@@ -44,19 +45,19 @@ pub fn read_dump<A: Allocator + Copy>(
     let wear = vec![in alloc; 0; 2 * shape.pages()]?;
     match MemFlash::from_cells(shape, cells, wear) {
         Ok(flash) => Ok(flash),
-        Err(_) => unreachable!("the words are those of both sets, and none is all ones"),
+        Err(_) => unreachable!("the words are those of both sets"),
     }
 }
 
 /// The words that a dump of the right length spells.
-fn read_cells<A: Allocator>(
+fn read_cells<A: Allocator + Copy>(
     alloc: A,
     shape: Shape,
     form: Form,
     dump: &[u8],
-) -> Result<Vec<Word, A>, DumpFault>
+) -> Result<Cells<A>, DumpFault>
     requires { length dump.now ≡ dump_length form shape }
-    ensures read { IfOk result (λ cells. AreCells form shape dump.now cells.items) }
+    ensures read { IfOk result (λ cells. AreCells form shape dump.now cells) }
     ensures fault { IfErr result (IsDumpFault form shape dump.now) }
     ensures names { (page at : ℕ) → HasLowPair form shape dump.now page at
         → MatchResult result
@@ -70,11 +71,11 @@ fn read_cells<A: Allocator>(
 }
 
 /// The words that the bytes spell, eight for each.
-fn read_words<A: Allocator>(alloc: A, dump: &[u8]) -> Result<Vec<Word, A>, AllocError>
-    ensures { IfOk result (λ cells. AreWords dump.now cells.items) }
+fn read_words<A: Allocator + Copy>(alloc: A, dump: &[u8]) -> Result<Cells<A>, AllocError>
+    ensures { IfOk result (λ cells. AreWords dump.now cells) }
 {
     let (words, _) = dump.as_chunks::<8>();
-    let mut cells = Vec::with_capacity(alloc, words.len())?;
+    let mut cells = Cells::with_capacity(alloc, words.len())?;
     for bytes in words {
         cells.push(word_of(*bytes))?;
     }
@@ -82,9 +83,13 @@ fn read_words<A: Allocator>(alloc: A, dump: &[u8]) -> Result<Vec<Word, A>, Alloc
 }
 
 /// The words that the bytes spell, two numbers for each.
-fn read_pairs<A: Allocator>(alloc: A, shape: Shape, dump: &[u8]) -> Result<Vec<Word, A>, DumpFault>
+fn read_pairs<A: Allocator + Copy>(
+    alloc: A,
+    shape: Shape,
+    dump: &[u8],
+) -> Result<Cells<A>, DumpFault>
     requires { length dump.now ≡ dump_length Form.Pairs shape }
-    ensures read { IfOk result (λ cells. AreCells Form.Pairs shape dump.now cells.items) }
+    ensures read { IfOk result (λ cells. AreCells Form.Pairs shape dump.now cells) }
     ensures fault { IfErr result (IsDumpFault Form.Pairs shape dump.now) }
     ensures names { (page at : ℕ) → HasLowPair Form.Pairs shape dump.now page at
         → MatchResult result
@@ -93,7 +98,7 @@ fn read_pairs<A: Allocator>(alloc: A, shape: Shape, dump: &[u8]) -> Result<Vec<W
 {
     let (numbers, _) = dump.as_chunks::<8>();
     let (pairs, _) = numbers.as_chunks::<2>();
-    let mut cells = Vec::with_capacity(alloc, pairs.len())?;
+    let mut cells = Cells::with_capacity(alloc, pairs.len())?;
     for pair in pairs {
         let [number, check] = *pair;
         let (number, check) = (u64::from_le_bytes(number), u64::from_le_bytes(check));

@@ -6,4 +6,5 @@ mod Joined
 mod Endurance
 mod Premises
 mod Runs
+mod Kept
 pub mod Public

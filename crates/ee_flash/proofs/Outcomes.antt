@@ -174,7 +174,8 @@ step_ends step old new (inr (inr untouched)) = inl (rw untouched.same (record { 
 pub calls_compose : (first second third : Device) → GoesOn first second → (GoesOn second third → GoesOn first third) × (IsCut second third → IsCut first third)
 calls_compose first second third on = search (rules, same_size)
 
-some_more : (left : Option ℕ) → Some 0 ≡ option_map (λ n. n + 1) left → ⊥
+-- none left is not one more than some
+pub some_more : (left : Option ℕ) → Some 0 ≡ option_map (λ n. n + 1) left → ⊥
 some_more None e = cc
 some_more (Some n) e = let same : 0 ≡ n + 1 = same_Some 0 (n + 1) e in omega arith
 

@@ -1,5 +1,5 @@
 -- What a change of the list of words does to its pages.
-use Rattle.std.proofs.Common.{◌≡◌, ◌≢◌, ◌⊎◌, inl, inr, ℕ, ◌+◌, ◌-◌, ◌*◌, ◌<◌, ◌≤◌, List, [], ◌++◌, length, take, drop, get_or, set, replicate, refl, sym, ap, ◌∙◌, arith, rules}
+use Rattle.std.proofs.Common.{◌≡◌, ◌≢◌, ◌⊎◌, inl, inr, ℕ, ◌+◌, ◌-◌, ◌*◌, ◌<◌, ◌≤◌, List, [], ◌++◌, length, map, take, drop, get_or, set, replicate, refl, sym, ap, ◌∙◌, arith, rules}
 use borrow.Rule.Slice.PartMut.{put_mid}
 use Rattle.std.specs.List.{All}
 use Rattle.std.proofs.lemmas.Bool.{cases_eq, cases_order}
@@ -14,6 +14,7 @@ use Rattle.ee_flash.proofs.Tears.{All-left_page, IsPartlyErased-left_page, left_
 use Rattle.ee_flash.specs.Step.{IsPartlyErased}
 use Rattle.ee_flash.specs.declared.fuse.Tear.TheVariants.{Done}
 use Rattle.ee_flash.specs.declared.fuse.Tear.{Tear}
+use Rattle.ee_flash.specs.Runs.{number_of}
 use Rattle.ee_flash.specs.Formed.{length-page_words, length-pages_of, page-pages_of}
 use Rattle.ee_flash.specs.declared.word.Word.{Word}
 use Rattle.ee_flash.specs.declared.word.Word.TheVariants.{Erased}
@@ -123,58 +124,48 @@ refilled cells new len is as_long = take_at new (drop (length new) cells) len (o
 
 -- what a tear of a page does to a list of words and its pages
 pub record IsTornPage (size : Size) (old new : List Word) (page : ℕ) (tear : Tear) : Type 0 where
+  pub as_many : length new ≡ length old
   pub left : pages_of size new ≡ set (pages_of size old) page (left_page tear (get_or (pages_of size old) page []))
   pub whole : tear ≡ Done → pages_of size new ≡ set (pages_of size old) page (replicate size.words Erased)
   pub partly : IsPartlyErased (get_or (pages_of size old) page []) (get_or (pages_of size new) page [])
   pub own_page : pages_of size new ≡ set (pages_of size old) page (get_or (pages_of size new) page [])
   pub below_all_ones : All IsBelowAllOnes old → All IsBelowAllOnes new
 
--- the items of a `Vec` after `tear_words` wrote over a part of it
-module _ (size : Size) (cells : List Word) (page : ℕ) (tear : Tear) (filled : length cells ≡ page_count size * size.words) (in_range : page < page_count size) (len start width : ℕ) (seen new : List Word) (is_len : len ≡ length cells) (is_start : start ≡ page * size.words) (is_width : width ≡ size.words) (is_seen : seen ≡ cells) (is_new : new ≡ left_page tear (take (start + width - start) (drop start seen))) where
-  abbrev written : List Word
-  written = put_mid start (start + width - start) seen new
+-- the words after those of a page were torn
+module _ (size : Size) (cells : List Word) (page : ℕ) (tear : Tear) (filled : length cells ≡ page_count size * size.words) (in_range : page < page_count size) (start width : ℕ) (new : List Word) (is_start : start ≡ page * size.words) (is_width : width ≡ size.words) (is_new : new ≡ put_mid start (start + width - start) cells (left_page tear (take (start + width - start) (drop start cells)))) where
+  abbrev left : List Word
+  left = left_page tear (page_words size cells page)
 
-  abbrev torn_items : List Word
-  torn_items = take len (written ++ drop (length written) cells)
+  left_length : length left ≡ size.words
+  left_length = length-left_page tear (page_words size cells page) ∙ length-page_words size cells page filled in_range
 
-  width_is : start + width - start ≡ size.words
-  width_is = omega arith
+  torn_is : new ≡ put_mid (page * size.words) size.words cells left
+  torn_is = let same : start + width - start ≡ size.words = omega arith in cc
 
-  new_is : new ≡ left_page tear (page_words size cells page)
-  new_is = let same = width_is in cc
-
-  new_as_long : length new ≡ size.words
-  new_as_long = ap length new_is ∙ length-left_page tear (page_words size cells page) ∙ length-page_words size cells page filled in_range
-
-  torn_is : torn_items ≡ put_mid (page * size.words) size.words cells new
-  torn_is =
-      let same = width_is in
-      let rewritten : written ≡ put_mid (page * size.words) size.words cells new = cc in
-      rw rewritten (refilled cells _ len is_len (length-rewritten size cells page new filled in_range new_as_long))
-
-  torn_left : pages_of size torn_items ≡ set (pages_of size cells) page (left_page tear (get_or (pages_of size cells) page []))
+  torn_left : pages_of size new ≡ set (pages_of size cells) page (left_page tear (get_or (pages_of size cells) page []))
   torn_left =
-      ap (pages_of size) torn_is ∙ pages_of-rewritten size cells page new filled in_range new_as_long
-      ∙ ap (set (pages_of size cells) page) (new_is ∙ ap (left_page tear) (sym (page-pages_of size cells page [] in_range)))
+      ap (pages_of size) torn_is ∙ pages_of-rewritten size cells page left filled in_range left_length
+      ∙ ap (λ words. set (pages_of size cells) page (left_page tear words)) (sym (page-pages_of size cells page [] in_range))
 
-  torn_page : get_or (pages_of size torn_items) page [] ≡ left_page tear (get_or (pages_of size cells) page [])
+  torn_page : get_or (pages_of size new) page [] ≡ left_page tear (get_or (pages_of size cells) page [])
   torn_page =
       ap (λ (pages : List (List Word)). get_or pages page []) torn_left
       ∙ get_or-set_same (pages_of size cells) page _ [] (omega (arith, length-pages_of size cells))
 
-  torn_whole : tear ≡ Done → pages_of size torn_items ≡ set (pages_of size cells) page (replicate size.words Erased)
+  torn_whole : tear ≡ Done → pages_of size new ≡ set (pages_of size cells) page (replicate size.words Erased)
   torn_whole done =
       let words = get_or (pages_of size cells) page [] in
       let as_long : length words ≡ size.words = ap length (page-pages_of size cells page [] in_range) ∙ length-page_words size cells page filled in_range in
       torn_left ∙ ap (set (pages_of size cells) page) (ap (λ (t : Tear). left_page t words) done ∙ left_page-done words ∙ ap (λ (n : ℕ). replicate n Erased) as_long)
 
-  torn_below : All IsBelowAllOnes cells → All IsBelowAllOnes torn_items
+  torn_below : All IsBelowAllOnes cells → All IsBelowAllOnes new
   torn_below each =
       let page_each = All-take IsBelowAllOnes size.words _ (All-drop IsBelowAllOnes (page * size.words) cells each) in
-      rw torn_is (All-rewritten size cells page new filled in_range new_as_long each (rw new_is (All-left_page tear _ page_each)))
+      rw torn_is (All-rewritten size cells page left filled in_range left_length each (All-left_page tear _ page_each))
 
-  pub IsTornPage-items : IsTornPage size cells torn_items page tear
-  IsTornPage-items = record {
+  pub torn_page_of : IsTornPage size cells new page tear
+  torn_page_of = record {
+    as_many = ap length torn_is ∙ length-rewritten size cells page left filled in_range left_length;
     left = torn_left;
     whole = torn_whole;
     partly = rw torn_page (IsPartlyErased-left_page tear (get_or (pages_of size cells) page []));
@@ -183,7 +174,7 @@ module _ (size : Size) (cells : List Word) (page : ℕ) (tear : Tear) (filled : 
   }
 
 -- the words of a page from a place on, as they stand among all
-pub run-pages_of : (size : Size) (cells : List Word) (page at count : ℕ) → page < page_count size → at + count ≤ size.words
+run-pages_of : (size : Size) (cells : List Word) (page at count : ℕ) → page < page_count size → at + count ≤ size.words
     → take count (drop (page * size.words + at) cells) ≡ take count (drop at (get_or (pages_of size cells) page []))
 run-pages_of size cells page at count in_range within =
     let rest = drop (page * size.words) cells in
@@ -193,3 +184,9 @@ run-pages_of size cells page at count in_range within =
     ∙ sym (take-take count left (drop at rest) (omega arith))
     ∙ ap (take count) (sym (drop-take at left rest) ∙ ap (λ (end : ℕ). drop at (take end rest)) ends)
     ∙ ap (λ words. take count (drop at words)) (sym (page-pages_of size cells page [] in_range))
+
+-- numbers of words that stand among all are those of a run
+pub same_run_of : (size : Size) (cells : List Word) (page at count place : ℕ) (numbers : List ℕ) → page < page_count size → at + count ≤ size.words → place ≡ page * size.words + at
+    → numbers ≡ map number_of (take count (drop place cells)) → numbers ≡ map number_of (take count (drop at (get_or (pages_of size cells) page [])))
+same_run_of size cells page at count place numbers in_range within is_place are =
+    are ∙ ap (λ (p : ℕ). map number_of (take count (drop p cells))) is_place ∙ ap (map number_of) (run-pages_of size cells page at count in_range within)

@@ -15,16 +15,16 @@ use Rattle.ee_flash.specs.declared.fuse.Tear.TheVariants.{Nothing}
 abbrev at_once : Fuse
 at_once = record { after = 0; tear = Nothing }
 
--- `no_fuse_no_cut` needs that there is no fuse: on a blank device with one that cuts the first step, an erase ends with
--- the power off, and as a whole step would leave it on
+-- `no_fuse_no_cut` needs that there is no fuse: on a blank device with one that cuts the first
+-- step, an erase ends with the power off, and as a whole step would leave it on
 pub no_fuse_no_cut_needs_no_fuse : (size : Size)
     → ((steps : List Step) (memory : Memory) → IsOn memory.device → (after_steps steps memory).device ≡ all_completed steps memory.device) → ⊥
 no_fuse_no_cut_needs_no_fuse size law =
     let same = law (Erase 0 ∷ []) (with_fuse at_once (unused_memory (blank_device size))) refl in
     true≢false (sym (ap (λ (device : Device). device.on) same))
 
--- `programs_need_erases` needs that each step can be taken: on a blank device a word that is programmed once more than there
--- are words would need no erase
+-- `programs_need_erases` needs that each step can be taken: on a blank device a word that is
+-- programmed once more than there are words would need no erase
 abbrev again : ℕ → List Step
 again count = replicate count (Program 0 0 0)
 

@@ -63,10 +63,3 @@ All-left_page tear words each =
       | inr (inl erased) ↦ cc
       | inr (inr torn) ↦ cc
     ]))
-
--- words that are what the tear leaves, place by place, are what it leaves of the page
-pub same_left_page : (tear : Tear) (old new : List Word) → length new ≡ length old → ((k : ℕ) → k < length old → get_or new k Erased ≡ left_at tear k (get_or old k Erased)) → new ≡ left_page tear old
-same_left_page tear old new as_long each =
-    ext_get_or Erased _ _ (as_long ∙ sym (length-left_page tear old)) (λ k h.
-    let below : k < length old = omega arith in
-    each k below ∙ sym (get_or-left_page tear old k below))

@@ -5,8 +5,8 @@ use Rattle.ee_flash.specs.Size.{Size, IsWithinLimits, page_count}
 use Rattle.ee_flash.specs.declared.word.Word.{Word}
 use Rattle.ee_flash.specs.declared.word.Word.TheVariants.{Erased, Held}
 
--- its size, its pages (those of set 0, then those of set 1) with the words of each, how often each page was erased,
--- how often power was cut in a step, how often it still may be (a number, or any), and whether it is on
+-- its size, the words of each page (of set 0, then of set 1), how often each was erased, how often
+-- power was cut in a step, how often it still may be (a number, or any), and whether it is on
 pub record Device : Type 0 where
   pub size : Size
   pub image : List (List Word)
@@ -15,7 +15,7 @@ pub record Device : Type 0 where
   pub cuts_left : Option ℕ
   pub on : Bool
 
--- a device of this size that was never used: on, with every word erased, no wear, no cuts and none to come
+-- a device of this size, never used: on, with every word erased, no wear, no cuts and none to come
 abbrev pub blank_device : Size → Device
 blank_device size = record {
   size = size;
@@ -52,7 +52,7 @@ all_ones = 2 ^ 64 - 1
 abbrev pub IsBelowAllOnes : Word → Type 0
 IsBelowAllOnes word = (value : ℕ) → word ≡ Held value → value < all_ones
 
--- the device is within the limits, its lists have the lengths of its size, and its numbers fit 64 bits
+-- the device is within the limits, its lists are as long as its size says, its numbers fit 64 bits
 pub record IsFormed (device : Device) : Type 0 where
   pub within_limits : IsWithinLimits device.size
   pub image_length : length device.image ≡ page_count device.size

@@ -1,5 +1,5 @@
--- How long a flash device lasts, whoever takes its steps: a program needs an erased word, and only erases give back such words.
--- Each law is proved by the function of its name.
+-- How long a flash device lasts, whoever takes its steps: a program needs an erased word, and only
+-- erases give back such words. Each law is proved by the function of its name.
 use Rattle.std.specs.Prelude.{◌<◌, ◌≤◌, ℕ, ◌+◌, ◌*◌, ◌-◌, ◌/◌, ◌==◌, Bool, true, false, List, [], ◌∷◌}
 use Rattle.std.specs.List.{count_by, sum_by}
 use Rattle.ee_flash.specs.Size.{Size, page_count}
@@ -63,18 +63,21 @@ word_count size = page_count size * size.words
 
 -- ---- laws
 
--- No more words are programmed than were erased at the start, and the words of a page for each erase.
+-- No more words are programmed than were erased at the start, and the words of a
+-- page for each erase.
 abbrev pub ProgramsNeedErases : Type 0
 ProgramsNeedErases =
     (steps : List Step) (device : Device) → AreTaken steps device
     → programs steps ≤ erased_words device + device.size.words * erases steps
 
--- So many erases of the most worn page no way of programming so many words comes without: the words of the whole device can be
--- programmed once before any, and once more for each. It is ⌈programs / words of the device⌉ - 1, and 0 for no program.
+-- So many erases of the most worn page no way of programming so many words comes without: the words
+-- of the whole device can be programmed once before any, and once more for each. It is ⌈programs /
+-- words of the device⌉ - 1, and 0 for no program.
 abbrev pub least_wear : Size → ℕ → ℕ
 least_wear size programs = (programs - 1) / word_count size
 
--- Where a word at the least is programmed for each of so many changes, some page is erased so often.
+-- Where a word at the least is programmed for each of so many changes, some page is erased so
+-- often.
 abbrev pub SomePageWears : Type 0
 SomePageWears =
     (changes : ℕ) (steps : List Step) (device : Device) → AreTaken steps device → changes ≤ programs steps

@@ -1,4 +1,5 @@
--- Laws of steps, of calls of several steps, and of a device in memory: each is proved by the function of its name.
+-- Laws of steps, of calls of several steps, and of a device in memory: each is proved by the
+-- function of its name.
 use Rattle.std.specs.Prelude.{◌≡◌, ◌<◌, ◌≤◌, ◌⊎◌, ℕ, ◌*◌, ◌-◌, Some, None, List, [], ◌∷◌, length, slice_set}
 use Rattle.std.specs.List.{All, flat_map}
 use Rattle.ee_flash.specs.Size.{Size, page_count}
@@ -16,7 +17,8 @@ abbrev pub page_of : Step → ℕ
 page_of (Program page at value) = page
 page_of (Erase page) = page
 
--- what a caller meets before a step: the place is in range, and a word to be programmed is erased, its value below all ones
+-- what a caller meets before a step: the place is in range, and a word to be programmed is erased,
+-- its value below all ones
 abbrev pub CanTake : Step → Device → Type 0
 CanTake (Program page at value) device =
     (page < page_count device.size) × (at < device.size.words) × (word_at device page at ≡ Erased) × (value < all_ones)

@@ -19,7 +19,7 @@ module _ {A : Type 0} where
   abbrev pub device_of : MemFlash A → Device
   device_of flash = record {
     size = flash.shape;
-    image = pages_of flash.shape flash.cells.items;
+    image = pages_of flash.shape flash.cells;
     wear = flash.wear.items;
     cuts = flash.cuts;
     cuts_left = cuts_left_of flash.fuse;
@@ -46,9 +46,10 @@ with_fuse fuse memory =
 abbrev pub with_power_cut : Device → Device
 with_power_cut device = record device { cuts = one_more device.cuts; cuts_left = Some 0; on = false }
 
--- how a step begins: it is counted, the fuse burns down by one, and power is cut if the fuse says so
-abbrev pub begun : Memory → Memory
-begun memory = record {
+-- how a step begins: it is counted, the fuse burns down by one, and power is cut if the fuse says
+-- so
+abbrev pub with_step_begun : Memory → Memory
+with_step_begun memory = record {
   device = if is_some (next_tear memory.fuse) then with_power_cut memory.device else memory.device;
   steps = one_more memory.steps;
   fuse = next_fuse memory.fuse;
@@ -61,8 +62,8 @@ device_after_tear (Program page at value) (Some tear) device = with_power_cut (w
 device_after_tear (Erase page) (Some tear) device =
     with_power_cut (with_page_worn page (with_page page (left_page tear (page_at device page)) device))
 
--- what a step leaves: nothing changes while power is off; else the step is counted, the fuse burns down by one, and the
--- step is whole, or cut by the fuse
+-- what a step leaves: nothing changes while power is off; else the step is counted, the fuse burns
+-- down by one, and the step is whole, or cut by the fuse
 abbrev pub after_step : Step → Memory → Memory
 after_step step memory =
     if memory.device.on then record {

@@ -19,8 +19,8 @@ pub record IsCut (old new : Device) : Type 0 where
   pub one_more_cut : new.cuts ≡ one_more old.cuts
   pub one_less_left : old.cuts_left ≡ option_map (λ left. left + 1) new.cuts_left
 
--- how a call of several steps ends: at `Ok` power and cuts are as before; at an error power was cut once, or was off and
--- nothing changed
+-- how a call of several steps ends: at `Ok` power and cuts are as before; at an error power was cut
+-- once, or was off and nothing changed
 pub record Ends {T E : Type 0} (result : Result T E) (old new : Device) : Type 0 where
   pub ok : OnOk result (GoesOn old new)
   pub cut : OnErr result (IsOn old → IsCut old new)

@@ -43,8 +43,8 @@ pub record IsPartlyErased (old new : List Word) : Type 0 where
   pub as_long : length new ≡ length old
   pub each : (at : ℕ) → (slice_index_or new at Erased ≡ slice_index_or old at Erased) ⊎ (slice_index_or new at Erased ≡ Erased) ⊎ (slice_index_or new at Erased ≡ Torn)
 
--- What a cut in a step may leave of the pages. A program leaves its word erased, held or torn. An erase leaves each word
--- of its page old, erased or torn. All else stays.
+-- What a cut in a step may leave of the pages. A program leaves its word erased, held or torn. An
+-- erase leaves each word of its page old, erased or torn. All else stays.
 abbrev pub MayLeave : Step → Device → Device → Type 0
 MayLeave (Program page at value) old new =
     (new.image ≡ old.image) ⊎ (new.image ≡ (with_word_programmed page at value old).image) ⊎ (new.image ≡ (with_word page at Torn old).image)

@@ -1,4 +1,5 @@
-//! The flash device as the layers above know it: words are programmed, pages erased, and power is cut.
+//! The flash device as the layers above know it: words are programmed, pages erased, and power is
+//! cut.
 ghost use Rattle.std.specs.Prelude.{◌<◌, ◌≤◌, ◌+◌, ◌≡◌, ◌⊎◌, OnErr, OnOk, length, true};
 ghost use Rattle.ee_flash.specs.Device.{Device, IsBelowAllOnes, IsFormed, IsOn, all_ones, wear_at, word_at};
 ghost use Rattle.ee_flash.specs.Runs.{run_of};

@@ -1,7 +1,8 @@
-//! A cut that is to come: how many steps pass before it, and what it leaves of the words of its step.
+//! A cut that is to come: how many steps pass before it, and what it leaves of the words of its
+//! step.
 ghost use Rattle.std.specs.Prelude.{◌<◌, ◌≡◌};
 ghost use Rattle.ee_flash.specs.Device.{IsBelowAllOnes, all_ones};
-ghost use Rattle.ee_flash.specs.Fuse.{left_at, left_page, left_word};
+ghost use Rattle.ee_flash.specs.Fuse.{left_at, left_word};
 
 use crate::Word;
 
@@ -46,22 +47,14 @@ impl Tear {
     }
 
     /// What a cut erase leaves of the word at this place of its page.
-    fn erased(self, at: usize, word: Word) -> Word
-        ensures { result ≡ left_at self at word }
+    pub(crate) fn erased(self, at: usize, word: Word) -> Word
+        ensures word { result ≡ left_at self at word }
+        ensures below_all_ones { IsBelowAllOnes word → IsBelowAllOnes result }
     {
         match (self, at % 3) {
             (Tear::Nothing, _) | (Tear::Mixed, 0) => word,
             (Tear::Done, _) | (Tear::Mixed, 1) => Word::Erased,
             _ => Word::Torn,
         }
-    }
-}
-
-/// Tears the words of a page.
-pub(crate) fn tear_words(words: &mut [Word], tear: Tear)
-    ensures { words.new ≡ left_page tear words.old }
-{
-    for (at, word) in words.iter_mut().enumerate() {
-        *word = tear.erased(at, *word);
     }
 }

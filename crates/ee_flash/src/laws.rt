@@ -1,4 +1,5 @@
-//! Laws that hold of every device and every step, each the contract of a function that does nothing.
+//! Laws that hold of every device and every step, each the contract of a function that does
+//! nothing.
 ghost use Rattle.ee_flash.specs.Endurance.{ProgramsNeedErases, SomePageWears};
 ghost use Rattle.ee_flash.specs.Laws.{CallsCompose, FuseCuts, FuseWaits, JoinedPages, NoCutLeft, NoFuseNoCut, PagesJoin, StepChangesOnePage, StepEnds, StepKeepsFormed, StepLeavesPages};
 
@@ -57,8 +58,8 @@ pub fn joined_pages()
     ensures { JoinedPages }
 {}
 
-/// No more words are programmed than were erased at the start, and the words of a page for each erase,
-/// whoever takes the steps.
+/// No more words are programmed than were erased at the start, and the words of a page for each
+/// erase, whoever takes the steps.
 pub fn programs_need_erases()
     ensures { ProgramsNeedErases }
 {}

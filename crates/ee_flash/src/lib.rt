@@ -24,6 +24,7 @@
 //! (`some_page_wears`).
 #![tactic(auto)]
 
+mod cells;
 mod device;
 mod fuse;
 pub mod laws;
@@ -31,8 +32,9 @@ mod memory;
 mod shape;
 mod word;
 
+pub use cells::Cells;
 pub use device::{Cut, Flash};
 pub use fuse::{Fuse, Tear};
-pub use memory::{CellFault, MemFlash};
+pub use memory::{MemFlash, WrongLength};
 pub use shape::{HEADER_WORDS, Shape};
 pub use word::Word;

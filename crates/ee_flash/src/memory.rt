@@ -1,26 +1,17 @@
 //! The flash device in memory: its words, the wears of its pages, and a fuse that may cut a step.
-ghost use Rattle.std.specs.Bool.{MatchBool};
-ghost use Rattle.std.specs.Prelude.{true, ◌<◌, ◌≤◌, ◌*◌, ◌≡◌, ◌⊎◌, ◌+◌, ◌↔◌, IfErr, IfNone, IfOk, IfSome, IsTrue, OnErr, OnOk, is_ok, length, map, replicate, vec_len};
+ghost use Rattle.std.specs.Prelude.{true, ◌<◌, ◌≤◌, ◌*◌, ◌≡◌, ◌⊎◌, ◌+◌, ◌↔◌, IfOk, IsTrue, OnErr, OnOk, is_ok, length, replicate, vec_len};
 ghost use Rattle.std.specs.List.{All};
-ghost use Rattle.ee_flash.specs.Cells.{IsFirstAllOnes};
 ghost use Rattle.ee_flash.specs.Device.{IsBelowAllOnes, all_ones, page_at};
-ghost use Rattle.ee_flash.specs.Runs.{number_of};
 ghost use Rattle.ee_flash.specs.Size.{IsWithinLimits, page_count};
 
-use crate::fuse::tear_words;
-use crate::{Cut, Flash, Fuse, Shape, Tear, Word};
+use crate::{Cells, Cut, Flash, Fuse, Shape, Tear, Word};
 use std::alloc::{AllocError, Allocator, Global};
 
-/// Why words and wears are no device.
+/// Why words and wears are no device: they are not as many as the shape says.
 ///
 /// Source: ours.
 #[derive(Clone, Copy, Debug, PartialEq, Eq)]
-pub enum CellFault {
-    /// The words or the wears are not as many as the shape says.
-    WrongLength,
-    /// The word at this index, counted from 0 and the first of its kind, is held at `u64::MAX`.
-    AllOnes(usize),
-}
+pub struct WrongLength;
 
 /// A flash device in memory, with a fuse that may cut a step.
 ///
@@ -29,15 +20,15 @@ pub enum CellFault {
 pub struct MemFlash<A: Allocator = Global> {
     shape: Shape,
     /// The words of the first page, then those of the second, and so on.
-    cells: Vec<Word, A>,
+    cells: Cells<A>,
     wear: Vec<u64, A>,
     cuts: u64,
     on: bool,
     steps: u64,
     fuse: Option<Fuse>,
     ghost within_limits: { IsWithinLimits shape },
-    ghost cells_length: { vec_len cells ≡ page_count shape * shape.words },
-    ghost below_all_ones: { All IsBelowAllOnes cells.items },
+    ghost cells_length: { length cells ≡ page_count shape * shape.words },
+    ghost below_all_ones: { All IsBelowAllOnes cells },
     ghost wear_length: { vec_len wear ≡ page_count shape },
     ghost wear_fits: { All (λ count. count ≤ all_ones) wear.items },
     ghost cuts_fit: { cuts ≤ all_ones },
@@ -56,7 +47,7 @@ impl<A: Allocator + Copy> MemFlash<A> {
         ensures { IfOk result (λ flash. memory_of flash ≡ unused_memory (blank_device shape)) }
     {
         let pages = 2 * shape.pages();
-        let cells = vec![in alloc; Word::Erased; pages * shape.words()]?;
+        let cells = Cells::erased(alloc, pages * shape.words())?;
         let wear = vec![in alloc; 0; pages]?;
         Ok(MemFlash {
             shape,
@@ -71,8 +62,8 @@ impl<A: Allocator + Copy> MemFlash<A> {
 }
 
 impl<A: Allocator> MemFlash<A> {
-    ghost use Rattle.ee_flash.specs.Memory.{with_fuse, begun, device_of, memory_of, unused_memory, with_device};
-    ghost use Rattle.ee_flash.specs.Cells.{HasLengths, IsCellFault, device_from};
+    ghost use Rattle.ee_flash.specs.Memory.{with_fuse, with_step_begun, device_of, memory_of, unused_memory, with_device};
+    ghost use Rattle.ee_flash.specs.Cells.{HasLengths, device_from};
     ghost use Rattle.ee_flash.specs.Device.{IsOff, IsOn};
     ghost use Rattle.ee_flash.specs.Step.{IsPartlyErased, with_page, with_word, with_page_worn};
     ghost use Rattle.ee_flash.specs.Fuse.{left_page, next_tear};
@@ -82,25 +73,18 @@ impl<A: Allocator> MemFlash<A> {
     ///
     /// # Errors
     ///
-    /// The first that applies, and both vectors are dropped: `WrongLength`, where the words or the
-    /// wears are not those of two sets of pages; `AllOnes`, where a word is held at `u64::MAX`.
-    pub fn from_cells(
-        shape: Shape,
-        cells: Vec<Word, A>,
-        wear: Vec<u64, A>,
-    ) -> Result<Self, CellFault>
+    /// `WrongLength`, where the words or the wears are not those of two sets of
+    /// pages. Both are dropped.
+    pub fn from_cells(shape: Shape, cells: Cells<A>, wear: Vec<u64, A>) -> Result<Self, WrongLength>
         ensures device { IfOk result
-            (λ flash. memory_of flash ≡ unused_memory (device_from shape cells.items wear.items)) }
-        ensures lengths { OnOk result (HasLengths shape cells.items wear.items) }
-        ensures below_all_ones { OnOk result (All IsBelowAllOnes cells.items) }
-        ensures fault { IfErr result (IsCellFault shape cells.items wear.items) }
+            (λ flash. memory_of flash ≡ unused_memory (device_from shape cells wear.items)) }
+        ensures lengths { OnOk result (HasLengths shape cells wear.items) }
+        ensures below_all_ones { OnOk result (All IsBelowAllOnes cells) }
+        ensures fault { OnErr result (¬ HasLengths shape cells wear.items) }
     {
         let pages = 2 * shape.pages();
         if cells.len() != pages * shape.words() || wear.len() != pages {
-            return Err(CellFault::WrongLength);
-        }
-        if let Some(at) = first_all_ones(&cells) {
-            return Err(CellFault::AllOnes(at));
+            return Err(WrongLength);
         }
         Ok(MemFlash {
             shape,
@@ -135,7 +119,7 @@ impl<A: Allocator> MemFlash<A> {
         ensures untouched { OnErr result (memory_of self.new ≡ memory_of self.old) }
         ensures on { OnOk result (IsOn (device_of self.old)) }
         ensures tear { IfOk result (λ tear. tear ≡ next_tear self.old.fuse) }
-        ensures begun { OnOk result (memory_of self.new ≡ begun (memory_of self.old)) }
+        ensures begun { OnOk result (memory_of self.new ≡ with_step_begun (memory_of self.old)) }
     {
         if !self.on {
             return Err(Cut);
@@ -161,7 +145,8 @@ impl<A: Allocator> MemFlash<A> {
     fn page_start(&self, page: usize) -> usize
         requires { page < page_count self.now.shape }
         ensures value { result ≡ page * self.now.shape.words }
-        ensures within { result + self.now.shape.words ≤ vec_len self.now.cells }
+        ensures within { result + self.now.shape.words ≤ length self.now.cells }
+        ensures few { result + self.now.shape.words ≤ 65536 }
     {
         page * self.shape.words()
     }
@@ -175,7 +160,7 @@ impl<A: Allocator> MemFlash<A> {
             ≡ with_device (with_word page at word (device_of self.old)) (memory_of self.old) }
     {
         let start = self.page_start(page);
-        self.cells[start + at] = word;
+        self.cells.set(start + at, word);
     }
 
     /// Counts an erase of a page.
@@ -202,38 +187,7 @@ impl<A: Allocator> MemFlash<A> {
             (device_of self.new).image ≡ (with_page page left (device_of self.old)).image }
     {
         let start = self.page_start(page);
-        let end = start + self.shape.words();
-        tear_words(&mut self.cells[start..end], tear);
-    }
-}
-
-/// Whether the word is held at `u64::MAX`.
-fn is_all_ones(word: Word) -> bool
-    ensures { MatchBool result (word ≡ Word.Held all_ones) (IsBelowAllOnes word) }
-{
-    matches!(word, Word::Held(u64::MAX))
-}
-
-/// The index of the first word that is held at `u64::MAX`.
-fn first_all_ones(words: &[Word]) -> Option<usize>
-    ensures found { IfSome result (IsFirstAllOnes words.now) }
-    ensures none { IfNone result (All IsBelowAllOnes words.now) }
-{
-    for (at, word) in words.iter().enumerate() {
-        if is_all_ones(*word) {
-            return Some(at);
-        }
-    }
-    None
-}
-
-/// Puts the numbers of these words into the room, which is as long.
-fn put_numbers(words: &[Word], room: &mut [u64])
-    requires { length room.old ≡ length words.now }
-    ensures { room.new ≡ map number_of words.now }
-{
-    for (at, number) in room.iter_mut().enumerate() {
-        *number = words[at].number();
+        self.cells.tear(start, start + self.shape.words(), tear);
     }
 }
 
@@ -247,8 +201,8 @@ impl<A: Allocator> Flash for MemFlash<A> {
     ghost device = { device_of };
 
     ghost formed = { λ flash. IsFormed-pages_of
-        flash.shape flash.cells.items flash.wear.items flash.cuts flash.fuse flash.on
-        flash.within_limits (sym flash.cells.ok.0 ∙ flash.cells_length) flash.below_all_ones
+        flash.shape flash.cells flash.wear.items flash.cuts flash.fuse flash.on
+        flash.within_limits flash.cells_length flash.below_all_ones
         (sym flash.wear.ok.0 ∙ flash.wear_length) flash.wear_fits flash.cuts_fit };
 
     fn shape(&self) -> Shape {
@@ -264,13 +218,11 @@ impl<A: Allocator> Flash for MemFlash<A> {
     }
 
     fn word(&self, page: usize, at: usize) -> Word {
-        self.cells[self.page_start(page) + at]
+        self.cells.word(self.page_start(page) + at)
     }
 
     fn run<'a>(&'a self, page: usize, at: usize, room: &'a mut [u64]) -> &'a [u64] {
-        let start = self.page_start(page) + at;
-        put_numbers(&self.cells[start..start + room.len()], room);
-        room
+        self.cells.numbers(self.page_start(page) + at, room.len())
     }
 
     /// Programs an erased word, as any device does; what a cut leaves is what the fuse says.

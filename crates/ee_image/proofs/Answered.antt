@@ -6,9 +6,7 @@ use Rattle.std.proofs.lemmas.List.Elements.{All-append, All-cons, All-nil}
 use Rattle.std.proofs.Math.Nat.{suc-mul}
 use Rattle.ee_flash.specs.Size.{Size, IsWithinLimits, page_count}
 use Rattle.ee_flash.specs.Device.{Device, IsBelowAllOnes, IsFormed, all_ones}
-use Rattle.ee_flash.specs.Cells.{HasLengths, IsCellFault, IsFirstAllOnes, device_from}
-use Rattle.ee_flash.specs.declared.memory.CellFault.{CellFault}
-use Rattle.ee_flash.specs.declared.memory.CellFault.TheVariants.{AllOnes, WrongLength}
+use Rattle.ee_flash.specs.Cells.{HasLengths, device_from}
 use Rattle.ee_flash.specs.declared.word.Word.TheVariants.{Erased}
 use Rattle.ee_flash.specs.Formed.{IsFormed-pages_of}
 use Rattle.ee_flash.specs.Memory.{Memory as Kept, unused_memory}
@@ -71,13 +69,6 @@ are_cells size text rest cells wears read =
       below_all_ones = subst (All IsBelowAllOnes) (sym read.cells_are) (cells_below size.words read.pages wears read.proper);
       wear_fits = wears_fit size.words read.pages wears read.proper;
     }
-
-no_all_ones : (cells : List Word) (at : ℕ) → All IsBelowAllOnes cells → IsFirstAllOnes cells at → ⊥
-no_all_ones cells at below first = let less = below at Erased first.within all_ones first.all_ones_there in omega arith
-
-pub no_cell_fault : (size : Size) (cells : List Word) (wears : List ℕ) (fault : CellFault) → AreCells size cells wears → IsCellFault size cells wears fault → ⊥
-no_cell_fault size cells wears WrongLength kept wrong = wrong kept.lengths
-no_cell_fault size cells wears (AllOnes at) kept wrong = no_all_ones cells at kept.below_all_ones wrong.1
 
 -- ---- a text that was read
 

@@ -1,4 +1,5 @@
--- Pages at the front of a text: two rows of them are the same, or one goes on where the other stops.
+-- Pages at the front of a text: two rows of them are the same, or one goes on where the other
+-- stops.
 use Rattle.std.proofs.Common.{◌≡◌, ◌⊎◌, ℕ, ◌<◌, List, [], ◌∷◌, ◌++◌, length, refl, sym, ap, ◌∙◌, arith, append_assoc, inl, inr}
 use Rattle.std.proofs.lemmas.List.{append-nil}
 use Rattle.ee_text.specs.Line.{line_of}

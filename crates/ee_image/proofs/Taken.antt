@@ -87,7 +87,8 @@ wear_in_front n text wear behind most fits e =
     let inner : n ≡ length (decimal wear) + suc (n - length (decimal wear) - 1) = omega (arith, length-decimal-u64 wear fits, length-append (decimal wear) (space ∷ behind)) in
     ap (take n) e ∙ ap (λ k. take k (decimal wear ++ space ∷ behind)) inner ∙ take-append-add (decimal wear) (space ∷ behind) (suc (n - length (decimal wear) - 1))
 
--- what stands in front of their first space is the wear, where a wear and a space stand at the front
+-- what stands in front of their first space is the wear, where a wear and a space stand at the
+-- front
 pub cut_behind_wear : (n : ℕ) (text field : List ℕ) (rest : Option (Bor (List ℕ))) (wear : ℕ) (behind : List ℕ) → n ≡ min (length text) 21 → IsField field
     → IfNone rest (take n text ≡ field) → IfSome rest (λ tail. take n text ≡ field ++ space ∷ tail.now) → wear < 2 ^ 64 → text ≡ decimal wear ++ space ∷ behind → field ≡ decimal wear
 cut_behind_wear n text field None wear behind most lacks last more fits e =

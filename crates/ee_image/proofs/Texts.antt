@@ -73,7 +73,8 @@ no_bad_page size pages wears text n proper many text_is bad =
 stops_there : (size : Size) (pages others : List (List Word)) (rest : List ℕ) → GoesOn size.words pages others rest → length others ≤ page_count size
     → ((length pages < page_count size) × NoPage size.words rest) ⊎ ((length pages ≡ page_count size) × (rest ≢ [])) → ⊥
 stops_there size pages others rest on few (inl early) = on.a_page early.1
-stops_there size pages others rest on few (inr late) = let h = on.longer in let k = late.0 in omega arith
+stops_there size pages others rest on few (inr late) = let h = on.longer in
+    let k = late.0 in omega arith
 
 at_most : (size : Size) (text : List ℕ) (n : ℕ) (bad : IsBadPage size text n) → length bad.pages ≤ page_count size
 at_most size text n bad = elim bad.stops [

@@ -1,4 +1,5 @@
--- Every text is a device's or has a fault: each part of it can be told by comparing it with what could stand there.
+-- Every text is a device's or has a fault: each part of it can be told by comparing it with
+-- what could stand there.
 use Rattle.std.proofs.Common.{◌≡◌, ◌≢◌, ◌⊎◌, ℕ, zero, suc, ◌+◌, ◌<◌, ◌≤◌, ◌^◌, List, [], ◌∷◌, ◌++◌, length, refl, sym, ap, ◌∙◌, arith, inl, inr, decimal, append_assoc, length-append}
 use Rattle.std.specs.List.{All, flat_map}
 use Rattle.std.proofs.lemmas.Bool.{cases_lt}

@@ -24,8 +24,9 @@ NoSize text = (size : Size) (rest : List ℕ) → BeginsWithSize text size rest 
 abbrev pub NoPage : ℕ → List ℕ → Type 0
 NoPage words text = (wear : ℕ) (page : List Word) (rest : List ℕ) → IsPage words wear page → text ≢ line_of (page_text wear page) ++ rest
 
--- Behind the first line: after the lines of these pages one is still needed and none stands there, or none is needed and
--- the text goes on. A line that isn't ended by a line feed is bad, and so is one that is missing.
+-- Behind the first line: after the lines of these pages one is still needed and none stands there,
+-- or none is needed and the text goes on. A line that isn't ended by a line feed is bad, and so is
+-- one that is missing.
 pub record IsBadPage (size : Size) (text : List ℕ) (n : ℕ) : Type 0 where
   pub pages : List (List Word)
   pub wears : List ℕ

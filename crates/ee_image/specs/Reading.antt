@@ -17,7 +17,8 @@ use Rattle.ee_image.specs.declared.reading.PageFault.TheVariants.{Bad, NoMemory}
 abbrev pub spaced_words : List Word → List ℕ
 spaced_words words = flat_map (λ word. space ∷ word_text word) words
 
--- at the front of the text stood so many words, which came behind the cells, and the rest comes behind them
+-- at the front of the text stood so many words, which came behind the cells, and the
+-- rest comes behind them
 pub record AreWordsRead (count : ℕ) (text rest : List ℕ) (old new : List Word) : Type 0 where
   pub words : List Word
   pub as_long : length words ≡ count

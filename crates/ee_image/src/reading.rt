@@ -11,7 +11,7 @@ ghost use Rattle.ee_image.specs.Reading.{AreWordsRead, IsWordsFault, IsNextPage,
 
 use crate::ImageFault;
 use crate::word::leading_word;
-use ee_flash::{MemFlash, Shape, Word};
+use ee_flash::{Cells, MemFlash, Shape, Word};
 use ee_text::{Fields, next_field, next_line, number};
 use std::alloc::Allocator;
 
@@ -26,9 +26,10 @@ const MOST_WEAR_BYTES: usize = 21;
 ///
 /// # Errors
 ///
-/// The first that applies: `TooLong`, more than 4194304 bytes; `BadLine(1)`, no size in the first line; `BadShape`, no
-/// 1 to 64 pages in each set or no 5 to 512 words in a page; `BadLine(n)`, the first line that is no page's, or is
-/// missing, or is one too many. `Memory`, memory ran out, can come in place of any answer but `TooLong`.
+/// The first that applies: `TooLong`, more than 4194304 bytes; `BadLine(1)`, no size in the first
+/// line; `BadShape`, no 1 to 64 pages in each set or no 5 to 512 words in a page; `BadLine(n)`, the
+/// first line that is no page's, or is missing, or is one too many. `Memory`, memory ran out, can
+/// come in place of any answer but `TooLong`.
 ///
 /// Source: ours.
 pub fn read_image<A: Allocator + Copy>(alloc: A, bytes: &[u8]) -> Result<MemFlash<A>, ImageFault>
@@ -55,7 +56,7 @@ pub fn read_image<A: Allocator + Copy>(alloc: A, bytes: &[u8]) -> Result<MemFlas
     let (cells, wear) = read_pages(alloc, shape, rest)?;
     match MemFlash::from_cells(shape, cells, wear) {
         Ok(flash) => Ok(flash),
-        Err(_) => unreachable!("each page has its words and its wear, and no word is all ones"),
+        Err(_) => unreachable!("each page has its words and its wear"),
     }
 }
 
@@ -130,13 +131,13 @@ fn read_pages<A: Allocator + Copy>(
     alloc: A,
     shape: Shape,
     text: &[u8],
-) -> Result<(Vec<Word, A>, Vec<u64, A>), ImageFault>
+) -> Result<(Cells<A>, Vec<u64, A>), ImageFault>
     ensures found { IfOk result (λ read.
-        ArePagesRead shape.words (page_count shape) text.now [] read.0.items read.1.items) }
+        ArePagesRead shape.words (page_count shape) text.now [] read.0 read.1.items) }
     ensures fault { IfErr result (IsPagesFault shape text.now) }
 {
     let pages = 2 * shape.pages();
-    let mut cells = Vec::with_capacity(alloc, pages * shape.words())?;
+    let mut cells = Cells::with_capacity(alloc, pages * shape.words())?;
     let mut wear = Vec::with_capacity(alloc, pages)?;
     let mut rest = text;
     for page in 0..pages {
@@ -162,11 +163,11 @@ fn read_pages<A: Allocator + Copy>(
 fn next_page<'a, A: Allocator>(
     text: &'a [u8],
     words: usize,
-    cells: &mut Vec<Word, A>,
+    cells: &mut Cells<A>,
 ) -> Result<(u64, &'a [u8]), PageFault>
     requires { 0 < words }
     ensures found { IfOk result (λ read.
-        IsNextPage words read.0 text.now read.1.now cells.old.items cells.new.items) }
+        IsNextPage words read.0 text.now read.1.now cells.old cells.new) }
     ensures fault { IfErr result (IsPageFault words text.now) }
 {
     let Some((wear, rest)) = leading_wear(text) else {
@@ -191,15 +192,15 @@ fn leading_wear(text: &[u8]) -> Option<(u64, &[u8])>
     Some((number(field)?, &text[field.len()..]))
 }
 
-/// Reads so many words, each behind one space, and gives what stands behind them. They go to the end
-/// of `cells`; after an error there may be a part of them.
+/// Reads so many words, each behind one space, and gives what stands behind them. They go to the
+/// end of `cells`; after an error there may be a part of them.
 fn read_words<'a, A: Allocator>(
     text: &'a [u8],
     count: usize,
-    cells: &mut Vec<Word, A>,
+    cells: &mut Cells<A>,
 ) -> Result<&'a [u8], PageFault>
     ensures found { IfOk result (λ rest.
-        AreWordsRead count text.now rest.now cells.old.items cells.new.items) }
+        AreWordsRead count text.now rest.now cells.old cells.new) }
     ensures fault { IfErr result (IsWordsFault count text.now) }
 {
     let mut rest = text;

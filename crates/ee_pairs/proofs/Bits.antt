@@ -8,7 +8,7 @@ use Rattle.ee_flash.specs.declared.word.Word.TheVariants.{Held}
 use Rattle.ee_pairs.specs.Nor.{HasBits, IsNorNumber}
 use Rattle.ee_pairs.specs.Pairs.{complement, pair_word}
 use Rattle.ee_pairs.specs.Formed.{word_cases}
-use Rattle.ee_pairs.specs.Laws.{IsPart, MayPartBe, joined}
+use Rattle.ee_pairs.specs.Laws.{IsPart, MayPartBe, number_of_parts}
 
 -- what has every bit of a number is no less
 pub no_less : (number other : ℕ) → HasBits number other → other ≤ number
@@ -48,7 +48,7 @@ has_part : (bits asked left : ℕ) → asked < 2 ^ bits → MayPartBe bits asked
 has_part bits asked left fits (inl has) = has
 has_part bits asked left fits (inr is) = rw is (all_bits bits asked fits)
 
-pub parts_are_a_program : (bits : ℕ) (asked left : List ℕ) → length left ≡ length asked → All (IsPart bits) asked → All (IsPart bits) left → ((part : ℕ) → MayPartBe bits (slice_index asked part) (slice_index left part)) → HasBits (joined bits left) (joined bits asked)
+pub parts_are_a_program : (bits : ℕ) (asked left : List ℕ) → length left ≡ length asked → All (IsPart bits) asked → All (IsPart bits) left → ((part : ℕ) → MayPartBe bits (slice_index asked part) (slice_index left part)) → HasBits (number_of_parts bits left) (number_of_parts bits asked)
 parts_are_a_program bits [] [] e fits left_fits each = refl
 parts_are_a_program bits [] (l ∷ left) e fits left_fits each = cc
 parts_are_a_program bits (a ∷ asked) [] e fits left_fits each = cc
@@ -56,4 +56,4 @@ parts_are_a_program bits (a ∷ asked) (l ∷ left) e fits left_fits each =
     let part : a < 2 ^ bits = fits 0 0 (omega arith) in
     let left_part : l < 2 ^ bits = left_fits 0 0 (omega arith) in
     let rest = parts_are_a_program bits asked left (omega (arith, e)) (λ k none h. fits (suc k) none (omega arith)) (λ k none h. left_fits (suc k) none (omega arith)) (λ k. each (suc k)) in
-    and_block bits (joined bits left) (joined bits asked) l a left_part part ∙ rw (rest, has_part bits a l part (each 0)) refl
+    and_block bits (number_of_parts bits left) (number_of_parts bits asked) l a left_part part ∙ rw (rest, has_part bits a l part (each 0)) refl

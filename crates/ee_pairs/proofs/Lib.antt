@@ -5,3 +5,4 @@ mod High
 mod Steps
 mod Wipes
 mod Premises
+mod Halves

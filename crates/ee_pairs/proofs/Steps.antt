@@ -1,5 +1,5 @@
 -- A step of words is one or two steps of numbers.
-use Rattle.std.proofs.Common.{rules, Bool, ◌≡◌, ◌≢◌, ◌⊎◌, inl, inr, ℕ, ◌+◌, ◌*◌, ◌<◌, ◌≤◌, List, [], length, get_or, set, replicate, map, true, false, Result, Ok, Err, OnOk, OnErr, refl, sym, subst, ap, ◌∙◌, arith}
+use Rattle.std.proofs.Common.{rules, Bool, ◌≡◌, ◌≢◌, ◌⊎◌, inl, inr, ℕ, ◌+◌, ◌*◌, ◌<◌, ◌≤◌, List, [], Option, length, get_or, set, replicate, map, true, false, Result, Ok, Err, OnOk, OnErr, refl, sym, subst, ap, ◌∙◌, arith}
 use Rattle.std.proofs.lemmas.Bool.{eq-eqb, ne_eqb}
 use Rattle.std.proofs.lemmas.List.{get_or-map, get_or-set_other, get_or-set_same, length-set, map-set, set-get_or, set-set}
 use Rattle.ee_flash.specs.Device.{Device, all_ones, page_at, word_at}
@@ -7,8 +7,9 @@ use Rattle.ee_flash.specs.Size.{Size, page_count}
 use Rattle.ee_flash.specs.Step.{Erase, IsCutIn, IsPartlyErased, IsUntouched, MayLeave, Program, with_word, with_word_programmed}
 use Rattle.ee_flash.specs.declared.word.Word.{Word}
 use Rattle.ee_flash.specs.declared.word.Word.TheVariants.{Erased, Held, Torn}
-use Rattle.ee_pairs.specs.Nor.{EraseNumbers, IsNorCutIn, IsNorFormed, IsNorNumber, IsNorUntouched, KeepsBits, MayEraseLeave, NorDevice, ProgramNumber, number_at, number_in, numbers_at, with_number, with_numbers, with_numbers_erased}
-use Rattle.ee_pairs.specs.Pairs.{IsHigh, IsSafe, NoLowPair, complement, paired_device, pair_in, pair_word, pair_words}
+use Rattle.ee_flash.proofs.Public.{some_more}
+use Rattle.ee_pairs.specs.Nor.{EraseNumbers, NorStep, IsNorCutIn, IsNorFormed, IsNorNumber, IsNorUntouched, KeepsBits, MayEraseLeave, NorDevice, ProgramNumber, number_at, number_in, numbers_at, with_number, with_numbers, with_numbers_erased}
+use Rattle.ee_pairs.specs.Pairs.{IsHigh, IsSafe, MayBeCut, NoLowPair, complement, paired_device, pair_in, pair_word, pair_words}
 use Rattle.ee_pairs.specs.Formed.{get_or-pair_words, number_fits, word_cases}
 use Rattle.ee_pairs.proofs.Bits.{no_less}
 use Rattle.ee_pairs.proofs.High.{high_blank, high_first, high_kept, high_second, no_low_with}
@@ -145,7 +146,15 @@ module _ (nor : NorDevice) (page at : ℕ) (formed : IsNorFormed nor) (in_range 
     high_cut_second value new fits cut = search (rules, no_low_with, high_of_second, no_less, one_page)
 
   pub safe_after_first : IsSafe nor → (value : ℕ) → IsSafe (with_number page (2 * at) value nor)
-  safe_after_first safe value keeps = high_after_first (safe keeps) value
+  safe_after_first safe value keeps may = high_after_first (safe keeps may) value
+
+-- where a step was cut, it might be
+might_be_cut : (nor new : NorDevice) (step : NorStep) → IsNorCutIn step nor new → MayBeCut nor
+might_be_cut nor new step cut none = some_more new.cuts_left (sym none ∙ cut.cuts_left)
+
+-- and might be before a step that left the cuts as they were
+might_before : (nor new : NorDevice) → new.cuts_left ≡ nor.cuts_left → MayBeCut new → MayBeCut nor
+might_before nor new same may none = may (same ∙ none)
 
 -- power was off, and nothing changed
 safe_untouched : (nor new : NorDevice) → IsSafe nor → IsNorUntouched nor new → IsSafe new
@@ -179,7 +188,8 @@ cut_erase nor new page formed new_formed in_range safe cut =
       same_size = cut.same_size;
       image = (
         rw (there, new_there) (left_words nor.clears_first nor.size.words (numbers_at nor page) (numbers_at new page) cut.image.0
-            (λ at. number_fits (numbers_at new page) at (new_formed.numbers_fit page [] new_within)) (λ keeps. safe keeps page)),
+            (λ at. number_fits (numbers_at new page) at (new_formed.numbers_fit page [] new_within))
+            (λ keeps. safe keeps (might_be_cut nor new _ cut) page)),
         image ∙ ap (map words) cut.image.1 ∙ rw new_there (map-set words nor.image page (numbers_at new page)),
       );
       wear = cut.wear;
@@ -188,9 +198,9 @@ cut_erase nor new page formed new_formed in_range safe cut =
     }
 
 safe_cut_erase : (nor new : NorDevice) (page : ℕ) → IsSafe nor → IsNorCutIn (EraseNumbers page) nor new → IsSafe new
-safe_cut_erase nor new page safe cut keeps =
+safe_cut_erase nor new page safe cut keeps may =
     let kept = sym cut.same_kind ∙ keeps in
-    let high = safe kept in
+    let high = safe kept (might_be_cut nor new _ cut) in
     let left = kept_bits nor.clears_first (numbers_at nor page) (numbers_at new page) cut.image.0 kept in
     no_low_with nor new page (numbers_at new page) high (high_kept _ _ left (high page)) cut.image.1
 
@@ -199,11 +209,12 @@ safe_cut_erase nor new page safe cut keeps =
 -- an erase, whole or not
 module _ (nor new : NorDevice) (page : ℕ) (formed : IsNorFormed nor) (new_formed : IsNorFormed new) (in_range : page < page_count nor.size) (safe : IsSafe nor) where
   pub safe_erased : {T E : Type 0} (result : Result T E) → OnOk result (new ≡ with_numbers_erased page nor) → OnErr result (IsNorCutIn (EraseNumbers page) nor new ⊎ IsNorUntouched nor new) → IsSafe new
-  safe_erased (Ok x) done cut keeps =
-      let high = safe (sym (ap (λ (nor : NorDevice). nor.clears_first) done) ∙ keeps) in
+  safe_erased (Ok x) done cut keeps may =
+      let before = might_before nor new (ap (λ (nor : NorDevice). nor.cuts_left) done) may in
+      let high = safe (sym (ap (λ (nor : NorDevice). nor.clears_first) done) ∙ keeps) before in
       no_low_with nor new page (replicate (2 * nor.size.words) all_ones) high (high_blank (2 * nor.size.words)) (ap (λ (nor : NorDevice). nor.image) done)
-  safe_erased (Err e) done (inl cut) keeps = safe_cut_erase nor new page safe cut keeps
-  safe_erased (Err e) done (inr untouched) keeps = safe_untouched nor new safe untouched keeps
+  safe_erased (Err e) done (inl cut) keeps may = safe_cut_erase nor new page safe cut keeps may
+  safe_erased (Err e) done (inr untouched) keeps may = safe_untouched nor new safe untouched keeps may
 
   pub erase_left : IsNorCutIn (EraseNumbers page) nor new ⊎ IsNorUntouched nor new → IsCutIn (Erase page) (paired_device nor) (paired_device new) ⊎ IsUntouched (paired_device nor) (paired_device new)
   erase_left (inl cut) = inl (cut_erase nor new page formed new_formed in_range safe cut)
@@ -212,8 +223,10 @@ module _ (nor new : NorDevice) (page : ℕ) (formed : IsNorFormed nor) (new_form
 -- a program of the first number that was cut or off
 module _ (nor new : NorDevice) (page at value : ℕ) (formed : IsNorFormed nor) (in_range : page < page_count nor.size) (within : at < nor.size.words) (erased : word_at (paired_device nor) page at ≡ Erased) where
   pub safe_first_left : IsSafe nor → IsNorCutIn (ProgramNumber page (2 * at) value) nor new ⊎ IsNorUntouched nor new → IsSafe new
-  safe_first_left safe (inl cut) keeps = high_cut_first nor page at formed in_range within erased (safe (sym cut.same_kind ∙ keeps)) value new cut
-  safe_first_left safe (inr untouched) keeps = safe_untouched nor new safe untouched keeps
+  safe_first_left safe (inl cut) keeps may =
+      let high = safe (sym cut.same_kind ∙ keeps) (might_be_cut nor new _ cut) in
+      high_cut_first nor page at formed in_range within erased high value new cut
+  safe_first_left safe (inr untouched) keeps may = safe_untouched nor new safe untouched keeps may
 
   pub first_left : value < all_ones → IsNorCutIn (ProgramNumber page (2 * at) value) nor new ⊎ IsNorUntouched nor new → IsCutIn (Program page at value) (paired_device nor) (paired_device new) ⊎ IsUntouched (paired_device nor) (paired_device new)
   first_left below (inl cut) = inl (cut_first nor page at formed in_range within erased value new below cut)
@@ -224,15 +237,20 @@ module _ (nor new : NorDevice) (page at value : ℕ) (formed : IsNorFormed nor) 
     abbrev kind_of : NorDevice → Bool
     kind_of nor = nor.clears_first
 
+    abbrev left_of : NorDevice → Option ℕ
+    left_of nor = nor.cuts_left
+
     pub safe_second_left : {T E : Type 0} (result : Result T E) → IsSafe nor → OnOk result (new ≡ with_number page (2 * at + 1) (complement value) mid) → OnErr result (IsNorCutIn (ProgramNumber page (2 * at + 1) (complement value)) mid new ⊎ IsNorUntouched mid new) → IsSafe new
-    safe_second_left (Ok x) safe done cut keeps =
-        let high = safe (sym (ap kind_of done ∙ ap kind_of put) ∙ keeps) in
+    safe_second_left (Ok x) safe done cut keeps may =
+        let high = safe (sym (ap kind_of done ∙ ap kind_of put) ∙ keeps) (might_before nor new (ap left_of done ∙ ap left_of put) may) in
         rw (done, put) (high_after_second nor page at formed in_range within erased high value (complement value) (omega arith) (omega arith))
-    safe_second_left (Err e) safe done (inl cut) keeps =
-        let high = safe (sym (cut.same_kind ∙ ap kind_of put) ∙ keeps) in
+    safe_second_left (Err e) safe done (inl cut) keeps may =
+        let before = might_before nor mid (ap left_of put) (might_be_cut mid new _ cut) in
+        let high = safe (sym (cut.same_kind ∙ ap kind_of put) ∙ keeps) before in
         high_cut_second nor page at formed in_range within erased high value new (omega arith) (subst (λ mid. IsNorCutIn (ProgramNumber page (2 * at + 1) (complement value)) mid new) put cut)
-    safe_second_left (Err e) safe done (inr untouched) keeps =
-        let high = safe (sym (ap kind_of untouched.same ∙ ap kind_of put) ∙ keeps) in
+    safe_second_left (Err e) safe done (inr untouched) keeps may =
+        let before = might_before nor new (ap left_of untouched.same ∙ ap left_of put) may in
+        let high = safe (sym (ap kind_of untouched.same ∙ ap kind_of put) ∙ keeps) before in
         rw (untouched.same, put) (high_after_first nor page at formed in_range within erased high value)
 
     pub second_done : new ≡ with_number page (2 * at + 1) (complement value) mid → paired_device new ≡ with_word_programmed page at value (paired_device nor)

@@ -8,7 +8,7 @@ use Rattle.ee_flash.specs.Device.{all_ones}
 use Rattle.ee_flash.specs.Size.{page_count}
 use Rattle.ee_pairs.specs.Nor.{EraseNumbers, IsNorCutIn, IsNorFormed, IsNorUntouched, NorDevice, number_in, numbers_at, with_numbers_erased}
 use Rattle.ee_pairs.specs.Pairs.{NoLowPair}
-use Rattle.ee_pairs.specs.Wiping.{IsWipeCut, is_all_ones, is_programmed, with_page_wiped, wiped, wiped_below}
+use Rattle.ee_pairs.specs.Wiping.{IsWipeCut, is_all_ones, is_programmed, with_page_wiped, with_all_wiped, wiped_below}
 use Rattle.ee_pairs.proofs.High.{blank_number}
 
 -- a page of which each number reads all ones is blank, and the other way round
@@ -102,15 +102,15 @@ wiped_number (suc page) nor few other at below =
     ]
 
 -- once each page is wiped, each number is all ones
-pub all_wiped : (nor : NorDevice) → IsNorFormed nor → (page at : ℕ) → number_in (numbers_at (wiped nor) page) at ≡ all_ones
+pub all_wiped : (nor : NorDevice) → IsNorFormed nor → (page at : ℕ) → number_in (numbers_at (with_all_wiped nor) page) at ≡ all_ones
 all_wiped nor formed page at =
     let count = page_count nor.size in
     elim (cases_lt page count) [
       | inl within ↦ wiped_number count nor (omega (arith, formed.image_length)) page at within
-      | inr past ↦ rw (get_or_past (wiped nor).image page [] (omega (arith, formed.image_length, wiped_length count nor))) refl
+      | inr past ↦ rw (get_or_past (with_all_wiped nor).image page [] (omega (arith, formed.image_length, wiped_length count nor))) refl
     ]
 
-pub wiped_is_high : (nor : NorDevice) → IsNorFormed nor → NoLowPair (wiped nor)
+pub wiped_is_high : (nor : NorDevice) → IsNorFormed nor → NoLowPair (with_all_wiped nor)
 wiped_is_high nor formed page word = omega (arith, all_wiped nor formed page (2 * word))
 
 -- power was cut in the erase of a page

@@ -42,7 +42,8 @@ number_fits numbers at each = elim (cases_lt at (length numbers)) [
 pub below_all_ones : (number check : ℕ) → IsNorNumber number → IsBelowAllOnes (pair_word number check)
 below_all_ones number check fits value is = elim (word_cases number check) [
   | inl erased ↦ let none = erased.2 in cc
-  | inr (inl held) ↦ let same : number ≡ value = let word = held.2 in cc in let other = held.0 in omega arith
+  | inr (inl held) ↦ let same : number ≡ value = let word = held.2 in cc in
+      let other = held.0 in omega arith
   | inr (inr torn) ↦ cc
 ]
 

@@ -1,4 +1,5 @@
--- A flash of plain numbers, as a value, what a step does to it, and what a cut in the step may leave.
+-- A flash of plain numbers, as a value, what a step does to it, and what a cut in
+-- the step may leave.
 use Rattle.std.specs.Prelude.{◌≡◌, ◌≢◌, ◌≤◌, ℕ, ◌*◌, ◌+◌, Bool, true, false, Option, Some, List, [], length, replicate, option_map, bit_and, slice_index, slice_index_or, slice_set}
 use Rattle.std.specs.List.{All}
 use Rattle.ee_flash.specs.Size.{Size, IsWithinLimits, page_count}
@@ -7,9 +8,10 @@ use Rattle.ee_flash.specs.Step.{one_more}
 
 -- ---- the device
 
--- its size in words, each of which takes two numbers, whether an erase first clears the cells of its page, its pages (those of
--- set 0, then those of set 1) with the numbers of each, how often each page was erased, how often power was cut in a step, how
--- often it still may be (a number, or any), and whether it is on
+-- its size in words, each of which takes two numbers, whether an erase first clears the cells of
+-- its page, its pages (those of set 0, then those of set 1) with the numbers of each, how often
+-- each page was erased, how often power was cut in a step, how often it still may be (a number, or
+-- any), and whether it is on
 pub record NorDevice : Type 0 where
   pub size : Size
   pub clears_first : Bool
@@ -37,7 +39,8 @@ number_at device page at = number_in (numbers_at device page) at
 abbrev pub IsNorNumber : ℕ → Type 0
 IsNorNumber number = number ≤ all_ones
 
--- the device is within the limits, its lists have the lengths of its size, and its numbers fit 64 bits
+-- the device is within the limits, its lists have the lengths of its size, and its
+-- numbers fit 64 bits
 pub record IsNorFormed (device : NorDevice) : Type 0 where
   pub within_limits : IsWithinLimits device.size
   pub image_length : length device.image ≡ page_count device.size
@@ -86,22 +89,23 @@ pub record KeepsBits (old new : List ℕ) : Type 0 where
   pub as_long : length new ≡ length old
   pub each : (at : ℕ) → HasBits (number_in new at) (number_in old at)
 
--- A page in which no two numbers of a word are each other's complement, but where both stood there. All ones with 0 is no
--- value.
+-- A page in which no two numbers of a word are each other's complement, but where both stood there.
+-- All ones with 0 is no value.
 pub record MakesNoPair (old new : List ℕ) : Type 0 where
   pub as_long : length new ≡ length old
   pub each : (word : ℕ) → number_in new (2 * word) ≢ all_ones
       → number_in new (2 * word) + number_in new (2 * word + 1) ≡ all_ones
       → (number_in new (2 * word) ≡ number_in old (2 * word)) × (number_in new (2 * word + 1) ≡ number_in old (2 * word + 1))
 
--- What a cut in an erase may leave of its page. Where cells go from zero to one alone, each number has every bit that it had.
--- Where the flash clears all cells first, a number may have any bits, and only a whole pair is not made.
+-- What a cut in an erase may leave of its page. Where cells go from zero to one alone, each number
+-- has every bit that it had. Where the flash clears all cells first, a number may have any bits,
+-- and only a whole pair is not made.
 abbrev pub MayEraseLeave : Bool → List ℕ → List ℕ → Type 0
 MayEraseLeave true old new = MakesNoPair old new
 MayEraseLeave false old new = KeepsBits old new
 
--- What a cut in a step may leave of the pages. Cells go from one to zero while a number is programmed, so a program leaves a
--- number that has every bit of the one asked for. All else stays.
+-- What a cut in a step may leave of the pages. Cells go from one to zero while a number is
+-- programmed, so a program leaves a number that has every bit of the one asked for. All else stays.
 abbrev pub MayLeaveNumbers : NorStep → NorDevice → NorDevice → Type 0
 MayLeaveNumbers (ProgramNumber page at number) old new =
     HasBits (number_at new page at) number × (new.image ≡ (with_number page at (number_at new page at) old).image)

@@ -1,5 +1,5 @@
 -- Words on a flash that has none: a number beside its complement.
-use Rattle.std.specs.Prelude.{◌≡◌, ◌<◌, ◌≤◌, ℕ, ◌+◌, ◌*◌, ◌-◌, ◌==◌, if◌then◌else◌, false, List, map}
+use Rattle.std.specs.Prelude.{◌≡◌, ◌≢◌, ◌<◌, ◌≤◌, ℕ, ◌+◌, ◌*◌, ◌-◌, ◌==◌, if◌then◌else◌, false, List, Some, map}
 use Rattle.std.specs.List.{range_with_len}
 use Rattle.ee_flash.specs.Device.{Device, all_ones}
 use Rattle.ee_flash.specs.Runs.{number_of}
@@ -13,8 +13,8 @@ use Rattle.ee_pairs.specs.declared.low_pair.LowPair.{LowPair}
 abbrev pub complement : ℕ → ℕ
 complement number = all_ones - number
 
--- the word that two numbers are: erased where both are all ones, held where the second is the complement of the first, which
--- is not all ones; else torn
+-- the word that two numbers are: erased where both are all ones, held where the second is the
+-- complement of the first, which is not all ones; else torn
 abbrev pub pair_word : ℕ → ℕ → Word
 pair_word number check =
     if number == all_ones then (if check == all_ones then Erased else Torn)
@@ -55,13 +55,19 @@ IsHigh numbers = (word : ℕ) → all_ones ≤ sum_in numbers word
 abbrev pub AreHigh : List ℕ → ℕ → ℕ → Type 0
 AreHigh numbers from to = (word : ℕ) → from ≤ word → word < to → all_ones ≤ sum_in numbers word
 
--- No word sums to less than all ones. Of one that did, an erase that is cut could make a number that nobody wrote.
+-- No word sums to less than all ones. Of one that did, an erase that is cut could make a
+-- number that nobody wrote.
 abbrev pub NoLowPair : NorDevice → Type 0
 NoLowPair nor = (page : ℕ) → IsHigh (numbers_at nor page)
 
--- An erase that is cut makes no number: no word sums to less than all ones, or the flash clears first.
+-- power may be cut in a step to come
+abbrev pub MayBeCut : NorDevice → Type 0
+MayBeCut nor = nor.cuts_left ≢ Some 0
+
+-- No erase that is cut makes a number: where the flash doesn't clear first, and may be cut, no word
+-- sums to less than all ones.
 abbrev pub IsSafe : NorDevice → Type 0
-IsSafe nor = nor.clears_first ≡ false → NoLowPair nor
+IsSafe nor = nor.clears_first ≡ false → MayBeCut nor → NoLowPair nor
 
 -- this word of a page is the first that sums to less than all ones
 pub record IsFirstLowIn (numbers : List ℕ) (word : ℕ) : Type 0 where
@@ -75,7 +81,7 @@ pub record IsFirstLow (nor : NorDevice) (pair : LowPair) : Type 0 where
   pub first_in_its_page : IsFirstLowIn (numbers_at nor pair.page) pair.word
   pub none_before : (page : ℕ) → page < pair.page → IsHigh (numbers_at nor page)
 
--- what keeps a flash from being one of words: its erases don't clear first, and this is its first word that sums to less than
--- all ones
+-- what keeps a flash from being one of words: its erases don't clear first, and this is its first
+-- word that sums to less than all ones
 abbrev pub IsLowFault : NorDevice → LowPair → Type 0
 IsLowFault nor pair = (nor.clears_first ≡ false) × IsFirstLow nor pair

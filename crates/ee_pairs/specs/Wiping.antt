@@ -23,8 +23,8 @@ wiped_below zero nor = nor
 wiped_below (suc page) nor = with_page_wiped page (wiped_below page nor)
 
 -- with each page wiped
-abbrev pub wiped : NorDevice → NorDevice
-wiped nor = wiped_below (page_count nor.size) nor
+abbrev pub with_all_wiped : NorDevice → NorDevice
+with_all_wiped nor = wiped_below (page_count nor.size) nor
 
 -- the pages below one that held something were wiped, and power was cut in the erase of that one
 pub record IsWipeCut (old new : NorDevice) : Type 0 where

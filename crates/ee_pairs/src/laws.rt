@@ -11,7 +11,8 @@ pub fn erase_makes_no_number()
     ensures { EraseMakesNoNumber }
 {}
 
-/// A number that is programmed by parts, in any order and cut in any of them, is left as a program that is cut may leave it.
+/// A number that is programmed by parts, in any order and cut in any of them, is left as a program
+/// that is cut may leave it.
 pub fn parts_are_a_program()
     ensures { PartsAreAProgram }
 {}

@@ -3,15 +3,16 @@ ghost use Rattle.std.specs.Prelude.{◌≡◌, ℕ, IfErr, IfOk, true};
 ghost use Rattle.ee_flash.specs.Device.{all_ones};
 ghost use Rattle.ee_pairs.specs.Nor.{number_at};
 ghost use Rattle.ee_pairs.specs.Pairs.{IsLowFault, IsSafe, complement, pair_word};
-ghost use Rattle.ee_pairs.specs.Wiping.{IsWipeCut, wiped};
+ghost use Rattle.ee_pairs.specs.Wiping.{IsWipeCut, with_all_wiped};
 
 use crate::low_pair::{LowPair, first_low};
 use crate::nor::Nor;
-use crate::runs::fill_run;
+use crate::runs::{fill_run, is_whole};
 use crate::wiping::wipe;
 use ee_flash::{Cut, Flash, Shape, Word};
 
-/// A device of words on a flash of numbers: each word is two of them, a value beside its complement.
+/// A device of words on a flash of numbers: each word is two of them, a value beside its
+/// complement.
 ///
 /// Source: ours.
 #[derive(Drop)]
@@ -21,13 +22,15 @@ pub struct Pairs<N: Nor + Drop> {
 }
 
 impl<N: Nor + Drop> Pairs<N> {
-    /// The device of words of a flash that a store wrote, or that is blank. It reads each number once, whether power is on
-    /// or off, and changes nothing. Of a flash that clears first it reads none: there a cut erase leaves any numbers.
+    /// The device of words of a flash that a store wrote, or that is blank. It reads each number
+    /// once, whether power is on or off, and changes nothing. Of a flash that clears first it reads
+    /// none: there a cut erase leaves any numbers.
     ///
     /// # Errors
     ///
-    /// `LowPair`, with the flash as it was: it doesn't clear first, and this is the first word whose two numbers sum to less
-    /// than `u64::MAX`. The flash held something else; `wipe` makes it blank.
+    /// `LowPair`, with the flash as it was: it doesn't clear first, and this is the first
+    /// word whose two numbers sum to less than `u64::MAX`. The flash held something else;
+    /// `wipe` makes it blank.
     pub fn of(nor: N) -> Result<Pairs<N>, (N, LowPair)>
         ensures same { IfOk result (λ pairs. N.nor pairs.nor ≡ N.nor nor) }
         ensures fault { IfErr result (λ refused. IsLowFault (N.nor nor) refused.1) }
@@ -42,15 +45,16 @@ impl<N: Nor + Drop> Pairs<N> {
         }
     }
 
-    /// The device of words of a flash that may hold anything: each page that isn't blank is erased, by rising page. The flash
-    /// is on, as a condition.
+    /// The device of words of a flash that may hold anything: each page that isn't blank is erased,
+    /// by rising page. The flash is on, as a condition.
     ///
     /// # Errors
     ///
-    /// `Cut`, with the flash, which is off: power failed in an erase. The pages before it are blank.
+    /// `Cut`, with the flash, which is off: power failed in an erase. The pages
+    /// before it are blank.
     pub fn wipe(mut nor: N) -> Result<Pairs<N>, (N, Cut)>
         requires { (N.nor nor).on ≡ true }
-        ensures wiped { IfOk result (λ pairs. N.nor pairs.nor ≡ wiped (N.nor nor)) }
+        ensures wiped { IfOk result (λ pairs. N.nor pairs.nor ≡ with_all_wiped (N.nor nor)) }
         ensures blank { IfOk result
             (λ pairs. (page at : ℕ) → number_at (N.nor pairs.nor) page at ≡ all_ones) }
         ensures cut { IfErr result (λ refused. IsWipeCut (N.nor nor) (N.nor refused.0)) }
@@ -61,8 +65,10 @@ impl<N: Nor + Drop> Pairs<N> {
         }
     }
 
-    /// The device of words of a flash that clears first, or of which it is known that no word's numbers sum to less than
-    /// `u64::MAX`, since it was looked at before and only such devices wrote to it. Nothing is read.
+    /// The device of words of a flash that clears first, or of which it is known that no word's
+    /// numbers sum to less than `u64::MAX`, since it was looked at before and only such devices
+    /// wrote to it. Where power is cut in no step, it is of any flash, as of one that `of` refuses
+    /// and that is rescued: such a word is torn. Nothing is read.
     pub fn known(nor: N) -> Pairs<N>
         requires safe { IsSafe (N.nor nor) }
         ensures same { N.nor result.nor ≡ N.nor nor }
@@ -79,25 +85,21 @@ impl<N: Nor + Drop> Pairs<N> {
     }
 }
 
-/// The word that two numbers are: erased where both are `u64::MAX`, held where the second is the complement of the first, which
-/// is below `u64::MAX`; else torn.
+/// The word that two numbers are: erased where both are `u64::MAX`, held where the second is the
+/// complement of the first, which is below `u64::MAX`; else torn.
 ///
 /// Source: ours.
+#[tactic(auto, using(crate::proofs::Halves::whole_erased, crate::proofs::Halves::whole_held))]
 pub fn word_of(number: u64, check: u64) -> Word
     ensures { result ≡ pair_word number check }
 {
+    if !is_whole(number, check) {
+        return Word::Torn;
+    }
     if number == u64::MAX {
-        return if check == u64::MAX {
-            Word::Erased
-        } else {
-            Word::Torn
-        };
+        return Word::Erased;
     }
-    if check == complement_of(number) {
-        Word::Held(number)
-    } else {
-        Word::Torn
-    }
+    Word::Held(number)
 }
 
 /// The number that has a one where this one has a zero.

@@ -1,12 +1,13 @@
 //! The numbers of words one behind another, each of two numbers of the flash.
-ghost use Rattle.std.specs.Prelude.{◌<◌, ◌≤◌, ◌≡◌, ◌+◌, ◌*◌, length};
+ghost use Rattle.std.specs.Bool.{MatchBool};
+ghost use Rattle.std.specs.Prelude.{◌<◌, ◌≤◌, ◌≡◌, ◌≢◌, ◌+◌, ◌*◌, ◌/◌, ◌%◌, ◌^◌, length};
 ghost use Rattle.ee_flash.specs.Runs.{number_of};
 ghost use Rattle.ee_flash.specs.Size.{page_count};
+ghost use Rattle.ee_flash.specs.declared.word.Word.TheVariants.{Torn};
 ghost use Rattle.ee_pairs.specs.Nor.{numbers_at};
 ghost use Rattle.ee_pairs.specs.Pairs.{run_of_pairs, pair_word};
 
 use crate::nor::Nor;
-use crate::pairs::word_of;
 
 /// Puts the numbers of as many words as there is room for into the room, from a place of a page on:
 /// those that the flash has in memory are not read one by one.
@@ -26,8 +27,8 @@ fn fill_from_window(numbers: &[u64], room: &mut [u64])
     requires { length numbers.now ≡ 2 * length room.old }
     ensures { room.new ≡ run_of_pairs numbers.now 0 (length room.old) }
 {
-    for (word, number) in room.iter_mut().enumerate() {
-        *number = number_of_pair(numbers[2 * word], numbers[2 * word + 1]);
+    'words: for word in 0..room.len() {
+        room[word] = number_of_pair(numbers[2 * word], numbers[2 * word + 1]);
     }
 }
 
@@ -44,8 +45,31 @@ fn fill_by_reading<N: Nor>(nor: &N, page: usize, at: usize, room: &mut [u64])
 }
 
 /// The number of the word that two numbers are: `u64::MAX` of an erased word, 0 of a torn one.
+#[tactic(auto, using(crate::proofs::Halves::whole_number, crate::proofs::Halves::torn_number))]
 fn number_of_pair(number: u64, check: u64) -> u64
     ensures { result ≡ number_of (pair_word number check) }
 {
-    word_of(number, check).number()
+    if is_whole(number, check) { number } else { 0 }
+}
+
+/// Whether two numbers are a word that isn't torn. It looks at halves of 32 bits, which is shorter
+/// on the cores of firmware.
+#[inline(always)]
+pub(crate) fn is_whole(number: u64, check: u64) -> bool
+    ensures { MatchBool result (pair_word number check ≢ Torn) (pair_word number check ≡ Torn) }
+{
+    let (low, high) = halves(number);
+    let (check_low, check_high) = halves(check);
+    if low & high == u32::MAX {
+        return check_low & check_high == u32::MAX;
+    }
+    low.wrapping_add(check_low) & high.wrapping_add(check_high) == u32::MAX
+}
+
+/// The lower and the upper 32 bits of a number.
+fn halves(number: u64) -> (u32, u32)
+    ensures low { result.0 ≡ number % 2 ^ 32 }
+    ensures high { result.1 ≡ number / 2 ^ 32 }
+{
+    ((number & 0xffff_ffff) as u32, (number >> 32) as u32)
 }

@@ -2,7 +2,7 @@
 ghost use Rattle.std.specs.Prelude.{◌<◌, ◌≡◌, OnErr, OnOk, true};
 ghost use Rattle.ee_flash.specs.Size.{page_count};
 ghost use Rattle.ee_pairs.specs.Nor.{numbers_at};
-ghost use Rattle.ee_pairs.specs.Wiping.{IsWipeCut, is_all_ones, wiped};
+ghost use Rattle.ee_pairs.specs.Wiping.{IsWipeCut, is_all_ones, with_all_wiped};
 
 use crate::Nor;
 use ee_flash::Cut;
@@ -10,7 +10,7 @@ use ee_flash::Cut;
 /// Erases each page that holds something, by rising page.
 pub(crate) fn wipe<N: Nor>(nor: &mut N) -> Result<(), Cut>
     requires { (N.nor nor.old).on ≡ true }
-    ensures wiped { OnOk result (N.nor nor.new ≡ wiped (N.nor nor.old)) }
+    ensures wiped { OnOk result (N.nor nor.new ≡ with_all_wiped (N.nor nor.old)) }
     ensures cut { OnErr result (IsWipeCut (N.nor nor.old) (N.nor nor.new)) }
 {
     'pages: for page in 0..2 * nor.shape().pages() {

@@ -11,7 +11,7 @@ use Rattle.ee_text.proofs.Public as feeds
 use Rattle.ee_dump.specs.intel_hex.Record.{Record, AreLinesOf, IsLineOf}
 use Rattle.ee_dump.specs.intel_hex.Text.{AgreeWithin, IsEndLine, IsGoodFront, IsHexOf, all_placed, numbered_bytes, placed_bytes, upper_after}
 use Rattle.ee_dump.specs.intel_hex.Fault.{GoesOnAt, IsBadHexLine, StopsAtLine}
-use Rattle.ee_dump.specs.intel_hex.Reading.{Stops, Ends, Goes, after_record, bytes_of, cells_at_end, judged, lines_in, put_all, record_in, step_kept, step_of_record}
+use Rattle.ee_dump.specs.intel_hex.Reading.{Stops, Ends, Goes, after_record, bytes_of, cells_at_end, cells_of_lines, lines_in, put_all, record_in, step_kept, step_of_record}
 use Rattle.ee_dump.proofs.intel_hex.Lines.{closed-more, first_of, lines_in-line, lines_in-rest, shorter, some_part}
 use Rattle.ee_dump.proofs.intel_hex.Records.{one_record, record_spelled, spelled_record}
 use Rattle.ee_dump.proofs.intel_hex.Places.{Keeps, agree_front, all_kept, all_refused, bytes_kept, bytes_told, cases_option, kept_agrees, nothing_kept}
@@ -20,24 +20,24 @@ use Rattle.ee_dump.proofs.intel_hex.Places.{Keeps, agree_front, all_kept, all_re
 
 -- the reader at a line, behind which there is more
 pub judged-line : (base n upper : ℕ) (cells : List (Option ℕ)) (line more : List ℕ)
-    → judged base n upper cells (line ∷ lines_in more)
-    ≡ after_record n cells (lines_in more) (λ above new. judged base (n + 1) above new (lines_in more)) (step_of_record base upper cells (record_in line))
-unfolding judged
+    → cells_of_lines base n upper cells (line ∷ lines_in more)
+    ≡ after_record n cells (lines_in more) (λ above new. cells_of_lines base (n + 1) above new (lines_in more)) (step_of_record base upper cells (record_in line))
+unfolding cells_of_lines
 judged-line base n upper cells line more = let next = some_part more in rw next.parts_are refl
 
 -- and at what is no line
-pub judged-rest : (base n upper : ℕ) (cells : List (Option ℕ)) (text : List ℕ) → IsLine text → judged base n upper cells (lines_in text) ≡ Err n
-unfolding judged
-judged-rest base n upper cells text lacks = ap (judged base n upper cells) (lines_in-rest text lacks)
+pub judged-rest : (base n upper : ℕ) (cells : List (Option ℕ)) (text : List ℕ) → IsLine text → cells_of_lines base n upper cells (lines_in text) ≡ Err n
+unfolding cells_of_lines
+judged-rest base n upper cells text lacks = ap (cells_of_lines base n upper cells) (lines_in-rest text lacks)
 
 pub judged-found : (base n upper : ℕ) (cells : List (Option ℕ)) (text line more : List ℕ) (found : Option Record) → lines_in text ≡ line ∷ lines_in more → record_in line ≡ found
-    → judged base n upper cells (lines_in text)
-    ≡ after_record n cells (lines_in more) (λ above new. judged base (n + 1) above new (lines_in more)) (step_of_record base upper cells found)
+    → cells_of_lines base n upper cells (lines_in text)
+    ≡ after_record n cells (lines_in more) (λ above new. cells_of_lines base (n + 1) above new (lines_in more)) (step_of_record base upper cells found)
 judged-found base n upper cells text line more found lines is = search (rules, judged-line)
 
 pub judged-record : (base n upper : ℕ) (cells : List (Option ℕ)) (r : Record) (text more : List ℕ) → IsLineOf r text more
-    → judged base n upper cells (lines_in text)
-    ≡ after_record n cells (lines_in more) (λ above new. judged base (n + 1) above new (lines_in more)) (step_of_record base upper cells (Some r))
+    → cells_of_lines base n upper cells (lines_in text)
+    ≡ after_record n cells (lines_in more) (λ above new. cells_of_lines base (n + 1) above new (lines_in more)) (step_of_record base upper cells (Some r))
 judged-record base n upper cells r text more l =
     judged-found base n upper cells text l.line more (Some r) (lines_in-line text l.line more l.in_line l.text_is) (spelled_record l.line r l.spelled)
 
@@ -64,18 +64,18 @@ pub ruleset meeting = (row_ends, row_taken, row_refused, row_other)
 
 -- an end record
 pub judged-ends : (base n upper : ℕ) (cells : List (Option ℕ)) (r : Record) (text more : List ℕ) → IsLineOf r text more → r.kind ≡ 1
-    → judged base n upper cells (lines_in text) ≡ cells_at_end (n + 1) cells (lines_in more)
+    → cells_of_lines base n upper cells (lines_in text) ≡ cells_at_end (n + 1) cells (lines_in more)
 judged-ends base n upper cells r text more l ends =
     judged-record base n upper cells r text more l
-    ∙ ap (after_record n cells (lines_in more) (λ above new. judged base (n + 1) above new (lines_in more))) (row_ends base upper cells r ends)
+    ∙ ap (after_record n cells (lines_in more) (λ above new. cells_of_lines base (n + 1) above new (lines_in more))) (row_ends base upper cells r ends)
 
 -- another, whose bytes are taken or not
 pub judged-other : (base n upper : ℕ) (cells : List (Option ℕ)) (r : Record) (text more : List ℕ) (put : Option (List (Option ℕ))) → IsLineOf r text more → r.kind ≢ 1
     → put_all base (placed_bytes upper r) cells ≡ put
-    → judged base n upper cells (lines_in text) ≡ after_record n cells (lines_in more) (λ above new. judged base (n + 1) above new (lines_in more)) (step_kept (upper_after upper r) put)
+    → cells_of_lines base n upper cells (lines_in text) ≡ after_record n cells (lines_in more) (λ above new. cells_of_lines base (n + 1) above new (lines_in more)) (step_kept (upper_after upper r) put)
 judged-other base n upper cells r text more put l other is =
     judged-record base n upper cells r text more l
-    ∙ ap (after_record n cells (lines_in more) (λ above new. judged base (n + 1) above new (lines_in more))) (step-other base upper cells r put other is)
+    ∙ ap (after_record n cells (lines_in more) (λ above new. cells_of_lines base (n + 1) above new (lines_in more))) (step-other base upper cells r put other is)
 
 -- ---- records one after another
 
@@ -97,7 +97,7 @@ pub record Reached (base n upper : ℕ) (seen : List (ℕ × ℕ)) (cells : List
   pub new : List (Option ℕ)
   pub keeps : Keeps base (seen ++ all_placed upper records) new
   pub as_long : length new ≡ length cells
-  pub judged_is : judged base n upper cells (lines_in text) ≡ judged base (n + length records) (upper_behind upper records) new (lines_in rest)
+  pub judged_is : cells_of_lines base n upper cells (lines_in text) ≡ cells_of_lines base (n + length records) (upper_behind upper records) new (lines_in rest)
 
 reach_none : (base n upper : ℕ) (seen : List (ℕ × ℕ)) (cells : List (Option ℕ)) (text rest : List ℕ) → text ≡ rest → Keeps base seen cells → Reached base n upper seen cells [] text rest
 reach_none base n upper seen cells text rest text_is keeps = search (rules, append-nil)
@@ -112,7 +112,7 @@ reach_more base n upper seen cells mid r records text more rest l other is same 
       keeps = subst (λ p. Keeps base p reached.new) (append_assoc seen (placed_bytes upper r) (all_placed (upper_after upper r) records)) reached.keeps;
       as_long = reached.as_long ∙ same;
       judged_is = judged-other base n upper cells r text more (Some mid) l other is ∙ reached.judged_is
-          ∙ ap (λ m. judged base m (upper_behind (upper_after upper r) records) reached.new (lines_in rest)) number;
+          ∙ ap (λ m. cells_of_lines base m (upper_behind (upper_after upper r) records) reached.new (lines_in rest)) number;
     }
 
 pub reach : (records : List Record) (base n upper : ℕ) (seen : List (ℕ × ℕ)) (cells : List (Option ℕ)) (text rest : List ℕ) → AreLinesOf records text rest
@@ -135,7 +135,7 @@ reach (r ∷ records) base n upper seen cells text rest lines no_end keeps agree
 -- no record that agrees
 pub record BadHere (base upper : ℕ) (seen : List (ℕ × ℕ)) (cells : List (Option ℕ)) (text : List ℕ) : Type 0 where
   pub none : (r : Record) (more : List ℕ) → IsLineOf r text more → AgreeWithin base (length cells) (seen ++ placed_bytes upper r) → ⊥
-  pub judged_is : (n : ℕ) → judged base n upper cells (lines_in text) ≡ Err n
+  pub judged_is : (n : ℕ) → cells_of_lines base n upper cells (lines_in text) ≡ Err n
 
 -- a record that agrees
 pub record GoesHere (base upper : ℕ) (seen : List (ℕ × ℕ)) (cells : List (Option ℕ)) (text : List ℕ) : Type 0 where
@@ -211,7 +211,7 @@ pub record Ran (base upper : ℕ) (seen : List (ℕ × ℕ)) (cells : List (Opti
   pub new : List (Option ℕ)
   pub keeps : Keeps base (seen ++ all_placed upper records) new
   pub as_long : length new ≡ length cells
-  pub judged_is : (n : ℕ) → judged base n upper cells (lines_in text) ≡ judged base (n + length records) (upper_behind upper records) new (lines_in rest)
+  pub judged_is : (n : ℕ) → cells_of_lines base n upper cells (lines_in text) ≡ cells_of_lines base (n + length records) (upper_behind upper records) new (lines_in rest)
   pub stops : BadHere base (upper_behind upper records) (seen ++ all_placed upper records) new rest ⊎ EndsHere rest
 
 plus_none : (n : ℕ) → n ≡ n + 0
@@ -228,7 +228,7 @@ ran_here base upper seen cells text keeps stops =
       new = cells;
       keeps = subst (λ l. Keeps base l cells) same keeps;
       as_long = refl;
-      judged_is = λ n. ap (λ m. judged base m upper cells (lines_in text)) (plus_none n);
+      judged_is = λ n. ap (λ m. cells_of_lines base m upper cells (lines_in text)) (plus_none n);
       stops = subst (λ l. BadHere base upper l cells text ⊎ EndsHere text) same stops;
     }
 
@@ -249,7 +249,7 @@ ran_on base upper seen cells text goes ran =
       as_long = ran.as_long ∙ goes.as_long;
       judged_is = λ n.
           judged-other base n upper cells goes.next text goes.more (Some goes.new) goes.line goes.no_end goes.put_is ∙ ran.judged_is (n + 1)
-          ∙ ap (λ m. judged base m (upper_behind (upper_after upper goes.next) ran.records) ran.new (lines_in ran.rest)) (one_more n (length ran.records));
+          ∙ ap (λ m. cells_of_lines base m (upper_behind (upper_after upper goes.next) ran.records) ran.new (lines_in ran.rest)) (one_more n (length ran.records));
       stops = subst (λ l. BadHere base (upper_behind (upper_after upper goes.next) ran.records) l ran.new ran.rest ⊎ EndsHere ran.rest) assoc ran.stops;
     }
 
@@ -270,7 +270,7 @@ Told text base size (Ok cells) = IsHexOf text base size (bytes_of cells)
 Told text base size (Err n) = IsBadHexLine text base size n
 
 abbrev pub judgement : List ℕ → ℕ → ℕ → Result (List (Option ℕ)) ℕ
-judgement text base size = judged base 1 0 (replicate size None) (lines_in text)
+judgement text base size = cells_of_lines base 1 0 (replicate size None) (lines_in text)
 
 size_is : (size : ℕ) → length (replicate {A = Option ℕ} size None) ≡ size
 size_is size = length-replicate {A = Option ℕ} size None

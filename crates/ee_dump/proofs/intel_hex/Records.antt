@@ -11,7 +11,7 @@ use Rattle.hex.specs.Hex.{IsBytes, decode_of}
 use Rattle.hex.specs.declared.error.FromHexError.{FromHexError}
 use Rattle.hex.proofs.HexLemmas.{decode_of-ok}
 use Rattle.ee_text.proofs.Public as feeds
-use Rattle.ee_dump.specs.intel_hex.Record.{Record, IsRecord, IsLineOf, SpellsRecord, bare, check_byte, fits_kind, front_bytes, record_bytes}
+use Rattle.ee_dump.specs.intel_hex.Record.{Record, IsRecord, IsLineOf, SpellsRecord, line_without_return, check_byte, fits_kind, front_bytes, record_bytes}
 use Rattle.ee_dump.specs.intel_hex.Reading.{bytes_decoded, bytes_in, record_in, record_of}
 
 decoded : (r : Result (List ℕ) FromHexError) (bytes : List ℕ) → bytes_decoded r ≡ Some bytes → r ≡ Ok bytes
@@ -122,15 +122,15 @@ too_long (count ∷ high ∷ low ∷ kind ∷ behind) bytes long =
 -- ---- lines
 
 -- the record that is read from a line is spelled there
-pub record_spelled : (line : List ℕ) (r : Record) → record_in line ≡ Some r → SpellsRecord (bare line) r
+pub record_spelled : (line : List ℕ) (r : Record) → record_in line ≡ Some r → SpellsRecord (line_without_return line) r
 unfolding record_in
-record_spelled line r e = option_and_then_some record_of (bytes_in (bare line)) r e (λ bytes found made.
-    let digits = digits_of (bare line) bytes found in
+record_spelled line r e = option_and_then_some record_of (bytes_in (line_without_return line)) r e (λ bytes found made.
+    let digits = digits_of (line_without_return line) bytes found in
     let own = bytes_of_record bytes r (decode_of-ok digits.digits bytes digits.digits_are).3 made in
     record { proper = own.proper; digits = digits.digits; line_is = digits.line_is; digits_are = digits.digits_are ∙ ap Ok own.bytes_are })
 
 -- and the one that is spelled there is read
-pub spelled_record : (line : List ℕ) (r : Record) → SpellsRecord (bare line) r → record_in line ≡ Some r
+pub spelled_record : (line : List ℕ) (r : Record) → SpellsRecord (line_without_return line) r → record_in line ≡ Some r
 unfolding record_in
 spelled_record line r spelled = search (rules, bytes_in-digits, record_again)
 

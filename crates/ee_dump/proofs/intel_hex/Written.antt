@@ -12,7 +12,7 @@ use Rattle.hex.proofs.HexLemmas.{decode_of-encode_upper}
 use Rattle.hex.proofs.Pairs.{take-two_writes}
 use Rattle.ee_text.specs.Field.{Lacks}
 use Rattle.ee_text.proofs.Public.{Lacks-parts, Lacks-cons, lacks_at}
-use Rattle.ee_dump.specs.intel_hex.Record.{Record, AreLinesOf, IsLineOf, IsRecord, SpellsRecord, bare, check_byte, front_bytes, record_bytes}
+use Rattle.ee_dump.specs.intel_hex.Record.{Record, AreLinesOf, IsLineOf, IsRecord, SpellsRecord, line_without_return, check_byte, front_bytes, record_bytes}
 use Rattle.ee_dump.specs.intel_hex.Text.{AgreeWithin, IsHexOf, Says, all_placed, numbered_bytes, upper_after}
 use Rattle.ee_dump.specs.intel_hex.Written.{data_record, end_record, hex_text, record_line, row_length, rows, upper_record, upper_told}
 use Rattle.ee_dump.proofs.intel_hex.Records.{check_small}
@@ -57,8 +57,8 @@ lacks_in_digits c t (b ∷ rest) lacks other = search (rules, lacks_at, (lacks_i
 line_lacks : (c : ℕ) (xs : List ℕ) → Lacks c upper_digits → 0 ≢ c → 58 ≢ c → Lacks c (58 ∷ encode_upper xs)
 line_lacks c xs lacks other colon = Lacks-cons c 58 (encode_upper xs) colon (lacks_in_digits c upper_digits xs lacks other)
 
-pub bare-lacks : (line : List ℕ) → Lacks 13 line → bare line ≡ line
-unfolding bare
+pub bare-lacks : (line : List ℕ) → Lacks 13 line → line_without_return line ≡ line
+unfolding line_without_return
 bare-lacks [] lacks = refl
 bare-lacks (b ∷ []) lacks = rw (ne_eqb b 13 (Lacks-parts 13 b [] lacks).0) refl
 bare-lacks (b ∷ c ∷ line) lacks = ap (λ l. b ∷ l) (bare-lacks (c ∷ line) (Lacks-parts 13 b (c ∷ line) lacks).1)
@@ -67,7 +67,7 @@ bare-lacks (b ∷ c ∷ line) lacks = ap (λ l. b ∷ l) (bare-lacks (c ∷ line
 line_again : (r : Record) (more : List ℕ) → IsWritten r → IsLineOf r (record_line r ++ more) more
 line_again r more fits =
     let line : List ℕ = 58 ∷ encode_upper (record_bytes r) in
-    let same : bare line ≡ line = bare-lacks line (line_lacks 13 (record_bytes r) refl (λ e. omega arith) (λ e. omega arith)) in
+    let same : line_without_return line ≡ line = bare-lacks line (line_lacks 13 (record_bytes r) refl (λ e. omega arith) (λ e. omega arith)) in
     let spelled : SpellsRecord line r = record { proper = fits.proper; digits = encode_upper (record_bytes r); line_is = refl; digits_are = decode_of-encode_upper (record_bytes r) (record_is_bytes r fits) } in
     record {
       line = line;

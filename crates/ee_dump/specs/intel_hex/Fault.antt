@@ -10,7 +10,8 @@ abbrev pub NoGoodLine : ℕ → ℕ → List Record → List ℕ → Type 0
 NoGoodLine base size records text =
     (r : Record) (rest : List ℕ) → IsLineOf r text rest → AgreeWithin base size (all_placed 0 (records ++ r ∷ [])) → ⊥
 
--- line n is the first that is no good record's. A line that isn't ended by a line feed is bad, and so is one that is missing.
+-- line n is the first that is no good record's. A line that isn't ended by a line feed is bad, and
+-- so is one that is missing.
 pub record StopsAtLine (text : List ℕ) (base size n : ℕ) : Type 0 where
   pub records : List Record
   pub rest : List ℕ

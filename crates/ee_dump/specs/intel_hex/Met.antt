@@ -4,7 +4,8 @@ use Rattle.ee_dump.specs.intel_hex.Reading.{RecordStep, Stops, Ends, Goes}
 use Rattle.ee_dump.specs.declared.intel_hex.reading.Met.{Met}
 use Rattle.ee_dump.specs.declared.intel_hex.reading.Met.TheVariants.{Taken, End, Bad}
 
--- the reader answers as the step is, and comes from these places to others and to this upper address
+-- the reader answers as the step is, and comes from these places to others and to this upper
+-- address
 abbrev pub Meets : Met → List (Option ℕ) → ℕ → List (Option ℕ) → RecordStep → Type 0
 Meets Taken old upper cells step = step ≡ Goes upper cells
 Meets End old upper cells step = (step ≡ Ends) × (cells ≡ old)

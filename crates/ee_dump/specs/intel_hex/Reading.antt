@@ -5,7 +5,7 @@ use Rattle.std.specs.List.{slice_split, sum}
 use Rattle.hex.specs.Hex.{decode_of}
 use Rattle.hex.specs.declared.error.FromHexError.{FromHexError}
 use Rattle.ee_text.specs.Line.{line_feed}
-use Rattle.ee_dump.specs.intel_hex.Record.{Record, bare, colon, end_kind, fits_kind}
+use Rattle.ee_dump.specs.intel_hex.Record.{Record, colon, end_kind, fits_kind, line_without_return}
 use Rattle.ee_dump.specs.intel_hex.Text.{erased_byte, placed_bytes, upper_after}
 
 -- what stands before and between line feeds, and behind the last
@@ -31,7 +31,7 @@ record_of bytes = None
 
 -- the record that a line spells
 unfoldable pub record_in : List ℕ → Option Record
-record_in line = option_and_then record_of (bytes_in (bare line))
+record_in line = option_and_then record_of (bytes_in (line_without_return line))
 
 -- a byte comes to a place of a part that has none there, or the same
 abbrev pub put_at : ℕ → ℕ → List (Option ℕ) → Option ℕ → Option (List (Option ℕ))
@@ -77,11 +77,11 @@ after_record n cells parts more Ends = cells_at_end (n + 1) cells parts
 after_record n cells parts more (Goes upper new) = more upper new
 
 -- what the lines from line n on come to: the places of the part, or the first bad line
-unfoldable pub judged : ℕ → ℕ → ℕ → List (Option ℕ) → List (List ℕ) → Result (List (Option ℕ)) ℕ
-judged base n upper cells [] = Err n
-judged base n upper cells (last ∷ []) = Err n
-judged base n upper cells (line ∷ next ∷ parts) =
-    after_record n cells (next ∷ parts) (λ above new. judged base (n + 1) above new (next ∷ parts)) (step_of_record base upper cells (record_in line))
+unfoldable pub cells_of_lines : ℕ → ℕ → ℕ → List (Option ℕ) → List (List ℕ) → Result (List (Option ℕ)) ℕ
+cells_of_lines base n upper cells [] = Err n
+cells_of_lines base n upper cells (last ∷ []) = Err n
+cells_of_lines base n upper cells (line ∷ next ∷ parts) =
+    after_record n cells (next ∷ parts) (λ above new. cells_of_lines base (n + 1) above new (next ∷ parts)) (step_of_record base upper cells (record_in line))
 
 -- the bytes of the part
 abbrev pub bytes_of : List (Option ℕ) → List ℕ

@@ -10,8 +10,8 @@ pub record Record : Type 0 where
   pub kind : ℕ
   pub bytes : List ℕ
 
--- the types that do something: data, the end, and the upper address in units of 16 or of 65536. Types 3 and 5 say where a
--- program starts, and are passed over.
+-- the types that do something: data, the end, and the upper address in units of 16 or of 65536.
+-- Types 3 and 5 say where a program starts, and are passed over.
 abbrev pub data_kind : ℕ
 data_kind = 0
 
@@ -24,7 +24,8 @@ segment_kind = 2
 abbrev pub linear_kind : ℕ
 linear_kind = 4
 
--- so many bytes are right for the type: data goes up to the last 16-bit address, and each other type has its own number of bytes
+-- so many bytes are right for the type: data goes up to the last 16-bit address, and each other
+-- type has its own number of bytes
 abbrev pub fits_kind : ℕ → ℕ → ℕ → Bool
 fits_kind kind address count =
     if kind == data_kind then nat_le (address + count) 65536
@@ -40,7 +41,8 @@ pub record IsRecord (r : Record) : Type 0 where
   pub bytes : IsBytes r.bytes
   pub fits : fits_kind r.kind r.address (length r.bytes) ≡ true
 
--- the bytes before the last: the number of data bytes, the address with its greater byte first, the type, and the data
+-- the bytes before the last: the number of data bytes, the address with its greater byte first,
+-- the type, and the data
 abbrev pub front_bytes : Record → List ℕ
 front_bytes r = length r.bytes ∷ (r.address / 256) ∷ (r.address % 256) ∷ r.kind ∷ r.bytes
 
@@ -59,10 +61,10 @@ abbrev pub carriage_return : ℕ
 carriage_return = 13
 
 -- a line without the carriage return at its end, if one stands there
-unfoldable pub bare : List ℕ → List ℕ
-bare [] = []
-bare (b ∷ []) = if b == carriage_return then [] else b ∷ []
-bare (b ∷ c ∷ line) = b ∷ bare (c ∷ line)
+unfoldable pub line_without_return : List ℕ → List ℕ
+line_without_return [] = []
+line_without_return (b ∷ []) = if b == carriage_return then [] else b ∷ []
+line_without_return (b ∷ c ∷ line) = b ∷ line_without_return (c ∷ line)
 
 -- the line spells the record: a colon, and digits, in either case, that are its bytes
 pub record SpellsRecord (line : List ℕ) (r : Record) : Type 0 where
@@ -71,12 +73,13 @@ pub record SpellsRecord (line : List ℕ) (r : Record) : Type 0 where
   pub line_is : line ≡ colon ∷ digits
   pub digits_are : decode_of digits ≡ Ok (record_bytes r)
 
--- the first line of the text spells the record, with a carriage return at its end or none, and the rest comes behind it
+-- the first line of the text spells the record, with a carriage return at its end or none, and the
+-- rest comes behind it
 pub record IsLineOf (r : Record) (text rest : List ℕ) : Type 0 where
   pub line : List ℕ
   pub in_line : IsLine line
   pub text_is : text ≡ line_of line ++ rest
-  pub spelled : SpellsRecord (bare line) r
+  pub spelled : SpellsRecord (line_without_return line) r
 
 -- the first lines of the text spell the records, one after another, and the rest comes behind them
 abbrev pub AreLinesOf : List Record → List ℕ → List ℕ → Type 0

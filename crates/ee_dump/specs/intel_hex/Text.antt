@@ -58,7 +58,8 @@ pub record IsEndLine (text rest : List ℕ) : Type 0 where
   pub line : IsLineOf last text rest
   pub ends : last.kind ≡ end_kind
 
--- the text says these bytes of the part, `size` of them from `base` on: it is records and then an end record, with nothing behind
+-- the text says these bytes of the part, `size` of them from `base` on: it is records and then an
+-- end record, with nothing behind
 pub record IsHexOf (text : List ℕ) (base size : ℕ) (bytes : List ℕ) : Type 0 where
   pub records : List Record
   pub closing : List ℕ

@@ -20,7 +20,8 @@ upper_record half = record { address = 0; kind = linear_kind; bytes = (half / 25
 abbrev pub end_record : Record
 end_record = record { address = 0; kind = end_kind; bytes = [] }
 
--- how many bytes go into one record: 16, but none behind a multiple of 65536, and no more than there are
+-- how many bytes go into one record: 16, but none behind a multiple of 65536, and no
+-- more than there are
 abbrev pub row_length : ℕ → ℕ → ℕ
 row_length place count = min (min 16 (65536 - place % 65536)) count
 

@@ -3,7 +3,7 @@ ghost use Rattle.std.specs.Prelude.{◌≡◌, ◌⊎◌, ◌≤◌, ◌<◌, �
 ghost use Rattle.std.specs.Bool.{OnFalse, OnTrue};
 ghost use Rattle.ee_dump.specs.intel_hex.Text.{IsHexOf, number_of_bytes, numbered_bytes, upper_after};
 ghost use Rattle.ee_dump.specs.intel_hex.Fault.{IsBadHexLine, IsHexFault};
-ghost use Rattle.ee_dump.specs.intel_hex.Reading.{bytes_of, judged, lines_in, put, put_all, record_in, step_of_record};
+ghost use Rattle.ee_dump.specs.intel_hex.Reading.{bytes_of, cells_of_lines, lines_in, put, put_all, record_in, step_of_record};
 ghost use Rattle.ee_dump.specs.intel_hex.Row.{view};
 ghost use Rattle.ee_dump.specs.intel_hex.Met.{Meets};
 
@@ -17,14 +17,14 @@ use std::alloc::{AllocError, Allocator};
 /// What a byte reads as that was never programmed.
 const ERASED: u8 = 255;
 
-/// The bytes that a text says of the part of `length` bytes from address `base` on; 255 where it says
-/// none. The part ends at address 2^32 at the latest.
+/// The bytes that a text says of the part of `length` bytes from address `base` on; 255 where it
+/// says none. The part ends at address 2^32 at the latest.
 ///
 /// # Errors
 ///
 /// `BadLine`: the number of the first line, from 1, that is no record's, gives a place of the part
-/// another byte than a line before it, is missing, or stands behind the end record. `Memory`: memory
-/// ran out; it can come in place of any answer.
+/// another byte than a line before it, is missing, or stands behind the end record. `Memory`:
+/// memory ran out; it can come in place of any answer.
 ///
 /// Source: ours.
 #[tactic(auto, using(crate::proofs::intel_hex::Answered::answering))]
@@ -43,25 +43,29 @@ pub fn read_hex<A: Allocator + Copy>(
     ensures names { (n : ℕ) → IsBadHexLine text.now base length n
         → MatchResult result (λ _. ⊥) (λ fault. (fault ≡ HexFault.BadLine n) ⊎ (fault ≡ HexFault.Memory)) }
 {
-    let mut part = Part::new(alloc, base, length)?;
-    if let Err(number) = read_lines(text, &mut part) {
+    let mut reader = DumpReader::new(alloc, base, length)?;
+    if let Err(number) = read_lines(text, &mut reader) {
         return Err(HexFault::BadLine(number));
     }
-    Ok(part.to_bytes(alloc)?)
+    Ok(reader.to_bytes(alloc)?)
 }
 
 /// Reads lines till the end record, or gives the number of the first bad one.
 #[tactic(auto, using(crate::proofs::intel_hex::Parsing::reading))]
-fn read_lines<A: Allocator>(text: &[u8], part: &mut Part<A>) -> Result<(), u64>
-    ensures read { OnOk result (judged part.old.base 1 part.old.upper part.old.cells.items (lines_in text.now)
-        ≡ Ok part.new.cells.items) }
-    ensures bad { IfErr result (λ n. judged part.old.base 1 part.old.upper part.old.cells.items (lines_in text.now) ≡ Err n) }
+fn read_lines<A: Allocator>(text: &[u8], reader: &mut DumpReader<A>) -> Result<(), u64>
+    ensures read { OnOk result
+        (cells_of_lines reader.old.base 1 reader.old.upper reader.old.cells.items
+        (lines_in text.now)
+        ≡ Ok reader.new.cells.items) }
+    ensures bad { IfErr result
+        (λ n. cells_of_lines reader.old.base 1 reader.old.upper reader.old.cells.items
+        (lines_in text.now) ≡ Err n) }
 {
     let mut buffer = [0; MOST_BYTES];
     let mut rest = text;
     let mut number = 1;
     while let Some((line, behind)) = next_line(rest) {
-        match part.meet(line, &mut buffer) {
+        match reader.meet(line, &mut buffer) {
             Met::Taken => {}
             Met::End => {
                 if behind.is_empty() {
@@ -88,9 +92,9 @@ enum Met {
     Bad,
 }
 
-/// A part of memory, as far as it was read.
+/// What was read of a part, so far.
 #[derive(Drop)]
-struct Part<A: Allocator> {
+struct DumpReader<A: Allocator> {
     /// Its first address.
     base: u64,
     /// The upper address of the records that follow.
@@ -99,21 +103,22 @@ struct Part<A: Allocator> {
     cells: Vec<Option<u8>, A>,
 }
 
-impl<A: Allocator> Part<A> {
-    /// A part of which nothing was read.
-    fn new(alloc: A, base: u32, length: usize) -> Result<Part<A>, AllocError>
-        ensures base { IfOk result (λ part. part.base ≡ base) }
-        ensures upper { IfOk result (λ part. part.upper ≡ 0) }
-        ensures cells { IfOk result (λ part. part.cells.items ≡ replicate length None) }
+impl<A: Allocator> DumpReader<A> {
+    /// A reader that has read nothing.
+    fn new(alloc: A, base: u32, length: usize) -> Result<DumpReader<A>, AllocError>
+        ensures base { IfOk result (λ reader. reader.base ≡ base) }
+        ensures upper { IfOk result (λ reader. reader.upper ≡ 0) }
+        ensures cells { IfOk result (λ reader. reader.cells.items ≡ replicate length None) }
     {
-        Ok(Part {
+        Ok(DumpReader {
             base: u64::from(base),
             upper: 0,
             cells: vec![in alloc; None; length]?,
         })
     }
 
-    /// Takes what a line says, by way of the buffer. After a bad line some of its bytes may have been taken.
+    /// Takes what a line says, by way of the buffer. After a bad line some of its bytes
+    /// may have been taken.
     #[tactic(auto, using(crate::proofs::intel_hex::Parsing::no_bytes, crate::proofs::intel_hex::Parsing::no_row, crate::proofs::intel_hex::Parsing::one_row))]
     fn meet(&mut self, line: &[u8], buffer: &mut [u8; MOST_BYTES]) -> Met
         ensures base { self.new.base ≡ self.old.base }
@@ -150,8 +155,8 @@ impl<A: Allocator> Part<A> {
         Met::Taken
     }
 
-    /// Brings bytes to their places, the first to `place`, and says whether each had none or the same. If
-    /// not, some may have come there.
+    /// Brings bytes to their places, the first to `place`, and says whether each had none or the
+    /// same. If not, some may have come there.
     #[tactic(auto, using(crate::proofs::intel_hex::Places::putting))]
     fn put_bytes(&mut self, place: u64, bytes: &[u8]) -> bool
         requires { place < 2 ^ 33 }
@@ -191,7 +196,8 @@ impl<A: Allocator> Part<A> {
         true
     }
 
-    /// Brings a byte to its place, if that is in the part, and says whether it had none or the same.
+    /// Brings a byte to its place, if that is in the part, and says whether it had none or the
+    /// same.
     #[tactic(auto, using(crate::proofs::intel_hex::Places::put_below, crate::proofs::intel_hex::Places::put_above))]
     fn put(&mut self, place: u64, byte: u8) -> bool
         ensures base { self.new.base ≡ self.old.base }

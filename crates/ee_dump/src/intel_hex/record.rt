@@ -4,7 +4,7 @@ ghost use Rattle.std.specs.Bool.{OnFalse, OnTrue};
 ghost use Rattle.std.specs.List.{sum};
 ghost use Rattle.std.specs.Option.{option_map, unwrap_or};
 ghost use Rattle.hex.specs.Hex.{decode_of, hex_digit_value};
-ghost use Rattle.ee_dump.specs.intel_hex.Record.{bare, fits_kind};
+ghost use Rattle.ee_dump.specs.intel_hex.Record.{fits_kind, line_without_return};
 ghost use Rattle.ee_dump.specs.intel_hex.Reading.{bytes_in, record_of};
 ghost use Rattle.ee_dump.specs.intel_hex.Row.{view};
 
@@ -52,7 +52,7 @@ pub(crate) struct Row<'a> {
 /// The line without the carriage return at its end, if one stands there.
 #[tactic(auto, using(crate::proofs::intel_hex::Parsing::bare_cut, crate::proofs::intel_hex::Parsing::bare_kept, crate::proofs::intel_hex::Parsing::bare_empty))]
 pub(crate) fn without_return(line: &[u8]) -> &[u8]
-    ensures { result.now ≡ bare line.now }
+    ensures { result.now ≡ line_without_return line.now }
 {
     let Some((last, front)) = line.split_last() else {
         return line;
@@ -63,8 +63,8 @@ pub(crate) fn without_return(line: &[u8]) -> &[u8]
     line
 }
 
-/// Brings the bytes that a line spells to the front of the buffer, and gives how many they are. None
-/// where the line spells none, or more than a record has.
+/// Brings the bytes that a line spells to the front of the buffer, and gives how many they are.
+/// None where the line spells none, or more than a record has.
 #[tactic(auto, using(crate::proofs::intel_hex::Parsing::no_colon_long, crate::proofs::intel_hex::Parsing::long_digits, crate::proofs::intel_hex::Parsing::odd_digits, crate::proofs::intel_hex::Parsing::bad_digits, crate::proofs::intel_hex::Parsing::digits_found))]
 pub(crate) fn bytes_of_line(line: &[u8], buffer: &mut [u8; MOST_BYTES]) -> Option<usize>
     ensures found { IfSome result

@@ -6,7 +6,7 @@ use Rattle.ee_flash.specs.Memory.{device_of, memory_of}
 use Rattle.ee_image.specs.Text.{at_rest}
 use Rattle.ee_image.specs.Fault.{BeginsWithSize, IsImageFault}
 use Rattle.ee_image.specs.declared.fault.ImageFault.TheVariants.{TooLong, BadShape, Memory}
-use Rattle.ee_image.proofs.Answered.{IsDevice, are_cells, device_read, fault_behind, is_named, kept_device, no_cell_fault, no_fault, only_memory, same_device}
+use Rattle.ee_image.proofs.Answered.{IsDevice, are_cells, device_read, fault_behind, is_named, kept_device, no_fault, only_memory, same_device}
 use Rattle.ee_image.proofs.reading.read_image.Given
 use Rattle.ee_image.proofs.reading.read_image.Goals as goal
 
@@ -46,8 +46,8 @@ returns-in_err-cells-clause-names g c = λ fault is.
 
 pub unreachable-requires : goal.unreachable-requires
 unreachable-requires g c =
-    no_cell_fault c.in-Some-shape.shape c.in_ok-cells.cells.items c.in_ok-cells.wear.items c.in-Err.field-0
-    (are_cells c.in-Some-shape.shape c.in-Some.rest.now [] c.in_ok-cells.cells.items c.in_ok-cells.wear.items c.in_ok-cells.ensures.found) c.in-Err.ensures.fault
+    let kept = are_cells c.in-Some-shape.shape c.in-Some.rest.now [] c.in_ok-cells.cells c.in_ok-cells.wear.items c.in_ok-cells.ensures.found in
+    c.in-Err.ensures.fault kept.lengths
 
 -- what was read
 read : (g : Given.Over) (c : goal.In-Ok g) → IsDevice c.args.bytes.now (device_of c.in-Ok.flash)
@@ -55,8 +55,8 @@ read g c =
     let same : c.in-Some-shape.shape ≡ size_of c.in-Some.heading.pages c.in-Some.heading.words = search rules in
     let limits : IsWithinLimits c.in-Some-shape.shape = search rules in
     let begins : BeginsWithSize c.args.bytes.now c.in-Some-shape.shape c.in-Some.rest.now = rw same c.in-Some.ensures.found in
-    let is = device_read c.args.bytes.now c.in-Some.rest.now c.in-Some-shape.shape c.in_ok-cells.cells.items c.in_ok-cells.wear.items begins limits c.in_ok-cells.ensures.found in
-    kept_device c.args.bytes.now (memory_of c.in-Ok.flash) (device_from c.in-Some-shape.shape c.in_ok-cells.cells.items c.in_ok-cells.wear.items) is c.in-Ok.ensures.device
+    let is = device_read c.args.bytes.now c.in-Some.rest.now c.in-Some-shape.shape c.in_ok-cells.cells c.in_ok-cells.wear.items begins limits c.in_ok-cells.ensures.found in
+    kept_device c.args.bytes.now (memory_of c.in-Ok.flash) (device_from c.in-Some-shape.shape c.in_ok-cells.cells c.in_ok-cells.wear.items) is c.in-Ok.ensures.device
 
 pub returns-clause-found : goal.returns-clause-found
 returns-clause-found g c = (read g c).text_is

@@ -5,6 +5,6 @@ use Rattle.ee_pairs.proofs.PairRuns.{same_run_of_pairs}
 use Rattle.ee_pairs.proofs.runs.fill_from_window.Goals as goal
 
 pub returns : goal.returns
-returns c = same_run_of_pairs c.args.numbers.now c.loop-word.room 0 _ (omega arith) (λ k h.
-    c.loop-word.invariant k (omega arith)
+returns c = same_run_of_pairs c.args.numbers.now c.words.room 0 _ c.words.invariant.0 (λ k h.
+    c.words.invariant.1 k (omega arith)
     ∙ ap (λ place. number_of (pair_in c.args.numbers.now place)) (omega arith))

@@ -1,11 +1,11 @@
 use Rattle.std.proofs.Common.{◌≡◌, ◌+◌, ◌≤◌, length}
-use Rattle.ee_dump.specs.intel_hex.Reading.{judged, lines_in}
+use Rattle.ee_dump.specs.intel_hex.Reading.{cells_of_lines, lines_in}
 use Rattle.ee_dump.proofs.intel_hex.reading.read_lines.Given as goal
 
 -- the lines that are left come to what all lines come to
 abbrev pub invariant-loop-line : goal.invariant-loop-line
 invariant-loop-line g l = record {
-  left : judged l.part.base l.number l.part.upper l.part.cells.items (lines_in l.rest) ≡ judged l.fn.part.base 1 l.fn.part.upper l.fn.part.cells.items (lines_in l.fn.text);
+  left : cells_of_lines l.reader.base l.number l.reader.upper l.reader.cells.items (lines_in l.rest) ≡ cells_of_lines l.fn.reader.base 1 l.fn.reader.upper l.fn.reader.cells.items (lines_in l.fn.text);
   number : l.number + length l.rest ≤ 1 + length l.fn.text;
 }
 

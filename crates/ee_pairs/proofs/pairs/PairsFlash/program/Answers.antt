@@ -31,7 +31,14 @@ program-requires-2-clause-erased g c =
     rw c.in_ok-program.ensures.done (still_erased _ c.args.page c.args.at (g.met.N.Nor.formed c.args.self.now.nor) c.requires.page_in_range c.requires.place_in_range c.requires.erased c.args.value)
 
 pub invariant_of-self-2 : goal.invariant_of-self-2
-invariant_of-self-2 g c = search (rules, safe_second_left)
+invariant_of-self-2 g c =
+    let formed = g.met.N.Nor.formed c.args.self.now.nor in
+    let check = c.complement_of-check.ensures in
+    record {
+      safe = safe_second_left _ _ c.args.page c.args.at c.args.value formed c.requires.page_in_range c.requires.place_in_range c.requires.erased
+          _ c.in_ok-program.ensures.on c.in_ok-program.ensures.done c.requires.below_all_ones
+          c.program-2.result c.args.self.now.safe (rw check at c.program-2.ensures.done) (rw check at c.program-2.ensures.cut);
+    }
 
 pub returns-clause-done : goal.returns-clause-done
 returns-clause-done g c = search (rules, on_ok_weaker, second_done)

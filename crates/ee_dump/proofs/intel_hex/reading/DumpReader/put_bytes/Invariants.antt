@@ -1,7 +1,7 @@
 use Rattle.std.proofs.Common.{◌≡◌, ◌+◌, drop}
 use Rattle.ee_dump.specs.intel_hex.Text.{numbered_bytes}
 use Rattle.ee_dump.specs.intel_hex.Reading.{put_all}
-use Rattle.ee_dump.proofs.intel_hex.reading.Part.put_bytes.Given as goal
+use Rattle.ee_dump.proofs.intel_hex.reading.DumpReader.put_bytes.Given as goal
 
 -- the bytes that are left come to what all bytes come to
 abbrev pub invariant-loop-at : goal.invariant-loop-at

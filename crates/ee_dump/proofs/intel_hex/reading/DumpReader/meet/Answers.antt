@@ -2,7 +2,7 @@ use Rattle.std.proofs.Common.{◌≡◌, Some, take}
 use Rattle.ee_dump.specs.intel_hex.Reading.{record_of}
 use Rattle.ee_dump.specs.intel_hex.Row.{view}
 use Rattle.ee_dump.proofs.intel_hex.Parsing.{one_row}
-use Rattle.ee_dump.proofs.intel_hex.reading.Part.meet.Goals as goal
+use Rattle.ee_dump.proofs.intel_hex.reading.DumpReader.meet.Goals as goal
 
 pub returns-in-Some-row_of-clause-step : goal.returns-in-Some-row_of-clause-step
 returns-in-Some-row_of-clause-step g c =

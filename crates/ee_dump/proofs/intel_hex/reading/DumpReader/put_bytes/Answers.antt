@@ -1,6 +1,6 @@
 use Rattle.std.proofs.Common.{arith}
 use Rattle.std.proofs.lemmas.Grind.{common_steps}
-use Rattle.ee_dump.proofs.intel_hex.reading.Part.put_bytes.Goals as goal
+use Rattle.ee_dump.proofs.intel_hex.reading.DumpReader.put_bytes.Goals as goal
 
 pub returns-then-not-put-clause-refused : goal.returns-then-not-put-clause-refused
 returns-then-not-put-clause-refused g c = grind (arith, common_steps)
