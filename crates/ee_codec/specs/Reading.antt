@@ -8,7 +8,8 @@ use Rattle.ee_codec.specs.declared.slot.Slot.{Slot}
 use Rattle.ee_codec.specs.declared.slot.Slot.TheVariants.{Free, Spoiled, Element, Forgotten, Foreign}
 use Rattle.ee_codec.specs.Words.{IsAddress, IsValue, element, forgetting, mark_number}
 
--- A word says this as a slot: an element or a forgetting exactly where it is its spelling. No other pair is one.
+-- A word says this as a slot: an element or a forgetting exactly where it is its spelling.
+-- No other pair is one.
 abbrev pub SaysSlot : Word → Slot → Type 0
 SaysSlot Erased Free = Unit {0}
 SaysSlot Torn Spoiled = Unit {0}

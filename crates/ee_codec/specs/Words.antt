@@ -13,7 +13,8 @@ IsGeneration generation = (0 < generation) × (generation < 4294967295)
 abbrev pub IsValue : ℕ → Type 0
 IsValue value = value < 2 ^ 32
 
--- the address has the value: the value in the high 32 bits, zero in the middle 16, the address in the low 16
+-- the address has the value: the value in the high 32 bits, zero in the middle 16, the
+-- address in the low 16
 abbrev pub element : ℕ → ℕ → ℕ
 element address value = value * 2 ^ 32 + address
 

@@ -20,7 +20,7 @@ use Rattle.ee_pages.specs.declared.side.Side.{Side}
 use Rattle.ee_pages.proofs.Public.{erased_word, fill-front, slots_behind, step_keeps_other_pages, page_in_range, place_in_range, slot_at, push_takes, whole_push_takes, programmed_word}
 use Rattle.ee_core.proofs.Cuts.{program_partly}
 use Rattle.ee_core.specs.Appending.{MayTakeSlot, Pushed, PushedPartly}
-use Rattle.ee_core.specs.Parts.{IsSameSet, KeepsMarks, map_in, meant, number_written}
+use Rattle.ee_core.specs.CallSteps.{IsSameSet, KeepsMarks, map_change, map_in, number_written}
 use Rattle.ee_core.specs.declared.change.Change as declared
 use Rattle.ee_core.proofs.MovingFacts.{keeps_both}
 use Rattle.ee_core.proofs.SetPages.{page_in_device, page_of_set}
@@ -52,7 +52,7 @@ slot_erased side generation fill old live fill_is free =
     ∙ erased_word (get_or slots fill Erased) unwritten
 
 -- a change in it
-module _ (old new : Device) (layout : Layout) (found : IsLayout old layout) (free : layout.fill < slot_count old.size) (change : declared.Change) (spells : SpellsChange (number_written change) (meant change)) (below : number_written change < all_ones) where
+module _ (old new : Device) (layout : Layout) (found : IsLayout old layout) (free : layout.fill < slot_count old.size) (change : declared.Change) (spells : SpellsChange (number_written change) (map_change change)) (below : number_written change < all_ones) where
   abbrev step : ℕ → Step
   step slot = slot_step old.size layout.side slot (number_written change)
 
@@ -68,8 +68,8 @@ module _ (old new : Device) (layout : Layout) (found : IsLayout old layout) (fre
   free_there : fill_of (slots_of (set_of layout.side old)) < slot_count old.size
   free_there = omega (arith, found.fill)
 
-  outcome : MayFollow (step layout.fill) old new → IsSameSet (other layout.side) old new × MayTakeSlot old new layout.side layout.generation (meant change)
-  outcome follows = push_takes (meant change) (number_written change) old new layout.side layout.generation found.live free_there spells (at_fill follows)
+  outcome : MayFollow (step layout.fill) old new → IsSameSet (other layout.side) old new × MayTakeSlot old new layout.side layout.generation (map_change change)
+  outcome follows = push_takes (map_change change) (number_written change) old new layout.side layout.generation found.live free_there spells (at_fill follows)
 
   keeps_marks : MayFollow (step layout.fill) old new → KeepsMarks old new
   keeps_marks follows = slot_keeps_marks (first_page old.size layout.side + page_of_slot old.size layout.fill) (layout.fill % (old.size.words - 4)) (number_written change) old new (taken follows)
@@ -78,7 +78,7 @@ module _ (old new : Device) (layout : Layout) (found : IsLayout old layout) (fre
   pushed on done =
       let whole : MayFollow (step layout.fill) old new = inl (record { was_on = on; done = done }) in
       record {
-        takes = (whole_push_takes (meant change) (number_written change) old new layout.side layout.generation found.live free_there spells (at_fill whole)
+        takes = (whole_push_takes (map_change change) (number_written change) old new layout.side layout.generation found.live free_there spells (at_fill whole)
             (done ∙ ap (λ n. device_after (step n) old) found.fill)).0;
         spells = spells;
         puts = put_there _ _ _ old new (first_page old.size layout.side + page_of_slot old.size layout.fill) (place_of_slot old.size layout.fill) _ found.live.formed can_take.0 can_take.1 refl refl refl done;

@@ -11,8 +11,8 @@ use Rattle.ee_pages.specs.Page.{is_blank}
 use Rattle.ee_pages.specs.Sets.{first_page, other, set_of}
 use Rattle.ee_pages.specs.declared.side.Side.{Side}
 use Rattle.ee_pages.proofs.Public.{keeps_side_both, length-set_of}
+use Rattle.ee_core.specs.CallSteps.{IsSameBut}
 use Rattle.ee_core.specs.Cuts.{ErasesPartly}
-use Rattle.ee_core.specs.Parts.{IsSameBut}
 use Rattle.ee_core.specs.State.{Wears, not_blank_from, not_blank_in}
 use Rattle.ee_core.proofs.AfterCalls.{goes_on_both}
 use Rattle.ee_core.proofs.Cuts.{erases_partly}
@@ -33,7 +33,8 @@ module _ (side : Side) (old : Device) (first pages : ℕ) (formed : IsFormed old
   -- the whole set
   pub all_cleared : (new : Device) (page : ℕ) → IsFormed new → page ≡ first + pages → ClearedTo old new side first page → All (λ words. is_blank words ≡ true) (set_of (other side) new) × Wears (not_blank_in (other side) old) old new
   all_cleared new page new_formed end all =
-      let start = ap (λ (size : Size). first_page size (other side)) all.keeps.same_size in let counted = ap (λ (size : Size). size.pages) all.keeps.same_size in
+      let start = ap (λ (size : Size). first_page size (other side)) all.keeps.same_size in
+      let counted = ap (λ (size : Size). size.pages) all.keeps.same_size in
       let long : page - first ≡ length (set_of (other side) old) = omega (arith, length-set_of (other side) old formed, pages_is, end) in (
         all_blank (other side) new new_formed (λ k from below. all.blank k (omega (arith, first_is, start, from)) (omega (arith, first_is, start, counted, pages_is, end, below))),
         subst (λ n. Wears (not_blank_from n (set_of (other side) old)) old new) first_is (all_wear (set_of (other side) old) first (page - first) old new long all.wear),

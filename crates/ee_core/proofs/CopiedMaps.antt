@@ -11,8 +11,8 @@ use Rattle.ee_pages.specs.Meaning.{Change, Forget, Map, Put, changed_by, map_aft
 use Rattle.ee_pages.specs.LiveOrder.{IsNextLive}
 use Rattle.ee_pages.proofs.Public.{live_to-zero, live_to-suc}
 use Rattle.ee_pages.specs.Pending.{address_of}
+use Rattle.ee_core.specs.CallSteps.{map_to, replaced_map}
 use Rattle.ee_core.specs.Changes.{HasChange}
-use Rattle.ee_core.specs.Parts.{map_to, replaced_map}
 use Rattle.ee_core.specs.Picture.{map_without}
 use Rattle.ee_core.specs.Puts.{names}
 
@@ -234,7 +234,8 @@ then_all start map changes same address = elim (cases_Bool (names changes addres
 pub put_last : (changes : List Change) (map : Map) (named value : ℕ) → names changes named ≡ false
     → (address : ℕ) → map_after (Put named value) (changed_by changes (map_after (Forget named) map)) address ≡ changed_by changes (map_after (Put named value) map) address
 put_last changes map named value once address =
-    let without = map_after (Forget named) map in let after = changed_by changes without in
+    let without = map_after (Forget named) map in
+    let after = changed_by changes without in
     elim (cases_Bool (names changes address)) [
       | inl here ↦
           put-other after named value address (λ e. told_apart (names changes) named address here once (sym e))

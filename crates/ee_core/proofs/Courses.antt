@@ -75,7 +75,8 @@ pub one_taken : (map : Map) (above : ℕ) (items listed : List (ℕ × ℕ)) (th
     → GoesOver map record { after = above; ready = drop n items; through = through }
     → Taken map above items through n found
 one_taken map above items listed through n found same h is over =
-    let within : n < length items = omega (arith, h, ap length same) in let here : found ≡ get_or items n found = is ∙ ap (λ l. get_or l n found) same in
+    let within : n < length items = omega (arith, h, ap length same) in
+    let here : found ≡ get_or items n found = is ∙ ap (λ l. get_or l n found) same in
     let e : n + 1 ≡ suc n = omega arith in
     let moved : last_of 0 (take (n + 1) items) ≡ found.0 = ap (λ m. last_of 0 (take m items)) e ∙ last_taken items n 0 found within ∙ ap (λ (one : ℕ × ℕ). one.0) (sym here) in
     let split : drop n items ≡ found ∷ drop (n + 1) items = drop_more items n found within ∙ ap (λ (one : ℕ × ℕ). one ∷ drop (n + 1) items) (sym here) in

@@ -16,7 +16,8 @@ use Rattle.ee_core.specs.State.{State, capacity, state_in, state_of}
 fill_in : (device : Device) (live : Option (Side × ℕ)) → IsFormed device → (state_in device live).fill ≤ capacity device
 fill_in device None formed = omega arith
 fill_in device (Some live) formed =
-    let slots = slots_of (set_of live.0 device) in let whole : length slots ≡ slot_count device.size = length-slots live.0 device formed in
+    let slots = slots_of (set_of live.0 device) in
+    let whole : length slots ≡ slot_count device.size = length-slots live.0 device formed in
     let some : length (filter is_written slots) ≤ length slots = rw (length-filter is_written slots) (count_by-le-length is_written slots) in
     omega arith
 

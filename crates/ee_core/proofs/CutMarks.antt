@@ -20,10 +20,10 @@ use Rattle.ee_core.proofs.LiveMarks.{IsPageDone, MarksPage, done_already, done_m
 use Rattle.ee_core.proofs.MarkedSets.{live_stays, retired_next, retired_start, retired_to}
 use Rattle.ee_core.proofs.Marks.{same_stays}
 use Rattle.ee_core.proofs.SetPages.{page_reached, same_page}
+use Rattle.ee_core.specs.CallSteps.{IsSameBut, IsSameSet, KeepsMarks, SetsMark, Stays}
 use Rattle.ee_core.specs.Cuts.{IsDrawnPartly, PutsPartly, SetsPartly}
 use Rattle.ee_core.specs.Finished.{IsOldMarked, last_used}
 use Rattle.ee_core.specs.Openings.{ShowsCutMarks}
-use Rattle.ee_core.specs.Parts.{IsSameBut, IsSameSet, KeepsMarks, SetsMark, Stays}
 use Rattle.ee_core.specs.Picture.{IsDrawn, Picture, is_used, marked_to, picture_of, retired_pages, with_change}
 
 -- ---- the marks that are set so far are on the way
@@ -118,7 +118,9 @@ pub cut_word : (side : Side) (old mid new : Device) (fill number : ℕ) → mid.
     → PutsPartly (first_page mid.size side + page_of_slot mid.size fill) (place_of_slot mid.size fill) (Held number) mid new
     → IsDrawnPartly side new (picture_of side old) (with_change old.size fill number (picture_of side old))
 cut_word side old mid new fill number first_sizes second_sizes h inside drawn puts =
-    let picture = picture_of side old in let at = place_of_slot old.size fill in let k = page_of_slot old.size fill in
+    let picture = picture_of side old in
+    let at = place_of_slot old.size fill in
+    let k = page_of_slot old.size fill in
     let there = subst (λ (size : Size). PutsPartly (first_page mid.size side + page_of_slot size fill) (place_of_slot size fill) (Held number) mid new) first_sizes puts in
     drawn_between side new picture (with_change old.size fill number picture) (marked_to k picture) (with_change old.size fill number picture)
     (λ page place _ _. (marks_way old.size fill number picture page place, inr refl))

@@ -25,11 +25,11 @@ use Rattle.ee_core.proofs.Drawings.{drawn_both, put_apart, with_mark}
 use Rattle.ee_core.proofs.FilledSets.{near, one_word_more, opens_further}
 use Rattle.ee_core.specs.Transfers.{OpensForSlot}
 use Rattle.ee_core.proofs.MovedSets.{all_marked, blank_drawn, committed, first_opened, opens_blank, same_retired}
+use Rattle.ee_core.specs.CallSteps.{AddsWords, Holds, SetsMark, opened_set}
 use Rattle.ee_core.specs.Cuts.{AddsPartly, FillsPartly, IsDrawnPartly, PutsPartly, SetsPartly}
-use Rattle.ee_core.specs.Parts.{AddsWords, Holds, SetsMark, opened_set}
 use Rattle.ee_core.proofs.CopiedWords.{one_further}
 use Rattle.ee_pages.specs.Meaning.{Map}
-use Rattle.ee_core.specs.Picture.{IsDrawn, blank, element_at, elements_to, filled_set, is_used, marked_to, picture_of, retired_pages}
+use Rattle.ee_core.specs.Picture.{IsDrawn, blank_picture, element_at, elements_to, filled_set, is_used, marked_to, picture_of, retired_pages}
 
 page_later : (size : Size) (n m : ℕ) → 0 < size.words - 4 → n ≤ m → page_of_slot size n ≤ page_of_slot size m
 page_later size n m some h = let fits = div-mul-le_self n (size.words - 4) in le-div (n / (size.words - 4)) m (size.words - 4) some (omega (arith, fits))
@@ -83,11 +83,13 @@ committed_way size generation words page at =
 pub partly_longer : (old new : Device) (side : Side) (generation count : ℕ) (more rest : List Word) → IsFormed new → AddsPartly old new side generation count more → AddsPartly old new side generation count (more ++ rest)
 partly_longer old new side generation count more rest formed adds = record {
   new_pages = λ words long holds.
-      let all = words ++ more in let some : 0 < new.size.words - 4 = omega (arith, formed.within_limits.some_words) in
-      let last = page_of_slot new.size (length all - 1) in let later = page_of_slot new.size (length (all ++ rest) - 1) in
+      let all = words ++ more in
+      let some : 0 < new.size.words - 4 = omega (arith, formed.within_limits.some_words) in
+      let last = page_of_slot new.size (length all - 1) in
+      let later = page_of_slot new.size (length (all ++ rest) - 1) in
       let before : last ≤ later = page_later new.size (length all - 1) (length (all ++ rest) - 1) some (omega (arith, length-append all rest)) in
       let longer : FillsPartly new (other side) generation (all ++ rest) =
-      drawn_between (other side) new blank (opened_set new.size generation later (all ++ rest)) blank (opened_set new.size generation last all)
+      drawn_between (other side) new blank_picture (opened_set new.size generation later (all ++ rest)) blank_picture (opened_set new.size generation last all)
       (λ page at _ _. (inl refl, opened_front new.size generation last later all rest page at before)) (adds.new_pages words long holds) in
       subst (λ (found : List Word). FillsPartly new (other side) generation found) (append_assoc words more rest) longer;
 }
@@ -107,22 +109,24 @@ pub receive_partly : (old new : Device) (side : Side) (generation count : ℕ) (
     → SetsPartly (first_page old.size (other side) + page_of_slot old.size count) (Receive generation) old new → AddsPartly old new side generation count (word ∷ [])
 receive_partly old new side generation count word formed sizes h sets = record {
   new_pages = λ words long holds.
-      let k = page_of_slot old.size count in let last = page_of_slot old.size (count - 1) in let all = words ++ (word ∷ []) in
+      let k = page_of_slot old.size count in
+      let last = page_of_slot old.size (count - 1) in
+      let all = words ++ (word ∷ []) in
       let some : 0 < old.size.words - 4 = omega (arith, formed.within_limits.some_words) in
       let before : IsDrawn (other side) old (opened_set old.size generation last words) = subst (λ n. IsDrawn (other side) old (opened_set old.size generation (page_of_slot old.size (n - 1)) words)) long holds in
       let drawn = mark_drawn_partly (other side) old new k (Receive generation) (opened_set old.size generation last words) formed sizes h before sets in
       let lower : last ≤ k = page_later old.size (count - 1) count some (omega arith) in
-      let fills : IsDrawnPartly (other side) new blank (opened_set old.size generation k all) =
-      drawn_between (other side) new blank (opened_set old.size generation k all) (opened_set old.size generation last words) (with_mark k (Receive generation) (opened_set old.size generation last words))
+      let fills : IsDrawnPartly (other side) new blank_picture (opened_set old.size generation k all) =
+      drawn_between (other side) new blank_picture (opened_set old.size generation k all) (opened_set old.size generation last words) (with_mark k (Receive generation) (opened_set old.size generation last words))
       (λ page at _ _. (
         opened_front old.size generation last k words (word ∷ []) page at lower,
         subst (λ (found : Word). IsOnTheWay Erased (opened_set old.size generation k all page at) found) (sym (opens_further old.size generation last k words page at (near old.size count some)))
             (opened_front old.size generation k k words (word ∷ []) page at (omega arith)),
       )) drawn in
       let counted : count ≡ length all - 1 = omega (arith, length-append words (word ∷ []), long) in
-      let there : IsDrawnPartly (other side) new blank (opened_set old.size generation (page_of_slot old.size (length all - 1)) all) =
-      subst (λ n. IsDrawnPartly (other side) new blank (opened_set old.size generation (page_of_slot old.size n) all)) counted fills in
-      subst (λ (size : Size). IsDrawnPartly (other side) new blank (opened_set size generation (page_of_slot size (length all - 1)) all)) (sym sizes) there;
+      let there : IsDrawnPartly (other side) new blank_picture (opened_set old.size generation (page_of_slot old.size (length all - 1)) all) =
+      subst (λ n. IsDrawnPartly (other side) new blank_picture (opened_set old.size generation (page_of_slot old.size n) all)) counted fills in
+      subst (λ (size : Size). IsDrawnPartly (other side) new blank_picture (opened_set size generation (page_of_slot size (length all - 1)) all)) (sym sizes) there;
 }
 
 -- or in itself, in a page that is open
@@ -130,41 +134,43 @@ pub word_partly : (old new : Device) (side : Side) (generation count : ℕ) (wor
     → PutsPartly (first_page old.size (other side) + page_of_slot old.size count) (place_of_slot old.size count) word old new
     → (words : List Word) → length words ≡ count → IsDrawn (other side) old (opened_set old.size generation (page_of_slot old.size count) words) → FillsPartly new (other side) generation (words ++ (word ∷ []))
 word_partly old new side generation count word formed sizes h inside puts words long before =
-    let k = page_of_slot old.size count in let all = words ++ (word ∷ []) in
+    let k = page_of_slot old.size count in
+    let all = words ++ (word ∷ []) in
     let drawn = put_partly (other side) old new k (place_of_slot old.size count) word (opened_set old.size generation k words) sizes before h inside puts in
-    let fills : IsDrawnPartly (other side) new blank (opened_set old.size generation k all) =
-    drawn_between (other side) new blank (opened_set old.size generation k all) (opened_set old.size generation k words) _
+    let fills : IsDrawnPartly (other side) new blank_picture (opened_set old.size generation k all) =
+    drawn_between (other side) new blank_picture (opened_set old.size generation k all) (opened_set old.size generation k words) _
     (λ page at _ within. (
       opened_front old.size generation k k words (word ∷ []) page at (omega arith),
       inr (one_word_more old.size generation k count words word page at long (omega (arith, ap (λ (size : Size). size.words) sizes))),
     )) drawn in
     let counted : count ≡ length all - 1 = omega (arith, length-append words (word ∷ []), long) in
-    let there : IsDrawnPartly (other side) new blank (opened_set old.size generation (page_of_slot old.size (length all - 1)) all) =
-    subst (λ n. IsDrawnPartly (other side) new blank (opened_set old.size generation (page_of_slot old.size n) all)) counted fills in
-    subst (λ (size : Size). IsDrawnPartly (other side) new blank (opened_set size generation (page_of_slot size (length all - 1)) all)) (sym sizes) there
+    let there : IsDrawnPartly (other side) new blank_picture (opened_set old.size generation (page_of_slot old.size (length all - 1)) all) =
+    subst (λ n. IsDrawnPartly (other side) new blank_picture (opened_set old.size generation (page_of_slot old.size n) all)) counted fills in
+    subst (λ (size : Size). IsDrawnPartly (other side) new blank_picture (opened_set size generation (page_of_slot size (length all - 1)) all)) (sym sizes) there
 
 -- ---- the set as a whole
 
-pub filled_partly : (side : Side) (new : Device) (generation : ℕ) (words : List Word) → FillsPartly new side generation words → IsDrawnPartly side new blank (filled_set new.size generation words)
+pub filled_partly : (side : Side) (new : Device) (generation : ℕ) (words : List Word) → FillsPartly new side generation words → IsDrawnPartly side new blank_picture (filled_set new.size generation words)
 filled_partly side new generation words fills =
-    drawn_between side new blank (filled_set new.size generation words) blank (opened_set new.size generation (page_of_slot new.size (length words - 1)) words)
+    drawn_between side new blank_picture (filled_set new.size generation words) blank_picture (opened_set new.size generation (page_of_slot new.size (length words - 1)) words)
     (λ page at _ _. (inl refl, opened_way new.size generation words page at)) fills
 
 -- cut in the mark that commits it
-pub commit_partly : (side : Side) (old new : Device) (generation : ℕ) (words : List Word) → IsFormed old → new.size ≡ old.size → SetsPartly (first_page old.size side) Active old new → Holds old side generation words → IsDrawnPartly side new blank (filled_set old.size generation words)
+pub commit_partly : (side : Side) (old new : Device) (generation : ℕ) (words : List Word) → IsFormed old → new.size ≡ old.size → SetsPartly (first_page old.size side) Active old new → Holds old side generation words → IsDrawnPartly side new blank_picture (filled_set old.size generation words)
 commit_partly side old new generation words formed sizes sets holds =
-    let e : first_page old.size side ≡ first_page old.size side + 0 = omega arith in let there = subst (λ n. SetsPartly n Active old new) e sets in
+    let e : first_page old.size side ≡ first_page old.size side + 0 = omega arith in
+    let there = subst (λ n. SetsPartly n Active old new) e sets in
     let before = opened_set old.size generation (page_of_slot old.size (length words - 1)) words in
-    drawn_between side new blank (filled_set old.size generation words) before (with_mark 0 Active before)
+    drawn_between side new blank_picture (filled_set old.size generation words) before (with_mark 0 Active before)
     (λ page at _ _. (opened_way old.size generation words page at, committed_way old.size generation words page at))
     (mark_drawn_partly side old new 0 Active before formed sizes (omega (arith, formed.within_limits.some_pages)) holds there)
 
 -- or in a mark behind that
 pub marked_partly : (side : Side) (mid new : Device) (generation last : ℕ) (words : List Word) → new.size ≡ mid.size → IsDrawn side mid (committed mid.size generation words) → last ≡ page_of_slot mid.size (length words - 1)
-    → IsDrawnPartly side new (picture_of side mid) (marked_to last (picture_of side mid)) → IsDrawnPartly side new blank (filled_set mid.size generation words)
+    → IsDrawnPartly side new (picture_of side mid) (marked_to last (picture_of side mid)) → IsDrawnPartly side new blank_picture (filled_set mid.size generation words)
 marked_partly side mid new generation last words sizes held last_is drawn =
     let whole = filled_set mid.size generation words in
-    drawn_between side new blank whole (picture_of side mid) (marked_to last (picture_of side mid))
+    drawn_between side new blank_picture whole (picture_of side mid) (marked_to last (picture_of side mid))
     (λ page at h within.
     let word = held page at (omega (arith, h, ap (λ (size : Size). size.pages) sizes)) (omega (arith, within, ap (λ (size : Size). size.words) sizes)) in (
       subst (λ (found : Word). IsOnTheWay Erased (whole page at) found) (sym word) (committed_way mid.size generation words page at),
@@ -172,18 +178,18 @@ marked_partly side mid new generation last words sizes held last_is drawn =
     )) drawn
 
 -- the first mark of blank pages
-pub open_partly : (side : Side) (old new : Device) (generation : ℕ) (words : List Word) → IsFormed old → new.size ≡ old.size → IsDrawn side old blank → SetsPartly (first_page old.size side) (Receive generation) old new → FillsPartly new side generation words
+pub open_partly : (side : Side) (old new : Device) (generation : ℕ) (words : List Word) → IsFormed old → new.size ≡ old.size → IsDrawn side old blank_picture → SetsPartly (first_page old.size side) (Receive generation) old new → FillsPartly new side generation words
 open_partly side old new generation words formed sizes all sets =
     let e : first_page old.size side ≡ first_page old.size side + 0 = omega arith in
     let some : 0 < new.size.words - 4 = omega (arith, formed.within_limits.some_words, ap (λ (size : Size). size.words) sizes) in
     let last = page_of_slot new.size (length words - 1) in
-    drawn_between side new blank (opened_set new.size generation last words) blank (with_mark 0 (Receive generation) blank)
+    drawn_between side new blank_picture (opened_set new.size generation last words) blank_picture (with_mark 0 (Receive generation) blank_picture)
     (λ page at _ _. (
       inl refl,
       subst (λ (found : Word). IsOnTheWay Erased (opened_set new.size generation last words page at) found) (sym (first_opened new.size generation page at))
           (opened_front new.size generation (page_of_slot new.size (0 - 1)) last [] words page at (page_later new.size (0 - 1) (length words - 1) some (omega arith))),
     ))
-    (mark_drawn_partly side old new 0 (Receive generation) blank formed sizes (omega (arith, formed.within_limits.some_pages)) all (subst (λ n. SetsPartly n (Receive generation) old new) e sets))
+    (mark_drawn_partly side old new 0 (Receive generation) blank_picture formed sizes (omega (arith, formed.within_limits.some_pages)) all (subst (λ n. SetsPartly n (Receive generation) old new) e sets))
 
 -- ---- a format
 
@@ -204,7 +210,7 @@ format_cut_then start old mid new wear formed mid_formed first_sizes second_size
     let holds = opens_blank First old mid 1 formed first_sizes (All-take (λ (page : List Word). is_blank page ≡ true) old.size.pages old.image all) receives in
     record {
       wear = wear;
-      first_set = subst (λ (size : Size). IsDrawnPartly First new blank (filled_set size 1 [])) (sym second_sizes) (commit_partly First mid new 1 [] mid_formed second_sizes active holds);
+      first_set = subst (λ (size : Size). IsDrawnPartly First new blank_picture (filled_set size 1 [])) (sym second_sizes) (commit_partly First mid new 1 [] mid_formed second_sizes active holds);
       second_set = λ page at h within.
           let below : page < old.size.pages = omega (arith, ap (λ (size : Size). size.pages) second_sizes, ap (λ (size : Size). size.pages) first_sizes) in
           let inside : at < old.size.words = omega (arith, ap (λ (size : Size). size.words) second_sizes, ap (λ (size : Size). size.words) first_sizes) in

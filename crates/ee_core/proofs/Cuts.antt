@@ -16,8 +16,8 @@ use Rattle.ee_pages.proofs.Public.{erased_word}
 use Rattle.ee_pages.specs.Laws.{IsPageOf}
 use Rattle.ee_core.proofs.Drawings.{marked-erased, put_apart, put_drawn, with_mark, with_word-elsewhere, with_word-there}
 use Rattle.ee_core.proofs.Marks.{place_below}
+use Rattle.ee_core.specs.CallSteps.{IsSameBut, PutsWord}
 use Rattle.ee_core.specs.Cuts.{ErasesPartly, IsDrawnPartly, IsPartlyDone, PutsPartly, SetsPartly}
-use Rattle.ee_core.specs.Parts.{IsSameBut, PutsWord}
 use Rattle.ee_core.specs.Picture.{IsDrawn, Picture, marked_word, picture_of, picture_with_word}
 use Rattle.ee_core.specs.State.{WearsTo, not_blank_from}
 
@@ -29,7 +29,8 @@ held_new value word is same = cc (is, same)
 -- a word that is put into a page, whatever else changed
 image_puts : (page at : ℕ) (word : Word) (old new : Device) → IsFormed old → page < page_count old.size → at < old.size.words → new.image ≡ set old.image page (set (page_at old page) at word) → PutsWord page at word old new
 image_puts page at word old new formed h inside is =
-    let in_range : page < length old.image = omega (arith, formed.image_length) in let words = page_at old page in
+    let in_range : page < length old.image = omega (arith, formed.image_length) in
+    let words = page_at old page in
     let within : at < length words = omega (arith, length-page_at old page formed h) in
     record {
       there =
@@ -124,7 +125,8 @@ put_partly side old new k at word picture sizes drawn in_set inside puts page pl
 
 pub mark_drawn_partly : (side : Side) (old new : Device) (k : ℕ) (mark : Mark) (picture : Picture) → IsFormed old → new.size ≡ old.size → k < old.size.pages → IsDrawn side old picture → SetsPartly (first_page old.size side + k) mark old new → IsDrawnPartly side new picture (with_mark k mark picture)
 mark_drawn_partly side old new k mark picture formed sizes h drawn sets =
-    let at = place_of_mark mark in let inside : at < old.size.words = omega (arith, place_below mark, formed.within_limits.some_words) in
+    let at = place_of_mark mark in
+    let inside : at < old.size.words = omega (arith, place_below mark, formed.within_limits.some_words) in
     let word : word_at old (first_page old.size side + k) at ≡ picture k at = drawn k at h inside in
     put_partly side old new k at (marked_word mark (picture k at)) picture sizes drawn h inside
     (subst (λ (was : Word). PutsPartly (first_page old.size side + k) at (marked_word mark was) old new) word sets)

@@ -15,7 +15,7 @@ use Rattle.ee_pages.specs.Sets.{first_page, other}
 use Rattle.ee_pages.specs.declared.side.Side.{Side}
 use Rattle.ee_pages.specs.declared.state.Mark.{Mark}
 use Rattle.ee_pages.specs.declared.state.Mark.TheVariants.{Active, Erasing, Valid}
-use Rattle.ee_core.specs.Parts.{IsSameSet, PutsWord, SetsMark}
+use Rattle.ee_core.specs.CallSteps.{IsSameSet, PutsWord, SetsMark}
 use Rattle.ee_core.specs.Picture.{IsDrawn, Picture, marked_word, marked_to, picture_of, retired_pages, picture_with_word}
 use Rattle.ee_core.proofs.SetPages.{apart, same_page}
 use Rattle.ee_core.proofs.Marks.{place_below}
@@ -96,7 +96,8 @@ marked-erased mark Torn e = absurd (cc e)
 -- a program puts its word
 pub program_puts : (page at value : ℕ) (old : Device) → IsFormed old → page < page_count old.size → at < old.size.words → PutsWord page at (Held value) old (with_word_programmed page at value old)
 program_puts page at value old formed h inside =
-    let in_range : page < length old.image = omega (arith, formed.image_length) in let words = page_at old page in
+    let in_range : page < length old.image = omega (arith, formed.image_length) in
+    let words = page_at old page in
     let within : at < length words = omega (arith, length-page_at old page formed h) in
     record {
       there = ap (λ (found : List Word). get_or found at Erased) (get_or-set_same old.image page (set words at (Held value)) [] in_range) ∙ get_or-set_same words at (Held value) Erased within;
@@ -129,7 +130,8 @@ sets_mark page mark old new formed h present done =
           let same = present written in
           record { there = ap (λ (device : Device). word_at device page at) same ∙ sym (marked-written mark (word_at old page at) written); elsewhere = λ p k away. ap (λ (device : Device). word_at device p k) same }
       | inr erased ↦
-          let puts = program_puts page at (number_of_mark mark) old formed h (omega (arith, place_below mark, formed.within_limits.some_words)) in let whole = done erased in
+          let puts = program_puts page at (number_of_mark mark) old formed h (omega (arith, place_below mark, formed.within_limits.some_words)) in
+          let whole = done erased in
           record { there = ap (λ (device : Device). word_at device page at) whole ∙ puts.there ∙ sym (marked-erased mark (word_at old page at) erased); elsewhere = λ p k away. ap (λ (device : Device). word_at device p k) whole ∙ puts.elsewhere p k away }
     ]
 

@@ -1,4 +1,5 @@
--- What a call did in which power was not cut: one of four things, whatever it was asked and answered.
+-- What a call did in which power was not cut: one of four things, whatever it was
+-- asked and answered.
 use Rattle.std.proofs.Common.{◌≡◌, Bool, true, false, Ok, Err, List, [], ◌∷◌, refl}
 use Rattle.ee_flash.specs.Device.{Device}
 use Rattle.ee_pages.specs.Meaning.{Change, Put, Forget}
@@ -13,8 +14,9 @@ use Rattle.ee_core.specs.declared.variables.ForgetFault.TheVariants as forget
 use Rattle.ee_core.specs.declared.variables.WriteFault.TheVariants as write
 use Rattle.ee_core.specs.declared.variables.Written.TheVariants.{Appended, Moved}
 
--- A property of whether the map moved, and of the changes that were made, holds of the call if it holds where the call left
--- the device as it was, appended a change, moved the map with some, or was a clean step that erased a page.
+-- A property of whether the map moved, and of the changes that were made, holds of the call if it
+-- holds where the call left the device as it was, appended a change, moved the map with some, or
+-- was a clean step that erased a page.
 pub by_effect : (holds : Bool → List Change → Type 0) (call : Call) (old new : Device) → is_cut call ≡ false → Follows call old new
     → (new ≡ old → holds false []) → ((change : Change) → Appends old change new → holds false (change ∷ []))
     → ((changes : List Change) → Moves old changes new → holds true changes) → (call ≡ Cleaned (Ok true) → ErasesOne old new → holds false [])

@@ -11,10 +11,10 @@ use Rattle.ee_pages.specs.declared.side.Side.{Side}
 use Rattle.ee_core.proofs.Making.{pending_was}
 use Rattle.ee_core.proofs.Nothing.{all_forgotten, none_live, none_moved}
 use Rattle.ee_core.proofs.States.{state_is, state_kept, state_moved}
+use Rattle.ee_core.specs.CallSteps.{HasMoved}
 use Rattle.ee_core.specs.Changes.{Moves}
 use Rattle.ee_core.specs.Cuts.{ErasesPartly, MovesPartly}
 use Rattle.ee_core.specs.Emptying.{Empties, IsCutClear, MayClear, ShowsCleared, cleared_state}
-use Rattle.ee_core.specs.Parts.{HasMoved}
 use Rattle.ee_core.specs.Picture.{IsDrawn, filled_set, is_used, moved_words, picture_of, retired_pages}
 use Rattle.ee_core.specs.Puts.{each_forgotten, forgets_from}
 use Rattle.ee_core.specs.State.{State, Wears, next_live, not_blank_in, state_in, state_of, used_pages_in, used_pages_of}

@@ -33,7 +33,8 @@ module _ (pages : List (List Word)) (first k page : ℕ) (old mid new : Device) 
   pub wears_to : is_blank (page_at mid page) ≡ false → Wears (page ∷ []) mid new → WearsTo page (not_blank_from first pages) old new
   wears_to written now =
       let one : named page (page_at mid page) ≡ page ∷ [] = rw written refl in
-      let before = not_blank_from first (take k pages) in let behind = not_blank_from (first + (k + 1)) (drop (k + 1) pages) in
+      let before = not_blank_from first (take k pages) in
+      let behind = not_blank_from (first + (k + 1)) (drop (k + 1) pages) in
       record {
         before = before;
         behind = behind;

@@ -8,7 +8,7 @@ use Rattle.ee_pages.specs.Page.{is_blank}
 use Rattle.ee_pages.specs.Sets.{other}
 use Rattle.ee_pages.specs.declared.side.Side.{Side}
 use Rattle.ee_pages.proofs.Public.{other_set_keeps_side, erase_lowers_pending, step_keeps_other_pages, whole_erase_lowers_pending}
-use Rattle.ee_core.specs.Parts.{IsSameBut, PageErased, PageErasedPartly}
+use Rattle.ee_core.specs.CallSteps.{IsSameBut, PageErased, PageErasedPartly}
 use Rattle.ee_core.proofs.Cuts.{erase_partly}
 use Rattle.ee_core.proofs.SetPages.{page_of_device}
 use Rattle.ee_core.proofs.Wears.{cut_page_wears, page_wears}

@@ -17,7 +17,7 @@ use Rattle.ee_pages.proofs.Public.{keeps_side_same, split_by}
 use Rattle.ee_pages.specs.declared.find.Layout.{Layout}
 use Rattle.ee_core.proofs.Drawings.{drawn_as, drawn_same, mark_drawn, put_drawn, with_mark, with_word-elsewhere, with_word-there}
 use Rattle.ee_core.proofs.OpenedPages.{next_place, same_place}
-use Rattle.ee_core.specs.Parts.{AddsWords, Holds, PutsWord, SetsMark, number_written, opened_set}
+use Rattle.ee_core.specs.CallSteps.{AddsWords, Holds, PutsWord, SetsMark, number_written, opened_set}
 use Rattle.ee_core.specs.Picture.{IsDrawn, picture_with_word}
 use Rattle.ee_core.specs.Transfers.{OpensForSlot, PutsInSlot}
 use Rattle.ee_core.specs.declared.change.Change.{Change}

@@ -13,10 +13,10 @@ use Rattle.ee_pages.specs.Meaning.{Change, Forget, Map, Put, changed_by, map_aft
 use Rattle.ee_pages.specs.LiveOrder.{IsNextLive}
 use Rattle.ee_pages.specs.Sets.{other, set_of, slots_of}
 use Rattle.ee_pages.specs.declared.find.Layout.{Layout}
+use Rattle.ee_core.specs.CallSteps.{AddsWords, map_in, replaced_map}
 use Rattle.ee_core.specs.Cuts.{AddsPartly}
-use Rattle.ee_core.specs.Parts.{AddsWords, map_in, replaced_map}
 use Rattle.ee_core.specs.Picture.{elements_of, elements_to, map_without, moved_words, put_words}
-use Rattle.ee_core.specs.Puts.{AreApart, carried, forgets_of, names, puts_of}
+use Rattle.ee_core.specs.Puts.{AreApart, changes_of_puts, forgets_of, names, puts_of}
 use Rattle.ee_core.specs.Transfers.{Filled, FilledPartly, IsNewlyOpened, IsOpenAt}
 use Rattle.ee_core.specs.declared.change.Put as listed
 use Rattle.ee_core.specs.declared.copying.Place.{Place}
@@ -195,7 +195,7 @@ module _ (old : Device) (layout : Layout) (puts : List listed.Put) where
   pub all_put : (count : ℕ) (now : Device) (slot : ℕ) → length puts ≤ count → FilledBy count now slot → Filled old now layout 0 (put_words (puts_of puts)) (changed_by (puts_of puts) nothing) slot
   all_put count now slot past filled = subst (λ (first : List listed.Put). Filled old now layout 0 (put_words (puts_of first)) (changed_by (puts_of first) nothing) slot) (take_all count puts past) filled
 
--- ---- what a transfer carries: values that are put, or the forgettings of their addresses, which have no words
+-- ---- what a transfer carries: values, or the forgettings of their addresses, which have no words
 
 forgets_words : (puts : List listed.Put) → put_words (forgets_of puts) ≡ []
 forgets_words [] = refl
@@ -217,24 +217,24 @@ forgets_names [] address = refl
 forgets_names (put ∷ puts) address = ap (λ (later : Bool). (put.address == address) || later) (forgets_names puts address)
 
 -- either way the same addresses are not copied
-pub carried_without : (puts : List listed.Put) (forgets : Bool) (map : Map) → map_without (carried puts forgets) map ≡ map_without (puts_of puts) map
+pub carried_without : (puts : List listed.Put) (forgets : Bool) (map : Map) → map_without (changes_of_puts puts forgets) map ≡ map_without (puts_of puts) map
 carried_without puts true said = forgets_without puts said
 carried_without puts false said = refl
 
-pub carried_names : (puts : List listed.Put) (forgets : Bool) (address : ℕ) → names (carried puts forgets) address ≡ names (puts_of puts) address
+pub carried_names : (puts : List listed.Put) (forgets : Bool) (address : ℕ) → names (changes_of_puts puts forgets) address ≡ names (puts_of puts) address
 carried_names puts true address = forgets_names puts address
 carried_names puts false address = refl
 
 module _ (old new : Device) (layout : Layout) (puts : List listed.Put) where
   pub carried_first : (forgets : Bool) (values : List listed.Put) (slot : ℕ) → values ≡ cond forgets [] puts → Filled old new layout 0 (put_words (puts_of values)) (changed_by (puts_of values) nothing) slot
-      → Filled old new layout 0 (put_words (carried puts forgets)) (changed_by (carried puts forgets) nothing) slot
+      → Filled old new layout 0 (put_words (changes_of_puts puts forgets)) (changed_by (changes_of_puts puts forgets) nothing) slot
   carried_first true values slot is filled =
       let none = subst (λ (found : List listed.Put). Filled old new layout 0 (put_words (puts_of found)) (changed_by (puts_of found) nothing) slot) is filled in
       subst (λ (words : List Word). Filled old new layout 0 words (changed_by (forgets_of puts) nothing) slot) (sym (forgets_words puts))
       (subst (λ (said : Map). Filled old new layout 0 [] said slot) (sym (forgets_map puts)) none)
   carried_first false values slot is filled = subst (λ (found : List listed.Put). Filled old new layout 0 (put_words (puts_of found)) (changed_by (puts_of found) nothing) slot) is filled
 
-  pub carried_partly : (forgets : Bool) (values : List listed.Put) → values ≡ cond forgets [] puts → FilledPartly old new layout 0 (put_words (puts_of values)) → FilledPartly old new layout 0 (put_words (carried puts forgets))
+  pub carried_partly : (forgets : Bool) (values : List listed.Put) → values ≡ cond forgets [] puts → FilledPartly old new layout 0 (put_words (puts_of values)) → FilledPartly old new layout 0 (put_words (changes_of_puts puts forgets))
   carried_partly true values is partly =
       let none = subst (λ (found : List listed.Put). FilledPartly old new layout 0 (put_words (puts_of found))) is partly in
       subst (λ (words : List Word). FilledPartly old new layout 0 words) (sym (forgets_words puts)) none
@@ -242,10 +242,10 @@ module _ (old new : Device) (layout : Layout) (puts : List listed.Put) where
 
   -- and so the others are those that the list leaves
   pub others_carried : (forgets : Bool) (slot written : ℕ) (start map : Map) → Filled old new layout slot (elements_of (map_without (puts_of puts) map)) (replaced_map start (names (puts_of puts)) map) written
-      → Filled old new layout slot (elements_of (map_without (carried puts forgets) map)) (replaced_map start (names (carried puts forgets)) map) written
+      → Filled old new layout slot (elements_of (map_without (changes_of_puts puts forgets) map)) (replaced_map start (names (changes_of_puts puts forgets)) map) written
   others_carried forgets slot written start map filled = search (rules, fun_ext, carried_names, carried_without)
 
-  pub others_carried_partly : (forgets : Bool) (slot : ℕ) (map : Map) → FilledPartly old new layout slot (elements_of (map_without (puts_of puts) map)) → FilledPartly old new layout slot (elements_of (map_without (carried puts forgets) map))
+  pub others_carried_partly : (forgets : Bool) (slot : ℕ) (map : Map) → FilledPartly old new layout slot (elements_of (map_without (puts_of puts) map)) → FilledPartly old new layout slot (elements_of (map_without (changes_of_puts puts forgets) map))
   others_carried_partly forgets slot map partly = subst (λ (left : Map). FilledPartly old new layout slot (elements_of left)) (sym (carried_without puts forgets map)) partly
 
 -- the changes come first, and then the other addresses
@@ -290,7 +290,7 @@ pub first_partly : (changes : List Change) (old new : Device) (layout : Layout) 
 first_partly changes old new layout map partly = partly_filled old new layout 0 (put_words changes) (elements_of (others map changes)) partly
 
 -- the values that are put find room
-pub puts_fit : (puts : List listed.Put) (forgets : Bool) (values : List listed.Put) (map : Map) (capacity : ℕ) → values ≡ cond forgets [] puts → AreApart (carried puts forgets) → live_in (changed_by (carried puts forgets) map) ≤ capacity → length values ≤ capacity
+pub puts_fit : (puts : List listed.Put) (forgets : Bool) (values : List listed.Put) (map : Map) (capacity : ℕ) → values ≡ cond forgets [] puts → AreApart (changes_of_puts puts forgets) → live_in (changed_by (changes_of_puts puts forgets) map) ≤ capacity → length values ≤ capacity
 puts_fit puts true values map capacity is apart fits = omega (arith, ap length is)
 puts_fit puts false values map capacity is apart fits =
     omega (arith, ap length is, moved_words_are_live_lem (puts_of puts) map apart, length-append (put_words (puts_of puts)) (elements_of (map_without (puts_of puts) map)), length-put_words puts)

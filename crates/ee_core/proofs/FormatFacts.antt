@@ -16,7 +16,7 @@ use Rattle.ee_core.proofs.AfterCalls.{goes_on_same}
 use Rattle.ee_core.proofs.ErasedPages.{blank_wears, written_wears}
 use Rattle.ee_core.proofs.NotBlank.{named}
 use Rattle.ee_core.proofs.Wears.{page_wears}
-use Rattle.ee_core.specs.Parts.{IsSameBut}
+use Rattle.ee_core.specs.CallSteps.{IsSameBut}
 use Rattle.ee_core.specs.State.{Wears}
 
 -- a page is blank now, and the others are as they were
@@ -34,7 +34,8 @@ erase_goes_on page old new on done = rw done (record { same_size = refl; same_po
 
 pub blanks_page : (page : ℕ) (mid new : Device) → IsFormed mid → page < page_count mid.size → is_blank (page_at mid page) ≡ false → IsOn mid → new ≡ with_page_erased page mid → BlanksPage mid new page
 blanks_page page mid new formed h written on done =
-    let words = replicate mid.size.words Erased in let in_range : page < length mid.image = omega (arith, formed.image_length) in
+    let words = replicate mid.size.words Erased in
+    let in_range : page < length mid.image = omega (arith, formed.image_length) in
     let there : page_at new page ≡ words =
     ap (λ (device : Device). page_at device page) done ∙ get_or-set_same mid.image page words [] in_range in
     record {

@@ -12,8 +12,8 @@ use Rattle.ee_pages.specs.declared.side.Side.{Side}
 use Rattle.ee_pages.specs.declared.state.Mark.{Mark}
 use Rattle.ee_pages.specs.declared.state.Mark.TheVariants.{Active, Erasing, Valid}
 use Rattle.ee_pages.proofs.Public.{length-slots, page_in_range, slot_below}
+use Rattle.ee_core.specs.CallSteps.{IsReady, IsSameBut, IsSameSet, KeepsMarks}
 use Rattle.ee_core.specs.Finished.{IsLiveMarked, IsMarked, IsOldMarked, last_used}
-use Rattle.ee_core.specs.Parts.{IsReady, IsSameBut, IsSameSet, KeepsMarks}
 use Rattle.ee_core.proofs.SetPages.{same_page}
 
 pub fill_fits : (side : Side) (device : Device) → IsFormed device → fill_of (slots_of (set_of side device)) ≤ slot_count device.size
@@ -50,7 +50,8 @@ module _ (side : Side) (old new : Device) (formed : IsFormed old) (sizes : new.s
 
   pub old_marks_stay : IsSameSet side old new → IsOldMarked old side → IsOldMarked new side
   old_marks_stay same was page h =
-      let within : page < old.size.pages = omega (arith, pages_are) in let there = same_page side old new page sizes same within in
+      let within : page < old.size.pages = omega (arith, pages_are) in
+      let there = same_page side old new page sizes same within in
       elim (was page within) [
         | inl blank ↦ inl (ap is_blank there ∙ blank)
         | inr marked ↦ inr (marked_so old new (first_page old.size side + page) (first_page new.size side + page) Erasing there marked)

@@ -1,4 +1,5 @@
--- Lists of values that are put: an address that is listed twice, and lists in which each is listed once.
+-- Lists of values that are put: an address that is listed twice, and lists in which
+-- each is listed once.
 use Rattle.std.proofs.Common.{◌≡◌, ℕ, ◌≤◌, false, Bool, Option, Some, None, List, [], ◌∷◌, length, take, refl, ap, ◌∙◌, suc}
 use Rattle.std.specs.Prelude.{◌==◌, ◌||◌, slice_get}
 use Rattle.std.specs.List.{All}

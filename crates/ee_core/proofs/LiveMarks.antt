@@ -20,8 +20,8 @@ use Rattle.ee_pages.proofs.Public.{page_in_range, slot_below}
 use Rattle.ee_core.proofs.SetPages.{first_below}
 use Rattle.ee_core.proofs.AfterCalls.{goes_on_same}
 use Rattle.ee_core.proofs.Marks.{same_stays}
+use Rattle.ee_core.specs.CallSteps.{IsSameBut, KeepsMarks, SetsMark, Stays}
 use Rattle.ee_core.specs.Finished.{IsLiveMarked, IsOldMarked, last_used}
-use Rattle.ee_core.specs.Parts.{IsSameBut, KeepsMarks, SetsMark, Stays}
 use Rattle.ee_core.proofs.KeptMarks.{fill_fits}
 
 -- after what keeps the live set, the layout is still right
@@ -46,7 +46,8 @@ current_below layout device is = omega (arith, last_is layout device is, last_in
 -- a page up to that one stands behind written slots
 mark_behind : (layout : Layout) (device : Device) (page : ℕ) (mark : Mark) → IsLayout device layout → page ≤ last_used device layout.side → (mark ≡ Active) ⊎ (mark ≡ Valid) → IsMarkBehind device layout.side page mark
 mark_behind layout device page mark is h kind =
-    let fill = fill_of (slots_of (set_of layout.side device)) in let row = device.size.words - 4 in
+    let fill = fill_of (slots_of (set_of layout.side device)) in
+    let row = device.size.words - 4 in
     record { in_range = omega (arith, h, last_in_range layout device is); behind = omega (arith, mul-le-mul_right row h, div-mul-le_self (fill - 1) row); active_or_valid = kind }
 
 pub valid_behind : (layout : Layout) (device : Device) (page : ℕ) → IsLayout device layout → first_page device.size layout.side ≤ page → page < layout.current → IsMarkBehind device layout.side (page - first_page device.size layout.side) Valid
@@ -104,7 +105,8 @@ IsPageDone device page = (is_blank (page_at device page) ≡ true) ⊎ (is_marke
 pub done_more : (first page : ℕ) (mid new : Device) → first ≤ page → ((k : ℕ) → k < page - first → IsPageDone mid (first + k)) → IsSameBut page mid new → IsPageDone new page → (k : ℕ) → k < page + 1 - first → IsPageDone new (first + k)
 done_more first page mid new from before same here k h = elim (cases_lt k (page - first)) [
   | inl earlier ↦
-      let apart : first + k ≢ page = λ e. omega (arith, e, from, earlier) in let words = same (first + k) apart in
+      let apart : first + k ≢ page = λ e. omega (arith, e, from, earlier) in
+      let words = same (first + k) apart in
       elim (before k earlier) [
         | inl blank ↦ inl (ap is_blank words ∙ blank)
         | inr marked ↦ inr (ap (λ page. is_written (slice_index_or page 3 Erased)) words ∙ marked)

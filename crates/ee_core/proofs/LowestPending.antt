@@ -10,8 +10,8 @@ use Rattle.ee_pages.specs.Sets.{first_page, live_of, other}
 use Rattle.ee_pages.specs.declared.side.Side.{Side}
 use Rattle.ee_pages.specs.declared.side.Side.TheVariants.{First}
 use Rattle.ee_core.proofs.PendingPages.{lowest_blank}
+use Rattle.ee_core.specs.CallSteps.{IsSameBut}
 use Rattle.ee_core.specs.Calls.{ErasesLowest, IsLowestPending, KeepsAllButLowest}
-use Rattle.ee_core.specs.Parts.{IsSameBut}
 use Rattle.ee_core.specs.State.{Wears, pending_pages}
 
 abbrev side_in : Option (Side × ℕ) → Side

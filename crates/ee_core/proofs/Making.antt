@@ -33,8 +33,10 @@ use Rattle.ee_core.specs.declared.change.Change as declared
 use Rattle.ee_core.specs.declared.change.Change.TheVariants as kinds
 use Rattle.ee_core.proofs.Drawings.{drawn_as, same_drawn}
 use Rattle.ee_core.proofs.MovedSets.{used_where_full}
+use Rattle.ee_core.specs.Known.{Knows}
+use Rattle.ee_core.specs.declared.known.Known.{Known}
+use Rattle.ee_core.specs.CallSteps.{ForgetsHeld, HasMoved, IsSameSet, map_change, number_written}
 use Rattle.ee_core.specs.Finished.{IsMarked, IsStore}
-use Rattle.ee_core.specs.Parts.{ForgetsHeld, HasMoved, IsSameSet, meant, number_written}
 use Rattle.ee_core.specs.State.{State, Wears, appended_state, capacity, moved_state, next_live, not_blank_in, pending_pages, pending_pages_in, torn_state, state_of, used_pages_in}
 use Rattle.ee_core.proofs.States.{same_states, state_is, state_kept, state_moved}
 use Rattle.ee_core.proofs.MovingFacts.{layout_kept}
@@ -173,7 +175,7 @@ module _ (old new : Device) (side : Side) (generation : ℕ) (live : IsLive old 
     cut_in_move (first ∷ second ∷ more) proceeds needed left shows = record { proceeds = proceeds; cut = cut; state_is = cut_move (first ∷ second ∷ more) needed few left; words = (side, generation, live.live, shows) }
 
 -- the word of a change of a map, with the value that it forgets
-pub number_is : (change : declared.Change) (map : Map) → ForgetsHeld map change → number_written change ≡ number_of_change map (meant change)
+pub number_is : (change : declared.Change) (map : Map) → ForgetsHeld map change → number_written change ≡ number_of_change map (map_change change)
 number_is (kinds.Put address value) map held = refl
 number_is (kinds.Forget address value) map held = rw held refl
 
@@ -283,9 +285,19 @@ few_within device side formed =
     let most = filter_few is_written (slots_of (set_of side device)) in
     omega (arith, most, length-slots side device formed)
 
--- a clean step leaves a store
-pub clean_store : {T E : Type 0} (result : Result T E) (old new : Device) (layout : Layout) → IsOn old → IsStore old → IsLayout old layout → KeepsLiveSet old new layout.side layout.generation → (IsMarked old layout.side → OnOk result (IsMarked new layout.side)) → Ends result old new → IsStore new × (IsOn new → IsLayout new layout)
-clean_store (Ok value) old new layout on store found keeps marked ends =
-    (marked_store new layout.side layout.generation keeps.live (marked (store_marked old layout.side layout.generation store on found.live)), λ _. layout_kept old new layout found keeps)
-clean_store (Err error) old new layout on store found keeps marked ends =
-    (off_store new layout.side layout.generation keeps.live (ends.cut on).is_off, λ _. layout_kept old new layout found keeps)
+-- what is known of a store is known behind a clean step
+module _ {L : Type 0} (finds : L → List Word → Type 0) (known : Known L) (old new : Device) where
+  clean_keeps : IsStore new → KeepsLiveSet old new known.layout.side known.layout.generation → IsOn old → Knows finds old known → Knows finds new known
+  clean_keeps store keeps on knows = record {
+    store = store;
+    layout = λ _. layout_kept old new known.layout (knows.layout on) keeps;
+    fits = λ _. subst (finds known.lookup) (sym keeps.same_slots) (knows.fits on);
+  }
+
+  pub clean_known : {T E : Type 0} (result : Result T E) → IsOn old → Knows finds old known → KeepsLiveSet old new known.layout.side known.layout.generation
+      → (IsMarked old known.layout.side → OnOk result (IsMarked new known.layout.side)) → Ends result old new → Knows finds new known
+  clean_known (Ok value) on knows keeps marked ends =
+      let was = store_marked old known.layout.side known.layout.generation knows.store on (knows.layout on).live in
+      clean_keeps (marked_store new known.layout.side known.layout.generation keeps.live (marked was)) keeps on knows
+  clean_known (Err error) on knows keeps marked ends =
+      clean_keeps (off_store new known.layout.side known.layout.generation keeps.live (ends.cut on).is_off) keeps on knows

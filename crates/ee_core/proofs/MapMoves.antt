@@ -12,11 +12,11 @@ use Rattle.ee_pages.specs.Sets.{fill_of, other, page_of_slot, pending_of, set_of
 use Rattle.ee_pages.specs.declared.find.Layout.{Layout}
 use Rattle.ee_pages.specs.declared.side.Side.{Side}
 use Rattle.ee_pages.proofs.Public.{keeps_side_both, other_twice}
+use Rattle.ee_core.specs.CallSteps.{HasMoved, Holds, IsSameSet, Stays, map_in}
 use Rattle.ee_core.specs.Cuts.{AddsPartly, IsDrawnPartly, MovesMapPartly, MovesPartly}
 use Rattle.ee_core.specs.Finished.{IsMarked, last_used}
 use Rattle.ee_core.specs.Openings.{ShowsCutMarks, ShowsMarks}
-use Rattle.ee_core.specs.Parts.{HasMoved, Holds, IsSameSet, Stays, map_in}
-use Rattle.ee_core.specs.Picture.{IsDrawn, blank, filled_set, is_used, moved_words, picture_of, retired_pages}
+use Rattle.ee_core.specs.Picture.{IsDrawn, blank_picture, filled_set, is_used, moved_words, picture_of, retired_pages}
 use Rattle.ee_core.specs.Puts.{each_forgotten}
 use Rattle.ee_core.specs.State.{Wears, not_blank_in}
 use Rattle.ee_core.specs.Transfers.{Filled, FilledPartly, IsNewlyOpened, MapMoved, MapMovedPartly, OtherCleared, OtherCommitted, OtherCommittedPartly, OtherOpened, OtherOpenedPartly, SetMoved}
@@ -61,7 +61,7 @@ module _ (old cleared new : Device) (layout : Layout) (clears : OtherCleared old
       record {
         left = λ _. inr (record {
           wear = wears_still _ old cleared new clears.wear cut.wear;
-          new_pages = subst (λ (size : Size). IsDrawnPartly (other layout.side) new blank (filled_set size (layout.generation + 1) words)) keeps.same_size
+          new_pages = subst (λ (size : Size). IsDrawnPartly (other layout.side) new blank_picture (filled_set size (layout.generation + 1) words)) keeps.same_size
               (filled_partly (other layout.side) new (layout.generation + 1) words (cut.begun words));
           live_pages = same_drawn layout.side old new keeps.same_size keeps.same_set;
         });
@@ -107,7 +107,7 @@ module _ (old opened : Device) (layout : Layout) (opens : IsOpened old opened la
         record {
           left = λ _. inr (record {
             wear = wears_still _ old opened new opens.wear cut.wear;
-            new_pages = subst (λ (size : Size). IsDrawnPartly (other layout.side) new blank (filled_set size (layout.generation + 1) words)) keeps.same_size
+            new_pages = subst (λ (size : Size). IsDrawnPartly (other layout.side) new blank_picture (filled_set size (layout.generation + 1) words)) keeps.same_size
                 (filled_partly (other layout.side) new (layout.generation + 1) words (adds.new_pages [] refl opens.holds));
             live_pages = same_drawn layout.side old new keeps.same_size keeps.same_set;
           });
@@ -138,7 +138,7 @@ module _ (old filled new : Device) (layout : Layout) (changes : List Change) (wo
   commit_cut cut = record {
     left = λ _. inr (record {
       wear = wears_still _ old filled new fills.wear cut.wear;
-      new_pages = subst (λ (size : Size). IsDrawnPartly (other layout.side) new blank (filled_set size (layout.generation + 1) words)) fills.keeps.same_size (cut.begun words fills.holds);
+      new_pages = subst (λ (size : Size). IsDrawnPartly (other layout.side) new blank_picture (filled_set size (layout.generation + 1) words)) fills.keeps.same_size (cut.begun words fills.holds);
       live_pages = same_drawn layout.side old new (cut.same_size ∙ fills.keeps.same_size) (cut.same_set ∙ fills.keeps.same_set);
     });
     cut = elim cut.cut [
@@ -194,7 +194,7 @@ module _ (old mid new : Device) (layout : Layout) (side : Side) (changes : List 
       record {
         left = λ _. inr (record {
           wear = wears_still _ old mid new moves.wear stays.same_wear;
-          new_pages = subst (λ (size : Size). IsDrawnPartly (other layout.side) new blank (filled_set size (layout.generation + 1) words)) moves.moved.same_size
+          new_pages = subst (λ (size : Size). IsDrawnPartly (other layout.side) new blank_picture (filled_set size (layout.generation + 1) words)) moves.moved.same_size
               (marked_partly (other layout.side) mid new (layout.generation + 1) (last_used mid (other layout.side)) words stays_there.keeps.same_size moves.new_pages (ap (λ n. page_of_slot mid.size (n - 1)) fill) shown.live_pages);
           old_pages = retires_partly layout.side old mid new formed moves.moved.live.formed moves.moved.same_size stays_there.keeps.same_size moves.live_pages
               (subst (λ (set : Side). IsDrawnPartly set new (picture_of set mid) (retired_pages (is_used set mid) (picture_of set mid))) (other_twice layout.side) shown.old_pages);

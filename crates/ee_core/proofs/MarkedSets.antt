@@ -14,7 +14,7 @@ use Rattle.ee_pages.proofs.Public.{other_twice}
 use Rattle.ee_core.proofs.Drawings.{active_last, drawn_as, drawn_same, mark_drawn, put_drawn, retired_all, retired_more, retired_none, retired_past, same_drawn, valid_drawn, valid_more, valid_none, valid_to, with_mark}
 use Rattle.ee_core.proofs.LiveMarks.{MarksPage}
 use Rattle.ee_core.proofs.SetPages.{same_other, same_page}
-use Rattle.ee_core.specs.Parts.{IsSameBut, IsSameSet, PutsWord, SetsMark}
+use Rattle.ee_core.specs.CallSteps.{IsSameBut, IsSameSet, PutsWord, SetsMark}
 use Rattle.ee_core.specs.Picture.{IsDrawn, Picture, is_used, marked_to, picture_of, retired_pages, with_change}
 
 module _ (side : Side) (old : Device) (first : ℕ) (first_is : first ≡ first_page old.size side) where
@@ -28,7 +28,9 @@ module _ (side : Side) (old : Device) (first : ℕ) (first_is : first ≡ first_
   -- one page more is marked valid
   pub valid_next : (mid new : Device) (page : ℕ) → IsFormed mid → mid.size ≡ old.size → new.size ≡ mid.size → first ≤ page → page - first < mid.size.pages → SetsMark page Valid mid new → IsDrawn side mid (valid_to (page - first) (picture_of side old)) → IsDrawn side new (valid_to (page + 1 - first) (picture_of side old))
   valid_next mid new page formed first_sizes second_sizes from h sets drawn =
-      let k = page - first in let more : k + 1 ≡ page + 1 - first = omega (arith, from) in let picture = picture_of side old in
+      let k = page - first in
+      let more : k + 1 ≡ page + 1 - first = omega (arith, from) in
+      let picture = picture_of side old in
       let there = subst (λ n. SetsMark n Valid mid new) (place mid page first_sizes from) sets in
       subst (λ n. IsDrawn side new (valid_to n picture)) more
       (drawn_as side new (with_mark k Valid (valid_to k picture)) (valid_to (k + 1) picture) (mark_drawn side mid new k Valid (valid_to k picture) formed second_sizes h drawn there) (λ p at _ _. valid_more k picture p at))
@@ -36,14 +38,16 @@ module _ (side : Side) (old : Device) (first : ℕ) (first_is : first ≡ first_
   -- and the last one active
   pub active_then : (mid new : Device) (page last : ℕ) → IsFormed mid → mid.size ≡ old.size → new.size ≡ mid.size → page ≡ first + last → last < mid.size.pages → SetsMark page Active mid new → IsDrawn side mid (valid_to last (picture_of side old)) → IsDrawn side new (marked_to last (picture_of side old))
   active_then mid new page last formed first_sizes second_sizes is h sets drawn =
-      let picture = picture_of side old in let e : page ≡ first_page mid.size side + last = omega (arith, is, first_is, ap (λ (size : Size). first_page size side) first_sizes) in
+      let picture = picture_of side old in
+      let e : page ≡ first_page mid.size side + last = omega (arith, is, first_is, ap (λ (size : Size). first_page size side) first_sizes) in
       let there = subst (λ n. SetsMark n Active mid new) e sets in
       drawn_as side new (with_mark last Active (valid_to last picture)) (marked_to last picture) (mark_drawn side mid new last Active (valid_to last picture) formed second_sizes h drawn there) (λ p at _ _. active_last last picture p at)
 
   -- the other set is as before
   pub other_stays : (mid new : Device) (page : ℕ) → IsFormed mid → IsFormed new → mid.size ≡ old.size → new.size ≡ mid.size → first ≤ page → page - first < mid.size.pages → IsSameBut page mid new → IsSameSet (other side) old mid → IsSameSet (other side) old new
   other_stays mid new page formed new_formed first_sizes second_sizes from h others same =
-      let is = place mid page first_sizes from in let there : IsPageOf mid.size side page = record { from = omega (arith, is); below = omega (arith, is, h) } in
+      let is = place mid page first_sizes from in
+      let there : IsPageOf mid.size side page = record { from = omega (arith, is); below = omega (arith, is, h) } in
       same_other side mid new page formed new_formed second_sizes there others ∙ same
 
 -- the pages of the other set before this one are marked
@@ -57,7 +61,8 @@ module _ (side : Side) (old : Device) (first : ℕ) (first_is : first ≡ first_
   pub retired_next : (live : Side) (generation : ℕ) (mid new : Device) (page : ℕ) → IsFormed mid → mid.size ≡ old.size → first ≤ page → page - first < mid.size.pages → page_at mid page ≡ page_at old page → MarksPage mid new live generation page → IsDrawn side mid (retired_to side old (page - first)) → IsDrawn side new (retired_to side old (page + 1 - first))
   retired_next live generation mid new page formed sizes from h same step drawn =
       let is : page ≡ first_page mid.size side + (page - first) = omega (arith, first_is, ap (λ (size : Size). first_page size side) sizes) in
-      let here : first_page old.size side + (page - first) ≡ page = omega (arith, first_is) in let more : page - first + 1 ≡ page + 1 - first = omega (arith, from) in
+      let here : first_page old.size side + (page - first) ≡ page = omega (arith, first_is) in
+      let more : page - first + 1 ≡ page + 1 - first = omega (arith, from) in
       let as_now : is_used side old (page - first) ≡ not (is_blank (page_at mid page)) = ap (λ n. not (is_blank (page_at old n))) here ∙ ap (λ words. not (is_blank words)) (sym same) in
       subst (λ n. IsDrawn side new (retired_to side old n)) more (elim (cases_Bool (is_blank (page_at mid page))) [
         | inl blank ↦

@@ -22,7 +22,7 @@ use Rattle.ee_pages.specs.declared.state.Mark.{Mark}
 use Rattle.ee_pages.specs.declared.state.Mark.TheVariants.{Receive, Active, Valid, Erasing}
 use Rattle.ee_pages.proofs.Public.{other_set_keeps_live, program_leaves_written, step_keeps_other_pages, mark_keeps_live, erased_word, first_below}
 use Rattle.ee_core.proofs.PendingPages.{same_not_blank}
-use Rattle.ee_core.specs.Parts.{KeepsMarks, Stays}
+use Rattle.ee_core.specs.CallSteps.{KeepsMarks, Stays}
 use Rattle.ee_core.specs.State.{not_blank_from}
 
 -- a written word stays one where a word of the pages gets written
@@ -44,7 +44,8 @@ written_stays image page at word p k h within written was =
 -- no outcome of a program makes a written word erased
 pub program_keeps_marks : (page at value : ℕ) (old new : Device) → IsStep (Program page at value) old new → KeepsMarks old new
 program_keeps_marks page at value old new taken p mark was =
-    let k = place_of_mark mark in let in_range : page < length old.image = omega (arith, taken.formed.image_length, taken.may.0) in
+    let k = place_of_mark mark in
+    let in_range : page < length old.image = omega (arith, taken.formed.image_length, taken.may.0) in
     let long = All-get_or (λ words. length words ≡ old.size.words) old.image page [] in_range taken.formed.page_lengths in
     let within : at < length (page_at old page) = omega (arith, long, taken.may.1) in
     elim (step_leaves_pages (Program page at value) old new taken) [
@@ -105,7 +106,8 @@ same_stays old new side generation live same = search rules
 pub live_mark_stays : (page : ℕ) (mark : Mark) (old new : Device) (side : Side) (generation : ℕ) → IsLive old side generation → first_page old.size side ≤ page → IsMarkBehind old side (page - first_page old.size side) mark → (new ≡ old) ⊎ IsStep (marking page mark) old new → Stays old new side generation
 live_mark_stays page mark old new side generation live from behind (inl same) = same_stays old new side generation live same
 live_mark_stays page mark old new side generation live from behind (inr taken) =
-    let place : page ≡ first_page old.size side + (page - first_page old.size side) = omega (arith, from) in let step = subst (λ n. IsStep (marking n mark) old new) place taken in
+    let place : page ≡ first_page old.size side + (page - first_page old.size side) = omega (arith, from) in
+    let step = subst (λ n. IsStep (marking n mark) old new) place taken in
     let kept = mark_keeps_live (page - first_page old.size side) mark old new side generation live behind step in
     record {
       keeps = kept.0;

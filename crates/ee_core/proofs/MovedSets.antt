@@ -24,27 +24,28 @@ use Rattle.ee_pages.specs.declared.state.Mark.TheVariants.{Active, Receive}
 use Rattle.ee_pages.proofs.Public.{fill-front, get_or-slots_of, length-set_of, pages-set_of, blank_word}
 use Rattle.ee_core.proofs.Drawings.{drawn_as, drawn_both, mark_drawn, marked-written, put_apart, with_mark, with_word-elsewhere, with_word-there}
 use Rattle.ee_core.proofs.SetPages.{page_in_device, page_of_set}
+use Rattle.ee_core.specs.CallSteps.{Holds, IsCommittedWith, SetsMark, opened_set}
 use Rattle.ee_core.specs.Finished.{last_used}
-use Rattle.ee_core.specs.Parts.{Holds, IsCommittedWith, SetsMark, opened_set}
-use Rattle.ee_core.specs.Picture.{IsDrawn, Picture, blank, filled_set, is_used, mark_where, marked_to, picture_of, retired_pages}
+use Rattle.ee_core.specs.Picture.{IsDrawn, Picture, blank_picture, filled_set, is_used, mark_where, marked_to, picture_of, retired_pages}
 
 -- blank pages
-pub blank_drawn : (side : Side) (device : Device) → IsFormed device → All (λ page. is_blank page ≡ true) (set_of side device) → IsDrawn side device blank
+pub blank_drawn : (side : Side) (device : Device) → IsFormed device → All (λ page. is_blank page ≡ true) (set_of side device) → IsDrawn side device blank_picture
 blank_drawn side device formed all page at h within = search (rules, length-set_of, page_of_set, blank_word, All-get_or)
 
-pub first_opened : (size : Size) (generation page at : ℕ) → with_mark 0 (Receive generation) blank page at ≡ opened_set size generation (page_of_slot size (0 - 1)) [] page at
+pub first_opened : (size : Size) (generation page at : ℕ) → with_mark 0 (Receive generation) blank_picture page at ≡ opened_set size generation (page_of_slot size (0 - 1)) [] page at
 first_opened size generation page at = elim (cases_eq at 0) [
   | inr away ↦
-      with_word-elsewhere 0 0 _ blank page at (inr away)
+      with_word-elsewhere 0 0 _ blank_picture page at (inr away)
       ∙ elim (cases_lt 3 at) [
         | inl slot ↦ rw (lt-ltb 3 at slot) (sym (get_or_past [] (slots_before size page at) Erased (omega arith)))
         | inr low ↦ rw (le-ltb 3 at low, ne_eqb at 0 away) refl
       ]
   | inl zeroth ↦ elim (cases_eq page 0) [
-    | inl here ↦ with_word-there 0 0 _ blank page at here zeroth ∙ rw (zeroth, here, le-leb 0 (page_of_slot size (0 - 1)) (omega arith)) refl
+    | inl here ↦ with_word-there 0 0 _ blank_picture page at here zeroth ∙ rw (zeroth, here, le-leb 0 (page_of_slot size (0 - 1)) (omega arith)) refl
     | inr away ↦
-        let last : page_of_slot size (0 - 1) ≡ 0 = zero-div (size.words - 4) in let beyond : page_of_slot size (0 - 1) < page = omega (arith, last) in
-        with_word-elsewhere 0 0 _ blank page at (inl away) ∙ rw (zeroth, lt-leb page (page_of_slot size (0 - 1)) beyond) refl
+        let last : page_of_slot size (0 - 1) ≡ 0 = zero-div (size.words - 4) in
+        let beyond : page_of_slot size (0 - 1) < page = omega (arith, last) in
+        with_word-elsewhere 0 0 _ blank_picture page at (inl away) ∙ rw (zeroth, lt-leb page (page_of_slot size (0 - 1)) beyond) refl
   ]
 ]
 
@@ -90,7 +91,9 @@ filled_up side mid new generation words sizes held fill drawn page at h within =
 -- where every slot is written, the first of each page is
 full_written : (side : Side) (device : Device) (generation page : ℕ) → IsLive device side generation → fill_of (slots_of (set_of side device)) ≡ slot_count device.size → page < device.size.pages → is_written (picture_of side device page 4) ≡ true
 full_written side device generation page live full h =
-    let pages = set_of side device in let words = device.size.words in let before = fill-front side device generation live.formed live.allowed in
+    let pages = set_of side device in
+    let words = device.size.words in
+    let before = fill-front side device generation live.formed live.allowed in
     let written : front (slots_of pages) ≡ device.size.pages * (words - 4) = omega (arith, before, full) in
     let some : 0 < words - 4 = omega (arith, live.formed.within_limits.some_words) in
     let row : page * (words - 4) + (words - 4) ≤ device.size.pages * (words - 4) = row_fits page (words - 4) device.size.pages (words - 4) h (omega arith) in
@@ -115,7 +118,8 @@ used_where_full side device generation page live full h =
 same_page_drawn : (side : Side) (old new : Device) (page : ℕ) → IsFormed old → IsFormed new → new.size ≡ old.size → IsDrawn side new (picture_of side old) → page < new.size.pages
     → page_at new (first_page new.size side + page) ≡ page_at old (first_page old.size side + page)
 same_page_drawn side old new page old_formed formed sizes drawn h =
-    let widths = ap (λ (size : Size). size.words) sizes in let before : page < old.size.pages = omega (arith, ap (λ (size : Size). size.pages) sizes) in
+    let widths = ap (λ (size : Size). size.words) sizes in
+    let before : page < old.size.pages = omega (arith, ap (λ (size : Size). size.pages) sizes) in
     let long = length-page_at new (first_page new.size side + page) formed (page_in_device new.size side page h) in
     let long_before = length-page_at old (first_page old.size side + page) old_formed (page_in_device old.size side page before) in
     ext_get_or Erased (page_at new (first_page new.size side + page)) (page_at old (first_page old.size side + page)) (omega (arith, long, long_before, widths)) (λ at within.
@@ -163,7 +167,7 @@ module _ (old mid new : Device) (formed : IsFormed old) (mid_formed : IsFormed m
   in_first : (device : Device) → IsFormed device → IsPageOf device.size First 0
   in_first device is_formed = record { from = omega arith; below = omega (arith, is_formed.within_limits.some_pages) }
 
-  pub formats_second : IsDrawn Second new blank
+  pub formats_second : IsDrawn Second new blank_picture
   formats_second page at h within =
       let below : page < old.size.pages = omega (arith, ap (λ (size : Size). size.pages) second_sizes, ap (λ (size : Size). size.pages) first_sizes) in
       let inside : at < old.size.words = omega (arith, ap (λ (size : Size). size.words) second_sizes, ap (λ (size : Size). size.words) first_sizes) in

@@ -15,7 +15,7 @@ use Rattle.ee_pages.specs.Sets.{first_page, other, page_of_slot, set_of, slots_o
 use Rattle.ee_pages.specs.declared.find.Layout.{Layout}
 use Rattle.ee_pages.specs.declared.side.Side.{Side}
 use Rattle.ee_pages.proofs.Public.{kept_side_is_live, length-set_of, other_twice}
-use Rattle.ee_core.specs.Parts.{HasMoved, Stays}
+use Rattle.ee_core.specs.CallSteps.{HasMoved, Stays}
 use Rattle.ee_core.proofs.PendingPages.{as_many_not_blank}
 use Rattle.ee_core.proofs.SetPages.{page_of_set}
 

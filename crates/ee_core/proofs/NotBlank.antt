@@ -100,5 +100,6 @@ first_blank (page ∷ pages) number zero words h lower written blank =
     let e : number ≡ number + 0 = omega arith in
     rw (written, blank) (ap (λ n. n ∷ not_blank_from (number + 1) pages) e)
 first_blank (page ∷ pages) number (suc k) words h lower written blank =
-    let here : is_blank page ≡ true = lower zero (omega arith) in let e : number + 1 + k ≡ number + suc k = omega arith in
+    let here : is_blank page ≡ true = lower zero (omega arith) in
+    let e : number + 1 + k ≡ number + suc k = omega arith in
     rw here (first_blank pages (number + 1) k words (omega (arith, h)) (λ j below. lower (suc j) (omega (arith, below))) written blank ∙ ap (λ n. n ∷ not_blank_from (number + 1) (set pages k words)) e)

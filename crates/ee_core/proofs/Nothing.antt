@@ -1,4 +1,5 @@
--- A map of which every address is forgotten: nothing has a value in it, and no word is copied of it.
+-- A map of which every address is forgotten: nothing has a value in it, and no word is copied of
+-- it.
 use Rattle.std.proofs.Common.{◌≡◌, inl, inr, ℕ, ◌+◌, ◌<◌, ◌≤◌, Bool, true, false, cond, Option, None, List, [], ◌∷◌, refl, ap, ◌∙◌, arith, subst, length, suc, zero, nat_lt}
 use Rattle.std.specs.Prelude.{◌&&◌, ◌==◌, ◌/◌, ◌%◌, ◌^◌, Some, slice_index_or}
 use Rattle.std.specs.List.{Contains}

@@ -13,8 +13,8 @@ use Rattle.ee_pages.specs.Sets.{first_page, other, page_of_slot, place_of_slot}
 use Rattle.ee_pages.specs.declared.find.Layout.{Layout}
 use Rattle.ee_pages.specs.declared.state.Mark.TheVariants.{Active, Valid}
 use Rattle.ee_pages.proofs.Public.{page_in_range, slot_below}
+use Rattle.ee_core.specs.CallSteps.{IsReady, IsSameBut, IsSameSet, KeepsMarks, Stays}
 use Rattle.ee_core.specs.Finished.{IsLiveMarked, last_used}
-use Rattle.ee_core.specs.Parts.{IsReady, IsSameBut, IsSameSet, KeepsMarks, Stays}
 use Rattle.ee_core.proofs.SetPages.{same_other}
 
 -- within a page the slot before stands in the same page
@@ -26,7 +26,8 @@ same_row n m q r e some below =
 pub same_place : (n m : ℕ) → 0 < m → (n ≡ 0) ⊎ (n % m ≢ 0) → n / m ≡ (n - 1) / m
 same_place n m some (inl none) = let e : n ≡ n - 1 = omega arith in ap (λ k. k / m) e
 same_place n m some (inr inside) =
-    let split : n ≡ n / m * m + n % m = omega (arith, div-add-mod n m) in let below : n % m < m = omega (arith, some) in
+    let split : n ≡ n / m * m + n % m = omega (arith, div-add-mod n m) in
+    let below : n % m < m = omega (arith, some) in
     sym (same_row n m (n / m) (n % m) split (omega (arith, inside)) below)
 
 -- the first slot of a page stands one page behind the slot before
@@ -43,10 +44,13 @@ next_place n m some many whole =
     let split : n ≡ n / m * m = omega (arith, div-add-mod n m, whole) in
     elim (cases_lt 0 (n / m)) [
       | inl positive ↦
-          let p : ℕ = n / m - 1 in let quotient : n / m ≡ p + 1 = omega arith in let rows : n ≡ (p + 1) * m = split ∙ ap (λ k. k * m) quotient in
+          let p : ℕ = n / m - 1 in
+          let quotient : n / m ≡ p + 1 = omega arith in
+          let rows : n ≡ (p + 1) * m = split ∙ ap (λ k. k * m) quotient in
           quotient ∙ ap (λ k. k + 1) (sym (after_row n m p (one_row_more n m p rows) some))
       | inr none ↦
-          let zero : n / m ≡ 0 = omega arith in let nothing : n ≡ 0 * m = split ∙ ap (λ k. k * m) zero in
+          let zero : n / m ≡ 0 = omega arith in
+          let nothing : n ≡ 0 * m = split ∙ ap (λ k. k * m) zero in
           absurd (omega (arith, nothing))
     ]
 
@@ -105,7 +109,8 @@ module _ (old : Device) (layout : Layout) (found : IsLayout old layout) (free : 
 
   pub free_within : (used : ℕ) → used ≡ layout.fill - (layout.current - first_page old.size layout.side) * (words - 4) → used ≢ words - 4 → (layout.current ≡ first_page old.size layout.side + page_of_slot old.size layout.fill) × (4 + used ≡ place_of_slot old.size layout.fill)
   free_within used used_is other =
-      let p = page_of_slot old.size (layout.fill - 1) in let row = old.size.words - 4 in
+      let p = page_of_slot old.size (layout.fill - 1) in
+      let row = old.size.words - 4 in
       let is = used_is ∙ used_slots in
       let split : layout.fill ≡ p * row + used = omega (arith, is, rows) in
       let not_full : used ≢ row = subst (λ n. used ≢ n - 4) words_is other in
@@ -115,10 +120,12 @@ module _ (old : Device) (layout : Layout) (found : IsLayout old layout) (free : 
 
   pub free_behind : (used : ℕ) → used ≡ layout.fill - (layout.current - first_page old.size layout.side) * (words - 4) → used ≡ words - 4 → (layout.current + 1 ≡ first_page old.size layout.side + page_of_slot old.size layout.fill) × (4 ≡ place_of_slot old.size layout.fill)
   free_behind used used_is full =
-      let p = page_of_slot old.size (layout.fill - 1) in let row = old.size.words - 4 in
+      let p = page_of_slot old.size (layout.fill - 1) in
+      let row = old.size.words - 4 in
       let is = used_is ∙ used_slots in
       let all : used ≡ row = full ∙ ap (λ n. n - 4) words_is in
-      let whole : layout.fill ≡ p * row + row = omega (arith, is, rows, all) in let split : layout.fill ≡ (p + 1) * row + 0 = whole ∙ full_row p row in
+      let whole : layout.fill ≡ p * row + row = omega (arith, is, rows, all) in
+      let split : layout.fill ≡ (p + 1) * row + 0 = whole ∙ full_row p row in
       let at = row_of (p + 1) 0 split some_slots in
       (omega (arith, found.current, at.0), omega (arith, at.1))
 

@@ -11,8 +11,8 @@ use Rattle.ee_pages.specs.declared.side.Side.TheVariants.{First, Second}
 use Rattle.ee_core.proofs.States.{state_is, state_stays}
 use Rattle.ee_core.specs.Finished.{IsFinished, IsMarked, IsStore}
 use Rattle.ee_core.specs.Openings.{IsCutOpening, IsFormatted, Opens, ShowsCutMarks, ShowsMarks, not_blank_pages}
-use Rattle.ee_core.specs.Picture.{IsDrawn, blank, filled_set}
-use Rattle.ee_core.specs.Parts.{Stays}
+use Rattle.ee_core.specs.Picture.{IsDrawn, blank_picture, filled_set}
+use Rattle.ee_core.specs.CallSteps.{Stays}
 use Rattle.ee_core.specs.State.{State, Wears, formatted_state, state_of}
 
 abbrev side_in : Option (Side × ℕ) → Side
@@ -44,6 +44,6 @@ format_store layout new is first marked = record {
   finished = λ on. finished_from new layout.side layout.generation is.live (subst (IsMarked new) (sym first) marked);
 }
 
-pub formats : (layout : Layout) (old new : Device) → IsLayout new layout → layout.side ≡ First → IsMarked new First → state_of new ≡ formatted_state → IsDrawn First new (filled_set new.size 1 []) → IsDrawn Second new blank → Wears (not_blank_pages old) old new → GoesOn old new → IsFormatted old new
+pub formats : (layout : Layout) (old new : Device) → IsLayout new layout → layout.side ≡ First → IsMarked new First → state_of new ≡ formatted_state → IsDrawn First new (filled_set new.size 1 []) → IsDrawn Second new blank_picture → Wears (not_blank_pages old) old new → GoesOn old new → IsFormatted old new
 formats layout old new is first marked state first_set second_set wear on =
     record { store = format_store layout new is first marked; live_is = live_first layout new is first state; goes_on = on; state_is = state; first_set = first_set; second_set = second_set; wear = wear }

@@ -13,7 +13,7 @@ use Rattle.ee_flash.specs.Step.{Program, IsCutIn, IsUntouched, MayFollow, device
 use Rattle.ee_flash.specs.declared.word.Word.TheVariants.{Erased, Held}
 use Rattle.ee_pages.specs.Filling.{IsCommitted, IsFilling}
 use Rattle.ee_pages.specs.Laws.{IsPageOf, KeepsSide}
-use Rattle.ee_core.specs.Parts.{IsOlder}
+use Rattle.ee_core.specs.CallSteps.{IsOlder}
 use Rattle.ee_pages.specs.Meaning.{Change, SpellsChange, map_after, meaning}
 use Rattle.ee_pages.specs.Page.{is_blank, is_marked, is_written, marking, number_of_mark}
 use Rattle.ee_pages.specs.Pushing.{slot_step}

@@ -62,7 +62,8 @@ not_named device side generation page live at = ap (λ found. times page (pendin
 
 -- ---- one call
 
--- What a call does to a page of the live set, and to one of the other set: that one waits, is erased, or neither.
+-- What a call does to a page of the live set, and to one of the other set: that one waits, is
+-- erased, or neither.
 pub record Ages (transfer : Bool) (old new : Device) : Type 0 where
   pub same_size : new.size ≡ old.size
   pub live_is : live_of new ≡ cond transfer (next_live (live_of old)) (live_of old)
@@ -82,7 +83,8 @@ stays old new sizes live_is same_pending no_wear =
       live_page = λ side generation page live at. omega (arith, wear page);
       other_page = λ side generation page live at.
           let now = named_in new side generation page (live_is ∙ live) (subst (λ (size : Size). IsPageOf size (other side) page) (sym sizes) at) in
-          let was = named_in old side generation page live at in let same : waits new page ≡ waits old page = sym now ∙ ap (times page) same_pending ∙ was in
+          let was = named_in old side generation page live at in
+          let same : waits new page ≡ waits old page = sym now ∙ ap (times page) same_pending ∙ was in
           omega (arith, wear page, same);
     }
 
@@ -102,11 +104,13 @@ moves old new changes done =
 
 erases : (old new : Device) → ErasesOne old new → Ages false old new
 erases old new done =
-    let erased = done.lowest.page in let waited = done.lowest.lowest.waits in
+    let erased = done.lowest.page in
+    let waited = done.lowest.lowest.waits in
     let wear : (page : ℕ) → wear_at new page ≤ wear_at old page + times page (erased ∷ []) = λ page.
     subst (λ (list : List ℕ). get_or list page 0 ≤ wear_at old page + times page (erased ∷ [])) (sym done.lowest.wear.wear_is) (worn_at_most (erased ∷ []) old.wear page) in
     let spared : (page : ℕ) → page ≢ erased → wear_at new page ≤ wear_at old page = λ page other.
-    let none : eqb erased page ≡ false = ne_eqb erased page (λ same. other (sym same)) in let zero : times page (erased ∷ []) ≡ 0 = rw none refl in
+    let none : eqb erased page ≡ false = ne_eqb erased page (λ same. other (sym same)) in
+    let zero : times page (erased ∷ []) ≡ 0 = rw none refl in
     omega (arith, wear page, zero) in
     record {
       same_size = done.goes_on.same_size;
@@ -118,7 +122,8 @@ erases old new done =
       other_page = λ side generation page live at. elim (cases_eq page erased) [
         | inl same ↦
             let blank : waits new page ≡ 0 = ap (λ n. waits new n) same ∙ ap (λ b. cond b 0 1) done.lowest.blank in
-            let written : waits old page ≡ 1 = ap (λ n. waits old n) same ∙ ap (λ b. cond b 0 1) waited.not_blank in let once = times_few (erased ∷ []) page in
+            let written : waits old page ≡ 1 = ap (λ n. waits old n) same ∙ ap (λ b. cond b 0 1) waited.not_blank in
+            let once = times_few (erased ∷ []) page in
             omega (arith, wear page, once, blank, written)
         | inr other ↦
             let same : waits new page ≡ waits old page = ap (λ (words : List Word). cond (is_blank words) 0 1) (done.lowest.others page other) in
@@ -151,7 +156,8 @@ one_more true rest old mid new first later = record {
 }
 one_more false rest old mid new first later = record {
   live_page = λ side generation page live at.
-      let there : IsPageOf mid.size side page = subst (λ (size : Size). IsPageOf size side page) (sym first.same_size) at in let none : 0 + rest ≡ rest = omega arith in
+      let there : IsPageOf mid.size side page = subst (λ (size : Size). IsPageOf size side page) (sym first.same_size) at in
+      let none : 0 + rest ≡ rest = omega arith in
       rw none (omega (arith, first.live_page side generation page live at, later.live_page side generation page (first.live_is ∙ live) there));
   other_page = λ side generation page live at.
       let there : IsPageOf mid.size (other side) page = subst (λ (size : Size). IsPageOf size (other side) page) (sym first.same_size) at in
@@ -183,7 +189,8 @@ no_page_wears_more_lem calls old new page whole legal none h =
     elim (in_either old.size legal.0 page h) [
       | inl here ↦ omega (arith, all.live_page legal.0 legal.1 page legal.2.live here)
       | inr there ↦
-          let named = named_in old legal.0 legal.1 page legal.2.live there in let few = times_few (pending_pages old) page in
+          let named = named_in old legal.0 legal.1 page legal.2.live there in
+          let few = times_few (pending_pages old) page in
           omega (arith, all.other_page legal.0 legal.1 page legal.2.live there, named, few, length-pending_pages old, none)
     ]
 

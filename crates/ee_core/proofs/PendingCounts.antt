@@ -74,7 +74,8 @@ module _ (side : Side) (device : Device) (formed : IsFormed device) (first : ℕ
       let count = length-set_of side device formed in
       sym (ap pending_of (take-length (set_of side device)))
       ∙ count_none (set_of side device) (length (set_of side device)) (omega arith) (λ k h.
-      let in_set : k < device.size.pages = omega (arith, count) in let e : first_page device.size side + k ≡ first + k = omega arith in
+      let in_set : k < device.size.pages = omega (arith, count) in
+      let e : first_page device.size side + k ≡ first + k = omega arith in
       ap is_blank (page_of_set side device k in_set ∙ ap (page_at device) e) ∙ blank (first + k) (omega arith) (omega arith))
 
   -- one is not

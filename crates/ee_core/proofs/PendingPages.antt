@@ -10,7 +10,7 @@ use Rattle.ee_pages.specs.Sets.{first_page, live_of, other, pending_of, set_of}
 use Rattle.ee_pages.specs.declared.side.Side.{Side}
 use Rattle.ee_pages.specs.declared.side.Side.TheVariants.{First, Second}
 use Rattle.ee_pages.proofs.Public.{length-set_of}
-use Rattle.ee_core.specs.Parts.{IsSameBut}
+use Rattle.ee_core.specs.CallSteps.{IsSameBut}
 use Rattle.ee_core.specs.State.{not_blank_from, not_blank_in, pending_pages, pending_pages_in, state_in, state_of}
 use Rattle.ee_core.proofs.NotBlank.{first_blank, length-not_blank, not_blank_same, times_below, times_here, times_past}
 use Rattle.ee_core.proofs.SetPages.{one_changed, page_of_set}
@@ -35,7 +35,8 @@ waits device page = cond (is_blank (page_at device page)) 0 1
 -- a page is named once if it is one of the set and not blank
 pub times_in_set : (side : Side) (device : Device) (page : ℕ) → IsPageOf device.size side page → times page (not_blank_in side device) ≡ waits device page
 times_in_set side device page at =
-    let k = page - first_page device.size side in let is : first_page device.size side + k ≡ page = omega (arith, at.from) in
+    let k = page - first_page device.size side in
+    let is : first_page device.size side + k ≡ page = omega (arith, at.from) in
     let within : k < device.size.pages = omega (arith, at.from, at.below) in
     ap (λ n. times n (not_blank_in side device)) (sym is)
     ∙ times_here (set_of side device) (first_page device.size side) k
@@ -54,7 +55,8 @@ times_in_other Second device page at =
 pub same_not_blank : (side : Side) (old new : Device) (page : ℕ) → IsFormed old → IsFormed new → new.size ≡ old.size → IsPageOf old.size side page → IsSameBut page old new → is_blank (page_at new page) ≡ is_blank (page_at old page)
     → not_blank_in side new ≡ not_blank_in side old
 same_not_blank side old new page old_formed new_formed sizes at same blank =
-    let k = page - first_page old.size side in let is : first_page old.size side + k ≡ page = omega (arith, at.from) in
+    let k = page - first_page old.size side in
+    let is : first_page old.size side + k ≡ page = omega (arith, at.from) in
     let within : k < old.size.pages = omega (arith, at.from, at.below) in
     let there : get_or (set_of side old) k [] ≡ page_at old page = page_of_set side old k within ∙ ap (page_at old) is in
     ap (λ (size : Size). not_blank_from (first_page size side) (set_of side new)) sizes
@@ -66,7 +68,8 @@ pub lowest_blank : (side : Side) (old new : Device) (page : ℕ) → IsFormed ol
     → is_blank (page_at old page) ≡ false → ((lower : ℕ) → first_page old.size side ≤ lower → lower < page → is_blank (page_at old lower) ≡ true) → is_blank (page_at new page) ≡ true
     → not_blank_in side old ≡ page ∷ not_blank_in side new
 lowest_blank side old new page old_formed new_formed sizes at same written lower blank =
-    let k = page - first_page old.size side in let is : first_page old.size side + k ≡ page = omega (arith, at.from) in
+    let k = page - first_page old.size side in
+    let is : first_page old.size side + k ≡ page = omega (arith, at.from) in
     let within : k < old.size.pages = omega (arith, at.from, at.below) in
     let there : get_or (set_of side old) k [] ≡ page_at old page = page_of_set side old k within ∙ ap (page_at old) is in
     let in_list : k < length (set_of side old) = omega (arith, within, length-set_of side old old_formed) in

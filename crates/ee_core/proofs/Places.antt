@@ -4,7 +4,7 @@ use Rattle.std.proofs.lemmas.Nat.{div-mul-add, mod-mul-add}
 use Rattle.ee_flash.specs.Size.{Size}
 use Rattle.ee_pages.specs.declared.side.Side.{Side}
 use Rattle.ee_pages.proofs.Public.{split_by}
-use Rattle.ee_core.specs.Parts.{Stands}
+use Rattle.ee_core.specs.CallSteps.{Stands}
 use Rattle.ee_core.specs.declared.copying.Place.{Place}
 
 -- one further within a row
@@ -18,7 +18,8 @@ within_row n m within =
 -- from the last of a row to the first of the next
 behind_row : (n m : ℕ) → n % m + 1 ≡ m → ((n + 1) / m ≡ n / m + 1) × ((n + 1) % m ≡ 0)
 behind_row n m last =
-    let split : n + 1 ≡ (n / m + 1) * m + 0 = omega (arith, split_by n m) in let some : 0 < m = omega arith in
+    let split : n + 1 ≡ (n / m + 1) * m + 0 = omega (arith, split_by n m) in
+    let some : 0 < m = omega arith in
     (ap (λ k. k / m) split ∙ div-mul-add (n / m + 1) m 0 some, ap (λ k. k % m) split ∙ mod-mul-add (n / m + 1) m 0 some)
 
 module _ (size : Size) (side : Side) (place : Place) (words : ℕ) (some : 5 ≤ words) (words_is : words ≡ size.words) (stands : Stands size side place) where

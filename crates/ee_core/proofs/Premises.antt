@@ -13,22 +13,26 @@ use Rattle.ee_core.specs.Runs.{Call, Cleaned, IsRun, IsWholeRun, Wrote, is_cut, 
 use Rattle.ee_core.specs.State.{CountsWear}
 use Rattle.ee_core.specs.declared.variables.WriteFault.TheVariants as write
 
--- `runs_go_on` needs that power is not cut in the run: each write in which it is cut is a run that does not go on
+-- `runs_go_on` needs that power is not cut in the run: each write in which it is cut is a run
+-- that does not go on
 pub runs_go_on_needs_no_cut : ((calls : List Call) (old new : Device) → IsRun calls old new → GoesOn old new)
     → (address value : ℕ) (old new : Device) → Writes old address value (Err write.Cut) new → ⊥
 runs_go_on_needs_no_cut law address value old new cut =
     let went_on = law (Wrote address value (Err write.Cut) ∷ []) old new (new, cut, refl) in
     true≢false (sym cut.cut.was_on ∙ sym went_on.same_power ∙ cut.cut.is_off)
 
--- `no_page_wears_more` needs that no page waits at the start: each clean step that erases one is a run without a transfer
--- in which a page wears
+-- `no_page_wears_more` needs that no page waits at the start: each clean step that erases one is a
+-- run without a transfer in which a page wears
 pub no_page_wears_more_needs_none_waiting : ((calls : List Call) (old new : Device) (page : ℕ) → IsWholeRun calls old new → IsLegal old
     → page < page_count old.size → wear_at new page ≤ wear_at old page + (transfers calls + 1) / 2)
     → (old new : Device) → IsLegal old → CountsWear old → Cleans old (Ok true) new → ⊥
 no_page_wears_more_needs_none_waiting law old new legal counts cleaned =
-    let page = cleaned.lowest.page in let within = cleaned.lowest.wear.there 0 0 (omega arith) in let formed = legal.2.formed in
+    let page = cleaned.lowest.page in
+    let within = cleaned.lowest.wear.there 0 0 (omega arith) in
+    let formed = legal.2.formed in
     let run : IsWholeRun (Cleaned (Ok true) ∷ []) old new = record { run = (new, cleaned, refl); without_cuts = All-cons (λ (call : Call). is_cut call ≡ false) (Cleaned (Ok true)) [] refl (All-nil (λ (call : Call). is_cut call ≡ false)) } in
-    let few = law (Cleaned (Ok true) ∷ []) old new page run legal (omega (arith, within, formed.wear_length)) in let below = counts page 0 within in
+    let few = law (Cleaned (Ok true) ∷ []) old new page run legal (omega (arith, within, formed.wear_length)) in
+    let below = counts page 0 within in
     let more : wear_at new page ≡ one_more (wear_at old page) =
     ap (λ (wear : List ℕ). get_or wear page 0) cleaned.lowest.wear.wear_is ∙ get_or-set_same old.wear page (one_more (wear_at old page)) 0 within in
     absurd (omega (arith, few, below, more))

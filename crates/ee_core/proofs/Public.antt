@@ -10,7 +10,8 @@ pub use Rattle.ee_core.proofs.Effects.{by_effect}
 pub use Rattle.ee_core.proofs.Emptying.{cut_clearing}
 pub use Rattle.ee_core.proofs.Fillings.{length-put_words, map_with_more}
 pub use Rattle.ee_core.proofs.Listed.{each_apart, lists_are_there_lem, names-puts}
-pub use Rattle.ee_core.proofs.Making.{always_on_err, clean_store, few_within, fill_was, generation_proper, map_was, store_marked}
+pub use Rattle.ee_core.proofs.Making.{always_on_err, few_within, fill_was, generation_proper, map_was, store_marked}
+pub use Rattle.ee_core.proofs.LiveMarks.{layout_stays}
 pub use Rattle.ee_core.proofs.MovingFacts.{few_slots}
 pub use Rattle.ee_core.proofs.NotBlank.{length-not_blank}
 pub use Rattle.ee_core.proofs.Nothing.{forgotten_has, still_none}

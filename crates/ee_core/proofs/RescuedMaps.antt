@@ -10,7 +10,7 @@ use Rattle.ee_pages.specs.Sets.{fill_of, other, pending_of, set_of, slots_of}
 use Rattle.ee_pages.specs.declared.find.Layout.{Layout}
 use Rattle.ee_pages.specs.declared.side.Side.{Side}
 use Rattle.ee_pages.proofs.Public.{map_rescued, names, other_twice}
-use Rattle.ee_core.specs.Parts.{HasMoved, IsOlder}
+use Rattle.ee_core.specs.CallSteps.{HasMoved, IsOlder}
 use Rattle.ee_core.specs.Rescues.{HasRescued, Rescues}
 use Rattle.ee_core.specs.State.{State, moved_state, state_of, state_with}
 use Rattle.ee_core.proofs.States.{same_states, state_is}

@@ -28,7 +28,8 @@ Adds more old new = CountsWear new → CountsWear old × (total_wear_of new + (s
 abbrev pub cost : Bool → Device → ℕ
 cost transfer device = cond transfer device.size.pages 0
 
--- what a call does where power is not cut in it: by several changes less than a set may be left to erase
+-- what a call does where power is not cut in it: by several changes less than a set
+-- may be left to erase
 pub record Goes (transfer : Bool) (changes : List Change) (old new : Device) : Type 0 where
   pub power : GoesOn old new
   pub more : ℕ
@@ -151,13 +152,16 @@ went [] old new run whole =
     let done = nothing old new run in
     record { power = done.power; more = done.more; adds = done.adds; few = omega (arith, done.few); whole = λ singles. omega (arith, done.few); map_is = done.map_is; answers = tt }
 went (call ∷ calls) old new run whole =
-    let first = goes call old run.0 (whole 0 call (omega arith)) run.1 in let rest = went calls run.0 new run.2 (All-tail (λ (one : Call). is_cut one ≡ false) call calls whole) in
-    let pages = ap (λ (size : Size). size.pages) first.power.same_size in let counted = sum_by-cons (λ (one : Call). cond (is_transfer one) 1 0) call calls in
+    let first = goes call old run.0 (whole 0 call (omega arith)) run.1 in
+    let rest = went calls run.0 new run.2 (All-tail (λ (one : Call). is_cut one ≡ false) call calls whole) in
+    let pages = ap (λ (size : Size). size.pages) first.power.same_size in
+    let counted = sum_by-cons (λ (one : Call). cond (is_transfer one) 1 0) call calls in
     record {
       power = (calls_compose old run.0 new first.power).0 rest.power;
       more = first.more + rest.more;
       adds = λ counts.
-          let later = rest.adds counts in let sooner = first.adds later.0 in
+          let later = rest.adds counts in
+          let sooner = first.adds later.0 in
           (sooner.0, omega (arith, sooner.1, later.1));
       few = few_of_more (is_transfer call) old.size.pages run.0.size.pages (transfers calls) (transfers (call ∷ calls)) first.more rest.more pages counted first.few rest.few;
       whole = λ singles.

@@ -9,7 +9,7 @@ use Rattle.ee_pages.specs.Sets.{first_page, other, set_of}
 use Rattle.ee_pages.specs.declared.side.Side.{Side}
 use Rattle.ee_pages.specs.declared.side.Side.TheVariants.{First, Second}
 use Rattle.ee_pages.proofs.Public.{length-set_of}
-use Rattle.ee_core.specs.Parts.{IsSameBut, IsSameSet}
+use Rattle.ee_core.specs.CallSteps.{IsSameBut, IsSameSet}
 
 pub page_of_set : (side : Side) (device : Device) (k : ℕ) → k < device.size.pages → get_or (set_of side device) k [] ≡ page_at device (first_page device.size side + k)
 page_of_set First device k h =
@@ -62,8 +62,10 @@ same_other side old new page old_formed new_formed sizes at same =
 -- what changes one page of a set changes it in the list of its pages
 pub one_changed : (side : Side) (old new : Device) (page k : ℕ) → IsFormed old → IsFormed new → new.size ≡ old.size → first_page old.size side + k ≡ page → k < old.size.pages → IsSameBut page old new → set_of side new ≡ set (set_of side old) k (page_at new page)
 one_changed side old new page k old_formed new_formed sizes at within same =
-    let pages : new.size.pages ≡ old.size.pages = ap (λ (size : Size). size.pages) sizes in let old_count = length-set_of side old old_formed in
-    let new_count : length (set_of side new) ≡ old.size.pages = length-set_of side new new_formed ∙ pages in let long = length-set (set_of side old) k (page_at new page) in
+    let pages : new.size.pages ≡ old.size.pages = ap (λ (size : Size). size.pages) sizes in
+    let old_count = length-set_of side old old_formed in
+    let new_count : length (set_of side new) ≡ old.size.pages = length-set_of side new new_formed ∙ pages in
+    let long = length-set (set_of side old) k (page_at new page) in
     ext_get_or [] (set_of side new) (set (set_of side old) k (page_at new page)) (new_count ∙ sym old_count ∙ sym long) (λ j h.
     let below : j < old.size.pages = omega (arith, h, new_count) in
     let there : get_or (set_of side new) j [] ≡ page_at new (first_page old.size side + j) =

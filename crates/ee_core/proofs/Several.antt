@@ -80,7 +80,8 @@ new_before (first ∷ puts) zero put each is =
     let same : first ≡ put = cc is in
     (subst (λ (found : listed.Put). IsAddress found.address) same each.0, refl)
 new_before (first ∷ puts) (suc place) put each is =
-    let later = new_before puts place put each.2 is in let away = not_named puts place first.address put each.1 is in
+    let later = new_before puts place put each.2 is in
+    let away = not_named puts place first.address put each.1 is in
     let here : (first.address == put.address) ≡ false = ne_eqb first.address put.address (λ e. apart put.address first.address away e) in
     (later.0, rw here later.1)
 

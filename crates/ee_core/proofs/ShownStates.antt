@@ -69,7 +69,8 @@ marked-is_written mark Torn = refl
 marked_shown : (side : Side) (old new : Device) (last page : ℕ) → ((at : ℕ) → at < 4 → picture_of side new page at ≡ marked_to last (picture_of side old) page at) → is_written (picture_of side old page 3) ≡ false → state_at side new page ≡ marked_state side old last page
 marked_shown side old new last page words free =
     let third : is_written (picture_of side new page 3) ≡ is_written (picture_of side old page 3) = ap is_written (words 3 (omega arith)) in
-    let second = ap is_written (words 2 (omega arith)) in let first = ap is_written (words 1 (omega arith)) in
+    let second = ap is_written (words 2 (omega arith)) in
+    let first = ap is_written (words 1 (omega arith)) in
     let zeroth : is_written (picture_of side new page 0) ≡ is_written (picture_of side old page 0) = ap is_written (words 0 (omega arith)) in
     elim (cases_lt page last) [
       | inl below ↦
@@ -93,8 +94,11 @@ marked_shown side old new last page words free =
 -- of a set that was filled
 filled_shown : (side : Side) (device : Device) (size : Size) (generation : ℕ) (words : List Word) (page : ℕ) → ((at : ℕ) → at < 4 → picture_of side device page at ≡ filled_set size generation words page at) → state_at side device page ≡ filled_state (page_of_slot size (length words - 1)) page
 filled_shown side device size generation words page drawn =
-    let last = page_of_slot size (length words - 1) in let third : is_written (picture_of side device page 3) ≡ false = ap is_written (drawn 3 (omega arith)) in
-    let second = ap is_written (drawn 2 (omega arith)) in let first = ap is_written (drawn 1 (omega arith)) in let zeroth = ap is_written (drawn 0 (omega arith)) in
+    let last = page_of_slot size (length words - 1) in
+    let third : is_written (picture_of side device page 3) ≡ false = ap is_written (drawn 3 (omega arith)) in
+    let second = ap is_written (drawn 2 (omega arith)) in
+    let first = ap is_written (drawn 1 (omega arith)) in
+    let zeroth = ap is_written (drawn 0 (omega arith)) in
     elim (cases_lt page (page_of_slot size (length words - 1))) [
       | inl below ↦
           let used : is_written (picture_of side device page 2) ≡ true = second ∙ rw (lt-ltb page (page_of_slot size (length words - 1)) below) refl in
@@ -129,7 +133,8 @@ blank_shown side device page words = search rules
 
 pub states_after_append_lem : StatesAfterAppend
 states_after_append_lem old change new side generation page store appends live h =
-    let shows = of_live (λ set n. ShowsAppended old change new set) old side generation appends.image live in let is = live_here old side generation store.legal live in
+    let shows = of_live (λ set n. ShowsAppended old change new set) old side generation appends.image live in
+    let is = live_here old side generation store.legal live in
     let now : page < new.size.pages = omega (arith, h, ap (λ (size : Size). size.pages) appends.goes_on.same_size) in
     let last = page_of_slot old.size (state_of old).fill in (
       marked_shown side old new last page (λ at low.
@@ -156,7 +161,9 @@ words_counted map (suc n) =
 pub moved_words_are_live_lem : MovedWordsAreLive
 moved_words_are_live_lem [] map apart = words_counted map 65534
 moved_words_are_live_lem (Put address value ∷ changes) map apart =
-    let others = map_after (Forget address) map in let after = changed_by changes others in let rest = moved_words_are_live_lem changes others apart.2 in
+    let others = map_after (Forget address) map in
+    let after = changed_by changes others in
+    let rest = moved_words_are_live_lem changes others apart.2 in
     let none : after address ≡ None = changed_by-other changes others address apart.1 ∙ forget-at map address address refl in
     let counts = change_counts (Put address value) after apart.0 in
     let one : live_in (map_after (Put address value) after) ≡ live_in after + 1 = counts ∙ ap (λ (held : Option ℕ). live_in after + cond (is_some held) 0 1) none in
@@ -184,7 +191,8 @@ kept_word waits picture page at e = elim (cases_Bool (at == 3)) [ inl three ↦ 
 pub states_after_transfer_lem : StatesAfterTransfer
 states_after_transfer_lem old changes new side generation page store moves proper live h =
     let shows = of_live (λ set n. ShowsMoved old changes new set n) old side generation moves.image live in
-    let now : page < new.size.pages = omega (arith, h, ap (λ (size : Size). size.pages) moves.goes_on.same_size) in let is = live_here old side generation store.legal live in
+    let now : page < new.size.pages = omega (arith, h, ap (λ (size : Size). size.pages) moves.goes_on.same_size) in
+    let is = live_here old side generation store.legal live in
     let inside : 4 < new.size.words = omega (arith, is.formed.within_limits.some_words, ap (λ (size : Size). size.words) moves.goes_on.same_size) in
     let words = moved_words changes (state_of old).map in
     let fill : (state_of new).fill ≡ length words = ap (λ (state : State). state.fill) moves.state_is ∙ sym (moved_words_are_live_lem changes (state_of old).map proper) in (
@@ -223,7 +231,8 @@ not_waiting blank e picture page at = rw e (elim (cases_Bool (at == 3)) [ inl th
 
 pub states_after_opening_lem : StatesAfterOpening
 states_after_opening_lem old new side generation page opens live h =
-    let shows = of_live (λ set n. ShowsMarks old new set) old side generation opens.image live in let is = live_here old side generation opens.legal live in
+    let shows = of_live (λ set n. ShowsMarks old new set) old side generation opens.image live in
+    let is = live_here old side generation opens.legal live in
     let now : page < new.size.pages = omega (arith, h, ap (λ (size : Size). size.pages) opens.goes_on.same_size) in
     let inside : 4 < new.size.words = omega (arith, is.formed.within_limits.some_words, ap (λ (size : Size). size.words) opens.goes_on.same_size) in
     let words = page_at old (first_page old.size (other side) + page) in (
@@ -250,17 +259,20 @@ page_of_either old new n at sizes h within drawn =
           let e : 0 + n ≡ n = omega arith in
           ap (λ k. word_at new k at) (sym e) ∙ drawn First n at (omega (arith, ap (λ (size : Size). size.pages) sizes)) inside ∙ ap (λ k. word_at old k at) e
       | inr second ↦
-          let k : ℕ = n - old.size.pages in let now : n ≡ new.size.pages + (n - old.size.pages) = omega (arith, ap (λ (size : Size). size.pages) sizes) in
+          let k : ℕ = n - old.size.pages in
+          let now : n ≡ new.size.pages + (n - old.size.pages) = omega (arith, ap (λ (size : Size). size.pages) sizes) in
           let before : old.size.pages + (n - old.size.pages) ≡ n = omega arith in
           ap (λ p. word_at new p at) now ∙ drawn Second (n - old.size.pages) at (omega (arith, h, ap (λ (size : Size). size.pages) sizes)) inside ∙ ap (λ p. word_at old p at) before
     ]
 
 pub pictures_tell_images_lem : PicturesTellImages
 pictures_tell_images_lem old new formed new_formed sizes drawn =
-    let counts : page_count new.size ≡ page_count old.size = ap page_count sizes in let widths = ap (λ (size : Size). size.words) sizes in
+    let counts : page_count new.size ≡ page_count old.size = ap page_count sizes in
+    let widths = ap (λ (size : Size). size.words) sizes in
     ext_get_or [] new.image old.image (omega (arith, formed.image_length, new_formed.image_length, counts)) (λ n h.
     let in_range : n < page_count new.size = omega (arith, h, new_formed.image_length) in
-    let before : n < page_count old.size = omega (arith, in_range, counts) in let long = length-page_at new n new_formed in_range in
+    let before : n < page_count old.size = omega (arith, in_range, counts) in
+    let long = length-page_at new n new_formed in_range in
     let long_before = length-page_at old n formed before in
     ext_get_or Erased (page_at new n) (page_at old n) (omega (arith, long, long_before, widths)) (λ at within.
     page_of_either old new n at sizes before (omega (arith, within, long, widths)) drawn))

@@ -1,4 +1,5 @@
--- What steps leave of a device that can be started: from a first start on, until its set is committed.
+-- What steps leave of a device that can be started: from a first start on, until its set is
+-- committed.
 use Rattle.std.proofs.Common.{rules, ◌≡◌, ◌≢◌, ◌⊎◌, inl, inr, ℕ, ◌+◌, ◌<◌, ◌≤◌, true, Some, None, Option, List, [], length, get_or, set, refl, sym, subst, ap, ◌∙◌, arith, suc, zero}
 use Rattle.std.specs.List.{All}
 use Rattle.std.proofs.lemmas.Bool.{cases_eq}
@@ -61,8 +62,10 @@ held_before (Erase erased) old new page at number taken header behind held =
           ]
     ]
 held_before (Program programmed place value) old new page at number taken header behind held =
-    let differs = step_changes_one_page (Program programmed place value) old new taken in let left = step_leaves_pages (Program programmed place value) old new taken in
-    let h : programmed < length old.image = omega (arith, taken.formed.image_length, taken.may.0) in let other : at ≢ place = λ e. omega (arith, e, header, behind) in
+    let differs = step_changes_one_page (Program programmed place value) old new taken in
+    let left = step_leaves_pages (Program programmed place value) old new taken in
+    let h : programmed < length old.image = omega (arith, taken.formed.image_length, taken.may.0) in
+    let other : at ≢ place = λ e. omega (arith, e, header, behind) in
     elim (cases_eq page programmed) [
       | inr apart ↦ sym (elsewhere old new programmed page at differs apart) ∙ held
       | inl same ↦
@@ -76,7 +79,8 @@ none_or_gone after before (inr gone) none = gone
 -- a step that commits neither set, and is in no slot, leaves the device startable, in every outcome
 pub stays_startable : (step : Step) (old new : Device) → IsStep step old new → IsInHeader step → ((side : Side) → CannotCommit (first_page old.size side) step old) → IsStartable old → IsStartable new
 stays_startable step old new taken header cannot startable =
-    let differs = step_changes_one_page step old new taken in let formed = step_keeps_formed step old new taken in
+    let differs = step_changes_one_page step old new taken in
+    let formed = step_keeps_formed step old new taken in
     record {
       uncommitted = λ side.
           let first = first_page old.size side in
@@ -121,8 +125,10 @@ torn_commits Second mid new taken differs formed mark startable =
 
 torn_startable : (mid new : Device) → IsStep (marking 0 Active) mid new → new.image ≡ (with_word 0 1 Torn mid).image → IsStartable mid → IsStartable new
 torn_startable mid new taken torn startable =
-    let differs = step_changes_one_page (marking 0 Active) mid new taken in let formed = step_keeps_formed (marking 0 Active) mid new taken in
-    let left = step_leaves_pages (marking 0 Active) mid new taken in let some : 0 < length mid.image = omega (arith, taken.formed.image_length, taken.may.0) in
+    let differs = step_changes_one_page (marking 0 Active) mid new taken in
+    let formed = step_keeps_formed (marking 0 Active) mid new taken in
+    let left = step_leaves_pages (marking 0 Active) mid new taken in
+    let some : 0 < length mid.image = omega (arith, taken.formed.image_length, taken.may.0) in
     let long : 1 < length (page_at mid 0) = omega (arith, length-page_at mid 0 taken.formed taken.may.0, taken.formed.within_limits.some_words) in
     let mark : word_at new 0 1 ≡ Torn =
     ap (λ (image : List (List Word)). word_in (get_or image 0 []) 1) torn
@@ -226,7 +232,8 @@ one_left_less more left (Some n) e rest = let same : left ≡ n + 1 = same_Some 
 starts_end_from : (starts : ℕ) (old new : Device) → IsStarting old → AreCutStarts starts old new → StartsEmpty new × ((left : ℕ) → old.cuts_left ≡ Some left → starts ≤ left)
 starts_end_from zero old new starting same = (subst StartsEmpty (sym same) (starts_empty old starting), λ left _. omega arith)
 starts_end_from (suc more) old new starting run =
-    let between = run.0 in let cut = cut_starting old between starting run.1 in
+    let between = run.0 in
+    let cut = cut_starting old between starting run.1 in
     let rest = starts_end_from more (with_power_on between) new (powered_starting between cut.0) run.2 in
     (rest.0, λ left e. one_left_less more left between.cuts_left (sym e ∙ cut.1.one_less_left) rest.1)
 

@@ -9,7 +9,7 @@ use Rattle.ee_pages.specs.Sets.{other, pending_of, set_of}
 use Rattle.ee_pages.specs.declared.side.Side.{Side}
 use Rattle.ee_pages.proofs.Public.{other_twice}
 use Rattle.ee_core.proofs.PendingPages.{as_many_not_blank}
-use Rattle.ee_core.specs.Parts.{HasMoved, Stays}
+use Rattle.ee_core.specs.CallSteps.{HasMoved, Stays}
 use Rattle.ee_core.specs.State.{State, moved_state, state_in, state_of, state_with, with_pending}
 
 pub state_is : (device : Device) (side : Side) (generation : ℕ) → IsLive device side generation → state_of device ≡ state_with device side generation

@@ -34,7 +34,8 @@ below_more count top h = (omega arith, omega arith)
 
 more_counts : (wear : List ℕ) (page : ℕ) → page < length wear → IsCounted (set wear page (one_more (get_or wear page 0))) → IsCounted wear × (sum (set wear page (one_more (get_or wear page 0))) ≡ sum wear + 1)
 more_counts wear page h counts =
-    let more = one_more (get_or wear page 0) in let long = length-set wear page more in
+    let more = one_more (get_or wear page 0) in
+    let long = length-set wear page more in
     let below : more < all_ones = subst (λ count. count < all_ones) (get_or-set_same wear page more 0 h) (All-get_or (λ count. count < all_ones) (set wear page more) page 0 (omega (arith, long)) counts) in
     let here = below_more (get_or wear page 0) all_ones below in
     let each : IsCounted wear = All-from_get_or (λ count. count < all_ones) wear 0 (λ k in_range. elim (cases_eq k page) [
@@ -46,9 +47,11 @@ more_counts wear page h counts =
 all_count : (pages wear : List ℕ) → AreThere pages wear → IsCounted (worn_by pages wear) → IsCounted wear × (sum (worn_by pages wear) ≡ sum wear + length pages)
 all_count [] wear there counts = (counts, omega arith)
 all_count (page ∷ pages) wear there counts =
-    let next = set wear page (one_more (get_or wear page 0)) in let long : length next ≡ length wear = length-set wear page (one_more (get_or wear page 0)) in
+    let next = set wear page (one_more (get_or wear page 0)) in
+    let long : length next ≡ length wear = length-set wear page (one_more (get_or wear page 0)) in
     let rest : AreThere pages next = subst (λ n. All (λ page. page < n) pages) (sym long) (All-tail (λ page. page < length wear) page pages there) in
-    let later = all_count pages next rest counts in let now = more_counts wear page (All-head (λ page. page < length wear) page pages there) later.0 in
+    let later = all_count pages next rest counts in
+    let now = more_counts wear page (All-head (λ page. page < length wear) page pages there) later.0 in
     (now.0, omega (arith, later.1, now.1))
 
 -- ---- how often a page is worn
@@ -77,7 +80,8 @@ worn_one wear here page = elim (cases_eq page here) [
 pub worn_at_most : (pages wear : List ℕ) (page : ℕ) → get_or (worn_by pages wear) page 0 ≤ get_or wear page 0 + times page pages
 worn_at_most [] wear page = omega arith
 worn_at_most (here ∷ pages) wear page =
-    let later = worn_at_most pages (set wear here (one_more (get_or wear here 0))) page in let now = worn_one wear here page in
+    let later = worn_at_most pages (set wear here (one_more (get_or wear here 0))) page in
+    let now = worn_one wear here page in
     omega (arith, later, now)
 
 one_few : (same : Bool) (times count : ℕ) → times ≤ count → cond same 1 0 + times ≤ count + 1
@@ -122,7 +126,8 @@ no_wear old new same = wears_rise [] 0 old new (wears_none old new same) refl
 pub wear_adds : (a b : ℕ) (old mid new : Device) → WearRises a old mid → WearRises b mid new → WearRises (a + b) old new
 wear_adds a b old mid new first second = record { pages = first.pages ++ second.pages; count = omega (arith, length-append first.pages second.pages, first.count, second.count); wears = wears_both first.pages second.pages old mid new first.wears second.wears }
 
--- In all, wear rose by as many as were erased, where no page of the device now was erased as often as can be counted.
+-- In all, wear rose by as many as were erased, where no page of the device now was erased as
+-- often as can be counted.
 pub total_rises : (erases : ℕ) (old new : Device) → WearRises erases old new → CountsWear new → CountsWear old × (total_wear_of new ≡ total_wear_of old + erases)
 total_rises erases old new rises counts =
     let all = all_count rises.pages old.wear rises.wears.there (subst IsCounted rises.wears.wear_is counts) in

@@ -9,9 +9,9 @@ use Rattle.ee_pages.specs.Pushing.{TakesSlot}
 use Rattle.ee_pages.specs.Sets.{first_page, other, page_of_slot, place_of_slot}
 use Rattle.ee_pages.specs.declared.find.Layout.{Layout}
 use Rattle.ee_pages.specs.declared.side.Side.{Side}
+use Rattle.ee_core.specs.CallSteps.{IsSameSet, KeepsMarks, PutsWord, map_change, map_in, number_written}
 use Rattle.ee_core.specs.Cuts.{IsDrawnPartly, PutsPartly}
 use Rattle.ee_core.specs.Finished.{IsMarked}
-use Rattle.ee_core.specs.Parts.{IsSameSet, KeepsMarks, PutsWord, map_in, meant, number_written}
 use Rattle.ee_core.specs.Picture.{IsDrawn, picture_of, with_change}
 use Rattle.ee_core.specs.declared.change.Change as declared
 
@@ -22,10 +22,11 @@ MayTakeSlot old new side generation change =
     ⊎ TakesSlot old new side generation (map_in side old)
     ⊎ TakesSlot old new side generation (map_after change (map_in side old))
 
--- the change was programmed into that slot; no mark is lost, and the other set and all wear are as before
+-- the change was programmed into that slot; no mark is lost, and the other set and
+-- all wear are as before
 pub record Pushed (old new : Device) (layout : Layout) (change : declared.Change) : Type 0 where
-  pub takes : TakesSlot old new layout.side layout.generation (map_after (meant change) (map_in layout.side old))
-  pub spells : SpellsChange (number_written change) (meant change)
+  pub takes : TakesSlot old new layout.side layout.generation (map_after (map_change change) (map_in layout.side old))
+  pub spells : SpellsChange (number_written change) (map_change change)
   pub puts : PutsWord (first_page old.size layout.side + page_of_slot old.size layout.fill) (place_of_slot old.size layout.fill) (Held (number_written change)) old new
   pub marks : KeepsMarks old new
   pub other : IsSameSet (other layout.side) old new
@@ -33,7 +34,7 @@ pub record Pushed (old new : Device) (layout : Layout) (change : declared.Change
 
 -- or power was cut in it
 pub record PushedPartly (old new : Device) (layout : Layout) (change : declared.Change) : Type 0 where
-  pub cut : MayTakeSlot old new layout.side layout.generation (meant change)
+  pub cut : MayTakeSlot old new layout.side layout.generation (map_change change)
   pub begun : PutsPartly (first_page old.size layout.side + page_of_slot old.size layout.fill) (place_of_slot old.size layout.fill) (Held (number_written change)) old new
   pub marks : KeepsMarks old new
   pub other : IsSameSet (other layout.side) old new
@@ -44,11 +45,11 @@ abbrev pub Pushes : {T E : Type 0} → Result T E → Device → Device → Layo
 Pushes (Ok done) old new layout change = Pushed old new layout change
 Pushes (Err cut) old new layout change = PushedPartly old new layout change
 
--- The change stands in the slot, with the marks that come first where the slot begins a page, and this is the layout then.
--- The other set and all wear are as before.
+-- The change stands in the slot, with the marks that come first where the slot begins a page, and
+-- this is the layout then. The other set and all wear are as before.
 pub record ChangeWritten (old new : Device) (layout after : Layout) (change : declared.Change) : Type 0 where
-  pub takes : TakesSlot old new layout.side layout.generation (map_after (meant change) (map_in layout.side old))
-  pub spells : SpellsChange (number_written change) (meant change)
+  pub takes : TakesSlot old new layout.side layout.generation (map_after (map_change change) (map_in layout.side old))
+  pub spells : SpellsChange (number_written change) (map_change change)
   pub drawn : IsDrawn layout.side new (with_change old.size layout.fill (number_written change) (picture_of layout.side old))
   pub layout_is : IsLayout new after
   pub same_set : after.side ≡ layout.side
@@ -58,7 +59,7 @@ pub record ChangeWritten (old new : Device) (layout after : Layout) (change : de
 
 -- or power was cut on the way
 pub record ChangeWrittenPartly (old new : Device) (layout : Layout) (change : declared.Change) : Type 0 where
-  pub cut : MayTakeSlot old new layout.side layout.generation (meant change)
+  pub cut : MayTakeSlot old new layout.side layout.generation (map_change change)
   pub begun : IsDrawnPartly layout.side new (picture_of layout.side old) (with_change old.size layout.fill (number_written change) (picture_of layout.side old))
   pub other : IsSameSet (other layout.side) old new
   pub wear : new.wear ≡ old.wear

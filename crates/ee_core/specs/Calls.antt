@@ -1,5 +1,5 @@
--- What each call of a store answers, and what it leaves: one relation for each, by cases on the answer. Every store keeps
--- them. That of a clear stands in Emptying.
+-- What each call of a store answers, and what it leaves: one relation for each, by cases on the
+-- answer. Every store keeps them. That of a clear stands in Emptying.
 use Rattle.std.specs.Prelude.{◌≡◌, ◌≢◌, ◌<◌, ◌⊎◌, ℕ, ◌-◌, Option, Some, None, Result, Ok, Err, Bool, true, false, List, [], ◌∷◌}
 use Rattle.ee_flash.specs.Device.{Device, IsOff, IsOn, page_at}
 use Rattle.ee_flash.specs.Power.{GoesOn, IsCut}
@@ -9,8 +9,8 @@ use Rattle.ee_pages.specs.Meaning.{Put, Forget}
 use Rattle.ee_pages.specs.Page.{is_blank}
 use Rattle.ee_pages.specs.Sets.{live_of, other}
 use Rattle.ee_pages.specs.declared.side.Side.{Side}
+use Rattle.ee_core.specs.CallSteps.{IsSameBut}
 use Rattle.ee_core.specs.Changes.{Appends, HaveNoGeneration, HaveNoPlace, IsCutChange, IsCutMaking, IsFull, IsSpent, Moves, Proceeds}
-use Rattle.ee_core.specs.Parts.{IsSameBut}
 use Rattle.ee_core.specs.Puts.{HasNew, IsEachOnce, IsFirstTwice, puts_of}
 use Rattle.ee_core.specs.State.{Wears, capacity, pending_pages, state_of, with_pending}
 use Rattle.ee_core.specs.declared.change.Put as listed
@@ -28,8 +28,8 @@ abbrev pub Reads : {E : Type 0} → Device → ℕ → Result (Option ℕ) E →
 Reads device address (Ok value) = IsOn device × (value ≡ (state_of device).map address)
 Reads device address (Err off) = IsOff device
 
--- A write is appended or moved; or it was refused, for the first cause that applies, and nothing changed; or memory ran out
--- for an address that has no value, and nothing changed; or power was cut.
+-- A write is appended or moved; or power was cut; or nothing changed: the first cause that applies
+-- refused it, or memory ran out for an address that has no value.
 abbrev pub Writes : Device → ℕ → ℕ → Result Written WriteFault → Device → Type 0
 Writes old address value (Ok Appended) new = Appends old (Put address value) new
 Writes old address value (Ok Moved) new = Moves old (Put address value ∷ []) new
@@ -54,9 +54,9 @@ AppendsAll old [] new = IsOn old × (new ≡ old)
 AppendsAll old (put ∷ []) new = Appends old (Put put.address put.value) new
 AppendsAll old puts new = ⊥
 
--- A list of values is written whole: of an empty one nothing changes, one value is appended or moved, and several are moved
--- with one transfer. Or the list was refused, for the first cause that applies, and nothing changed; or memory ran out for
--- an address that has no value, and nothing changed; or power was cut, and the map is as it was or has them all.
+-- A list of values is written whole: an empty one changes nothing, one value is appended or moved,
+-- several are moved at once. Or power was cut, and the map is as it was or has them all. Or nothing
+-- changed: the first cause that applies refused it, or memory ran out for an address with no value.
 abbrev pub WritesAll : Device → List listed.Put → Result Written WriteAllFault → Device → Type 0
 WritesAll old puts (Ok Appended) new = AppendsAll old puts new
 WritesAll old puts (Ok Moved) new = IsEachOnce puts × Moves old (puts_of puts) new
@@ -81,7 +81,7 @@ pub record IsLowestPending (device : Device) (page : ℕ) : Type 0 where
   pub waits : IsPending device page
   pub none_lower : (lower : ℕ) → lower < page → ¬ IsPending device lower
 
--- the lowest page that waited was erased, and is blank; the others of those wait still, and each other page is as before
+-- the lowest page that waited was erased and is blank; the others wait; no other page is changed
 pub record ErasesLowest (old new : Device) : Type 0 where
   pub page : ℕ
   pub lowest : IsLowestPending old page
@@ -90,8 +90,8 @@ pub record ErasesLowest (old new : Device) : Type 0 where
   pub others : IsSameBut page old new
   pub wear : Wears (page ∷ []) old new
 
--- the erase of the lowest page that waited was begun: in it each word is as before, erased or torn, and each other page is
--- as before
+-- the erase of the lowest page that waited was begun: in it each word is as before, erased or torn,
+-- and each other page is as before
 pub record KeepsAllButLowest (old new : Device) : Type 0 where
   pub page : ℕ
   pub lowest : IsLowestPending old page

@@ -60,13 +60,13 @@ abbrev pub HasChange : Change → Map → Type 0
 HasChange (Put address value) map = map address ≡ Some value
 HasChange (Forget address) map = map address ≡ None
 
--- how many pages of the set that a transfer leaves wait to be erased then: for one change all, since each slot was used; for
--- several those that are not blank
+-- how many pages of the set that a transfer leaves wait to be erased then: for one change all,
+-- since each slot was used; for several those that are not blank
 abbrev pub pages_left : List Change → Device → ℕ
 pages_left (change ∷ []) device = device.size.pages
 pages_left changes device = used_pages_of device
 
--- a slot was free, and the change stands in it; the same set is live, the same pages wait, and none was erased
+-- a free slot has the change; the same set is live, the same pages wait, and none was erased
 pub record Appends (old : Device) (change : Change) (new : Device) : Type 0 where
   pub proceeds : Proceeds old (change ∷ [])
   pub goes_on : GoesOn old new
@@ -77,8 +77,8 @@ pub record Appends (old : Device) (change : Change) (new : Device) : Type 0 wher
   pub image : OfLive old (λ side generation. ShowsAppended old change new side)
   pub no_wear : new.wear ≡ old.wear
 
--- a transfer was needed, and the map was moved to the other set with the changes; the pages of that set which waited to be
--- erased were erased, each once, and no other
+-- a transfer was needed, and the map was moved to the other set with the changes; the pages of that
+-- set which waited to be erased were erased, each once, and no other
 pub record Moves (old : Device) (changes : List Change) (new : Device) : Type 0 where
   pub proceeds : Proceeds old changes
   pub goes_on : GoesOn old new
@@ -93,13 +93,13 @@ pub record Moves (old : Device) (changes : List Change) (new : Device) : Type 0 
 abbrev pub IsCutAppend : State → Change → State → Type 0
 IsCutAppend old change new = (new ≡ old) ⊎ (new ≡ torn_state old) ⊎ (new ≡ appended_state change old)
 
--- In a transfer, it leaves the state as it was but for the pages that wait to be erased, of which a set has so many, or the
--- map moved with the changes, and so many waiting.
+-- In a transfer, it leaves the state as it was but for the pages that wait to be erased, of which a
+-- set has so many, or the map moved with the changes, and so many waiting.
 abbrev pub IsCutMove : ℕ → ℕ → State → List Change → State → Type 0
 IsCutMove pages left old changes new = ((pending : ℕ) × (pending ≤ pages) × (new ≡ with_pending pending old)) ⊎ (new ≡ moved_state left changes old)
 
--- Power was cut in a change. With a slot free no page was erased; with none free, the pages that waited up to one, or all of
--- them. No more slots were used than there are, so it is the one or the other.
+-- Power was cut in a change. With a slot free no page was erased; with none free, the pages that
+-- waited up to one, or all. No more slots were used than there are, so it is one or the other.
 pub record IsCutChange (old : Device) (change : Change) (new : Device) : Type 0 where
   pub proceeds : Proceeds old (change ∷ [])
   pub cut : IsCut old new

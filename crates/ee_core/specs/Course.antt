@@ -5,8 +5,8 @@ use Rattle.ee_codec.specs.Words.{IsAddress}
 use Rattle.ee_pages.specs.Meaning.{Map}
 use Rattle.ee_pages.specs.LiveOrder.{AreNextLive, IsNoneLive, last_of}
 
--- The address behind which it goes on, the next live addresses that it has ready, with their values, and up to where
--- there are no others: `None` for all addresses.
+-- The address behind which it goes on, the next live addresses that it has ready, with their
+-- values, and up to where there are no others: `None` for all addresses.
 pub record Course : Type 0 where
   pub after : ℕ
   pub ready : List (ℕ × ℕ)

@@ -8,23 +8,25 @@ use Rattle.ee_pages.specs.Page.{is_blank, place_of_mark}
 use Rattle.ee_pages.specs.declared.side.Side.{Side}
 use Rattle.ee_pages.specs.declared.state.Mark.{Mark}
 use Rattle.ee_pages.specs.Sets.{other, page_of_slot}
-use Rattle.ee_core.specs.Parts.{Holds, opened_set}
-use Rattle.ee_core.specs.Picture.{IsDrawn, Picture, blank, filled_set, is_used, marked_word, picture_of, retired_pages}
+use Rattle.ee_core.specs.CallSteps.{Holds, opened_set}
+use Rattle.ee_core.specs.Picture.{IsDrawn, Picture, blank_picture, filled_set, is_used, marked_word, picture_of, retired_pages}
 use Rattle.ee_core.specs.State.{Wears, WearsTo, not_blank_from, not_blank_in}
 
--- A word, when power was cut in a call that programs words: it is as before, or as the whole call leaves it, or torn, where
--- the whole call would have changed it.
+-- A word, when power was cut in a call that programs words: it is as before, or as the whole call
+-- leaves it, or torn, where the whole call would have changed it.
 abbrev pub IsPartlyDone : Word → Word → Word → Type 0
 IsPartlyDone old whole new = (new ≡ old) ⊎ (new ≡ whole) ⊎ ((new ≡ Torn) × (whole ≢ old))
 
--- So is each word of the set, which was drawn as the first picture and would be drawn as the second.
+-- So is each word of the set, which was drawn as the first picture and would be
+-- drawn as the second.
 abbrev pub IsDrawnPartly : Side → Device → Picture → Picture → Type 0
 IsDrawnPartly side device old whole =
     (page at : ℕ) → page < device.size.pages → at < device.size.words → IsPartlyDone (old page at) (whole page at) (picture_of side device page at)
 
--- Power was cut in erasing pages by rising number: those of these that are not blank, where the first has this number. It was
--- cut at one of them, which has worn, as those of them before it have, and no other has. The pages before it are blank; in it
--- each word is as before, erased or torn; and each other page is as before.
+-- Power was cut in erasing pages by rising number: those of these that are not blank, where the
+-- first has this number. It was cut at one of them, which has worn, as those of them before it
+-- have, and no other has. The pages before it are blank; in it each word is as before, erased or
+-- torn; and each other page is as before.
 pub record ErasesPartly (first : ℕ) (pages : List (List Word)) (old new : Device) : Type 0 where
   pub page : ℕ
   pub wear : WearsTo page (not_blank_from first pages) old new
@@ -32,12 +34,13 @@ pub record ErasesPartly (first : ℕ) (pages : List (List Word)) (old new : Devi
   pub here : IsPartlyErased (page_at old page) (page_at new page)
   pub others : (other : ℕ) → (other < first) ⊎ (page < other) → page_at new other ≡ page_at old other
 
--- Power was cut in a transfer, behind its erases: each page of the other set that was not blank has worn, and no other page;
--- in that set each word is erased, as the whole transfer leaves it, or torn; in the set that was live each mark that its page
--- may be erased, if that isn't blank, is as before, set or torn, and each other word is as before.
+-- Power was cut in a transfer, behind its erases: each page of the other set that was not blank has
+-- worn, and no other page; in that set each word is erased, as the whole transfer leaves it, or
+-- torn; in the set that was live each mark that its page may be erased, if that isn't blank, is as
+-- before, set or torn, and each other word is as before.
 pub record MovesPartly (old new : Device) (side : Side) (generation : ℕ) (words : List Word) : Type 0 where
   pub wear : Wears (not_blank_in (other side) old) old new
-  pub new_pages : IsDrawnPartly (other side) new blank (filled_set old.size (generation + 1) words)
+  pub new_pages : IsDrawnPartly (other side) new blank_picture (filled_set old.size (generation + 1) words)
   pub old_pages : IsDrawnPartly side new (picture_of side old) (retired_pages (is_used side old) (picture_of side old))
 
 -- ---- the parts of a call
@@ -45,7 +48,7 @@ pub record MovesPartly (old new : Device) (side : Side) (generation : ℕ) (word
 -- in a transfer, before a mark of the set that was live
 pub record MovesMapPartly (old new : Device) (side : Side) (generation : ℕ) (words : List Word) : Type 0 where
   pub wear : Wears (not_blank_in (other side) old) old new
-  pub new_pages : IsDrawnPartly (other side) new blank (filled_set old.size (generation + 1) words)
+  pub new_pages : IsDrawnPartly (other side) new blank_picture (filled_set old.size (generation + 1) words)
   pub live_pages : IsDrawn side new (picture_of side old)
 
 -- power was cut in programming this word, and each other word is as before
@@ -53,10 +56,11 @@ pub record PutsPartly (page at : ℕ) (word : Word) (old new : Device) : Type 0 
   pub there : IsPartlyDone (word_at old page at) word (word_at new page at)
   pub elsewhere : (other_page place : ℕ) → (other_page ≢ page) ⊎ (place ≢ at) → word_at new other_page place ≡ word_at old other_page place
 
--- a set that is filled with these words: each of its words is erased, as in the set that is filled, or torn
+-- a set that is filled with these words: each of its words is erased, as in the set
+-- that is filled, or torn
 abbrev pub FillsPartly : Device → Side → ℕ → List Word → Type 0
 FillsPartly device side generation words =
-    IsDrawnPartly side device blank (opened_set device.size generation (page_of_slot device.size (length words - 1)) words)
+    IsDrawnPartly side device blank_picture (opened_set device.size generation (page_of_slot device.size (length words - 1)) words)
 
 -- power was cut in adding words to the other set, which held so many
 pub record AddsPartly (old new : Device) (side : Side) (generation count : ℕ) (more : List Word) : Type 0 where

@@ -11,7 +11,8 @@ use Rattle.ee_core.specs.State.{State, Wears, next_live, pending_pages, state_of
 use Rattle.ee_core.specs.declared.variables.ClearFault.{ClearFault}
 use Rattle.ee_core.specs.declared.variables.ClearFault.TheVariants as clear
 
--- nothing has a value, in the next generation, and so many pages of the set that was live wait to be erased
+-- nothing has a value, in the next generation, and so many pages of the set that was
+-- live wait to be erased
 abbrev pub cleared_state : ℕ → State → State
 cleared_state pages state = record { map = λ address. None; fill = 0; generation = state.generation + 1; pending = pages }
 
@@ -21,12 +22,14 @@ pub record MayClear (device : Device) : Type 0 where
   pub used : 0 < (state_of device).fill
   pub not_last : (state_of device).generation ≢ greatest_generation
 
--- what is drawn after a clear: the other set is one with no word, and pages of the set that was live may be erased
+-- what is drawn after a clear: the other set is one with no word, and pages of the set that
+-- was live may be erased
 pub record ShowsCleared (old new : Device) (side : Side) (generation : ℕ) : Type 0 where
   pub new_pages : IsDrawn (other side) new (filled_set old.size (generation + 1) [])
   pub old_pages : IsDrawn side new (retired_pages (is_used side old) (picture_of side old))
 
--- The other set is live, with nothing in it; its pages that waited to be erased were erased, each once, and no other.
+-- The other set is live, with nothing in it; its pages that waited to be erased were erased, each
+-- once, and no other.
 pub record Empties (old new : Device) : Type 0 where
   pub may : MayClear old
   pub goes_on : GoesOn old new
@@ -36,8 +39,8 @@ pub record Empties (old new : Device) : Type 0 where
   pub image : OfLive old (λ side generation. ShowsCleared old new side generation)
   pub wear : Wears (pending_pages old) old new
 
--- Power was cut in a clear: the state is as it was but for the pages that wait to be erased, or nothing has a value. It was
--- cut in erasing the pages of the other set, or behind that.
+-- Power was cut in a clear: the state is as it was but for the pages that wait to be erased, or
+-- nothing has a value. It was cut in erasing the pages of the other set, or behind that.
 pub record IsCutClear (old new : Device) : Type 0 where
   pub may : MayClear old
   pub cut : IsCut old new
@@ -46,8 +49,8 @@ pub record IsCutClear (old new : Device) : Type 0 where
   pub words : OfLive old (λ side generation.
       ErasesPartly (first_page old.size (other side)) (set_of (other side) old) old new ⊎ MovesPartly old new side generation [])
 
--- A clear empties the store, or finds no slot used, and nothing changes; or it was refused, since the device was off or no
--- generation is left, and nothing changed; or power was cut.
+-- A clear empties the store, or finds no slot used, and nothing changes; or it was refused, since
+-- the device was off or no generation is left, and nothing changed; or power was cut.
 abbrev pub Clears : Device → Result Bool ClearFault → Device → Type 0
 Clears old (Ok true) new = Empties old new
 Clears old (Ok false) new = IsOn old × ((state_of old).fill ≡ 0) × (new ≡ old)

@@ -7,11 +7,13 @@ use Rattle.ee_pages.specs.Sets.{fill_of, first_page, live_of, other, page_of_slo
 use Rattle.ee_pages.specs.declared.side.Side.{Side}
 use Rattle.ee_pages.specs.declared.state.Mark.TheVariants.{Active, Erasing, Valid}
 
--- the page of the last used slot of a set, counted from the set's first; its first if no slot is used
+-- the page of the last used slot of a set, counted from the set's first; its first if no slot is
+-- used
 abbrev pub last_used : Device → Side → ℕ
 last_used device side = page_of_slot device.size (fill_of (slots_of (set_of side device)) - 1)
 
--- in this live set the pages before the last used one are marked valid, and that one is marked active
+-- in this live set the pages before the last used one are marked valid, and that one is marked
+-- active
 pub record IsLiveMarked (device : Device) (side : Side) : Type 0 where
   pub valid : (page : ℕ) → page < last_used device side → is_marked device (first_page device.size side + page) Valid ≡ true
   pub active : is_marked device (first_page device.size side + last_used device side) Active ≡ true

@@ -9,7 +9,7 @@ pub mod Calls
 pub mod Openings
 pub mod Rescues
 pub mod Points
-pub mod Parts
+pub mod CallSteps
 pub mod Cuts
 pub mod Appending
 pub mod Transfers
@@ -18,3 +18,4 @@ pub mod Runs
 pub mod PageStates
 pub mod Starts
 pub mod Lookups
+pub mod Known

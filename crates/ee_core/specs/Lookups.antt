@@ -12,7 +12,8 @@ use Rattle.ee_core.specs.declared.change.Put as listed
 abbrev pub slots_by : Layout → Device → List Word
 slots_by layout device = slots_of (set_of layout.side device)
 
--- for a value that is put in a free slot, that it is ready for its address; for a forgetting, nothing more than before
+-- for a value that is put in a free slot, that it is ready for its address; for a forgetting,
+-- nothing more than before
 abbrev pub IsReadyToMake : Type 0 → (ℕ → Type 0) → declared.Change → Type 0
 IsReadyToMake fits ready (kinds.Put address value) = ready address
 IsReadyToMake fits ready (kinds.Forget address value) = fits

@@ -1,4 +1,5 @@
--- The states of the pages after each call that ends whole: each law is proved by the function of its name.
+-- The states of the pages after each call that ends whole: each law is proved by the
+-- function of its name.
 use Rattle.std.specs.Prelude.{◌≡◌, ◌<◌, ℕ, ◌+◌, ◌-◌, ◌==◌, ◌&&◌, not, nat_lt, if◌then◌else◌, Some, List, length}
 use Rattle.ee_flash.specs.Device.{Device, IsFormed, page_at}
 use Rattle.ee_pages.specs.Meaning.{Change, Map, changed_by, live_in}
@@ -26,8 +27,8 @@ state_at side device page = state_of_words (page_at device (first_page device.si
 abbrev pub filled_state : ℕ → ℕ → State
 filled_state last page = if nat_lt page last then Valid else (if page == last then Active else Erased)
 
--- In a live set that was marked up to this page, each page before it is valid; it is active, if nothing says that it is
--- valid already; and each other page is as before.
+-- In a live set that was marked up to this page, each page before it is valid; it is active, if
+-- nothing says that it is valid already; and each other page is as before.
 abbrev pub marked_state : Side → Device → ℕ → ℕ → State
 marked_state side old last page =
     if nat_lt page last then Valid
@@ -41,8 +42,8 @@ StatesAfterAppend =
     → (state_at side new page ≡ marked_state side old (page_of_slot old.size (state_of old).fill) page)
     × (state_at (other side) new page ≡ state_at (other side) old page)
 
--- a transfer fills the other set, as far as the live addresses need; each page of the set that it leaves may be erased, or
--- is blank
+-- a transfer fills the other set, as far as the live addresses need; each page of the set that it
+-- leaves may be erased, or is blank
 abbrev pub StatesAfterTransfer : Type 0
 StatesAfterTransfer =
     (old : Device) (changes : List Change) (new : Device) (side : Side) (generation page : ℕ) → IsStore old → Moves old changes new → AreApart changes
@@ -50,7 +51,8 @@ StatesAfterTransfer =
     → (state_at (other side) new page ≡ filled_state (page_of_slot old.size ((state_of new).fill - 1)) page)
     × (state_at side new page ≡ (if is_left changes side old page then Erasing else Erased))
 
--- an opening marks up to the last used page; and each page of the other set is erased as a whole or may be erased
+-- an opening marks up to the last used page; and each page of the other set is erased as a
+-- whole or may be erased
 abbrev pub StatesAfterOpening : Type 0
 StatesAfterOpening =
     (old new : Device) (side : Side) (generation page : ℕ) → Opens old new → live_of old ≡ Some (side, generation) → page < old.size.pages

@@ -1,4 +1,5 @@
--- What a call leaves, word for word. A set is drawn as a picture: the word at each place of each of its pages.
+-- What a call leaves, word for word. A set is drawn as a picture: the word at each place
+-- of each of its pages.
 use Rattle.std.specs.Prelude.{◌≡◌, ◌<◌, ℕ, ◌+◌, ◌-◌, ◌==◌, ◌&&◌, ◌||◌, Bool, not, nat_lt, nat_le, if◌then◌else◌, Option, Some, None, List, [], ◌∷◌, ◌++◌, length, slice_index_or, zero, suc}
 use Rattle.ee_flash.specs.Device.{Device, page_at, word_at}
 use Rattle.ee_flash.specs.Size.{Size}
@@ -32,8 +33,8 @@ abbrev pub OfLive : Device → (Side → ℕ → Type 0) → Type 0
 OfLive device Holds = (side : Side) × (generation : ℕ) × (live_of device ≡ Some (side, generation)) × Holds side generation
 
 -- a set of blank pages
-abbrev pub blank : Picture
-blank page at = Erased
+abbrev pub blank_picture : Picture
+blank_picture page at = Erased
 
 -- with this word in one place
 abbrev pub picture_with_word : ℕ → ℕ → Word → Picture → Picture
@@ -45,7 +46,8 @@ marked_word mark Erased = Held (number_of_mark mark)
 marked_word mark (Held number) = Held number
 marked_word mark Torn = Torn
 
--- the marks of a live set that is in use up to this page: each page before it is marked valid, and it is marked active
+-- the marks of a live set that is in use up to this page: each page before it is marked valid, and
+-- it is marked active
 abbrev pub marked_to : ℕ → Picture → Picture
 marked_to last picture page at =
     if (at == 2) && nat_lt page last then marked_word Valid (picture page at)
@@ -68,8 +70,9 @@ abbrev pub number_of_change : Map → Change → ℕ
 number_of_change map (Put address value) = element address value
 number_of_change map (Forget address) = forgetting address (value_forgotten (map address))
 
--- Appended, a change stands in the first free slot, so many being used, and the set is marked up to the page of that slot.
--- In a store all of these marks are set already, but for two where that slot is the first of a further page.
+-- Appended, a change stands in the first free slot, so many being used, and the set is marked up to
+-- the page of that slot. In a store all of these marks are set already, but for two where that slot
+-- is the first of a further page.
 abbrev pub with_change : Size → ℕ → ℕ → Picture → Picture
 with_change size fill number picture =
     picture_with_word (page_of_slot size fill) (place_of_slot size fill) (Held number) (marked_to (page_of_slot size fill) picture)
@@ -99,7 +102,8 @@ abbrev pub map_without : List Change → Map → Map
 map_without [] map = map
 map_without (change ∷ changes) map = map_without changes (map_after (Forget (address_of change)) map)
 
--- what a transfer puts into the new set: the elements that are put first, and then those of the other addresses
+-- what a transfer puts into the new set: the elements that are put first, and then those of
+-- the other addresses
 abbrev pub moved_words : List Change → Map → List Word
 moved_words changes map = put_words changes ++ elements_of (map_without changes map)
 
@@ -107,9 +111,10 @@ moved_words changes map = put_words changes ++ elements_of (map_without changes 
 abbrev pub mark_where : Bool → Mark → Word
 mark_where here mark = if here then Held (number_of_mark mark) else Erased
 
--- A set as a transfer or a format leaves it, with these words in its slots. The page of the last of them is the last used
--- one, or the first page where there are none: each page up to it takes elements of this generation, it is marked active
--- and so is the first, those before it are marked valid, and all else is erased.
+-- A set as a transfer or a format leaves it, with these words in its slots. The page of the last of
+-- them is the last used one, or the first page where there are none: each page up to it takes
+-- elements of this generation, it is marked active and so is the first, those before it are marked
+-- valid, and all else is erased.
 abbrev pub filled_set : Size → ℕ → List Word → Picture
 filled_set size generation words page at =
     let last = page_of_slot size (length words - 1) in

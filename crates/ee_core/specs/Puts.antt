@@ -1,4 +1,5 @@
--- Values that are put at once, or addresses that are forgotten: the changes that one transfer carries.
+-- Values that are put at once, or addresses that are forgotten: the changes that one transfer
+-- carries.
 use Rattle.std.specs.Prelude.{◌≡◌, ◌<◌, ◌⊎◌, ℕ, ◌+◌, ◌==◌, Bool, true, false, Option, Some, None, List, [], ◌∷◌, slice_get, take, zero, suc}
 use Rattle.std.specs.List.{list_any}
 use Rattle.ee_codec.specs.Words.{IsAddress}
@@ -17,9 +18,9 @@ forgets_of [] = []
 forgets_of (put ∷ puts) = Forget put.address ∷ forgets_of puts
 
 -- the changes that a transfer carries: either of them
-abbrev pub carried : List listed.Put → Bool → List Change
-carried puts true = forgets_of puts
-carried puts false = puts_of puts
+abbrev pub changes_of_puts : List listed.Put → Bool → List Change
+changes_of_puts puts true = forgets_of puts
+changes_of_puts puts false = puts_of puts
 
 -- the forgettings of so many addresses from this one on, by rising address
 unfoldable pub forgets_from : ℕ → ℕ → List Change

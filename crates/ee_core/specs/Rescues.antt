@@ -12,11 +12,11 @@ use Rattle.ee_pages.specs.Rescue.{bad_words, named_generation, rescued_map, resc
 use Rattle.ee_pages.specs.RescueLaws.{IsHeld, IsNewest, WentBad, IsToldApart, PutsInSet, meaning_without}
 use Rattle.ee_pages.specs.Sets.{first_page, live_of, other, pending_of, set_of, slots_of}
 use Rattle.ee_pages.specs.declared.side.Side.{Side}
+use Rattle.ee_core.specs.CallSteps.{map_in}
 use Rattle.ee_core.specs.Changes.{greatest_generation}
 use Rattle.ee_core.specs.Cuts.{ErasesPartly, MovesPartly}
 use Rattle.ee_core.specs.Finished.{IsStore}
 use Rattle.ee_core.specs.Openings.{IsCutOpening, Opens}
-use Rattle.ee_core.specs.Parts.{map_in}
 use Rattle.ee_core.specs.Picture.{IsDrawn, elements_of, filled_set, is_used, picture_of, retired_pages}
 use Rattle.ee_core.specs.Points.{with_power_on}
 use Rattle.ee_core.specs.State.{Wears, moved_state, not_blank_in, state_of, state_with}
@@ -30,8 +30,8 @@ pub record Rescues (device : Device) (side : Side) (generation : ℕ) : Type 0 w
   pub generation_is : named_generation (set_of side device) ≡ generation
   pub not_last : IsGeneration (generation + 1)
 
--- Its map was moved to the other set, in the generation above: a store, word for word as a transfer leaves one. The other
--- set's pages that were not blank were erased, each once, and no other.
+-- Its map was moved to the other set, in the generation above: a store, word for word as a transfer
+-- leaves one. The other set's pages that were not blank were erased, each once, and no other.
 pub record IsRescued (old : Device) (rescued : Rescued) (new : Device) : Type 0 where
   pub side : Side
   pub generation : ℕ
@@ -52,8 +52,9 @@ pub record HasRescued (old new : Device) : Type 0 where
   pub legal : IsLegal new
   pub map_is : (address : ℕ) → (state_of new).map address ≡ rescued_map old address
 
--- Power was cut in a rescue: in erasing the pages of the other set, or behind that, in each of its steps. The set that is
--- rescued is as before, and the other one commits as it did or not at all; or the map is moved.
+-- Power was cut in a rescue: in erasing the pages of the other set, or behind that, in each of its
+-- steps. The set that is rescued is as before, and the other one commits as it did or not at all;
+-- or the map is moved.
 pub record IsCutRescue (old new : Device) : Type 0 where
   pub side : Side
   pub generation : ℕ
@@ -98,15 +99,17 @@ HeldThroughCuts =
     (old : Device) (side : Side) (generation : ℕ) (cuts : List Device) (new : Device) → IsHeld old side generation → AreCutTries old cuts → IsMadeStore (last_on old cuts) new
     → (address : ℕ) → (state_of new).map address ≡ rescued_map old address
 
--- The word that went bad was the newest element or forgetting of the address, which has what the other slots say.
+-- The word that went bad was the newest element or forgetting of the address, which has what
+-- the other slots say.
 pub record CostsNewest (old new : Device) (side : Side) (page at address : ℕ) : Type 0 where
   pub in_slot : 3 < at
   pub newest : IsNewest (slots_of (set_of side old)) (page * (old.size.words - 4) + (at - 4)) address
   pub map_is : (state_of new).map address ≡ meaning_without (slots_of (set_of side old)) (page * (old.size.words - 4) + (at - 4)) address
 
--- One word of a live set went bad. Openings and rescues are cut, as often as it likes, and one is not: each address has what it
--- had, but for the one of which that word was the newest. Of the two words that commit the set it takes that the set is told
--- apart without them, and that none was cut.
+-- One word of a live set went bad. Openings and rescues are cut, as often as it likes, and
+-- one is not: each address has what it had, but for the one of which that word was the
+-- newest. Of the two words that commit the set it takes that the set is told apart without
+-- them, and that none was cut.
 abbrev pub OneWordCostsNoMore : Type 0
 OneWordCostsNoMore =
     (old changed : Device) (side : Side) (generation page at : ℕ) (word : Word) (cuts : List Device) (new : Device)

@@ -1,5 +1,5 @@
--- Runs of calls of a store, and what holds over each run in which power is not cut: each law is proved by the function of its
--- name.
+-- Runs of calls of a store, and what holds over each run in which power is not cut: each law is
+-- proved by the function of its name.
 use Rattle.std.specs.Prelude.{◌≡◌, ◌+◌, ◌*◌, ◌/◌, ◌<◌, ◌≤◌, ℕ, Bool, true, false, Option, Some, Result, Ok, Err, IfOk, List, [], ◌∷◌}
 use Rattle.std.specs.List.{All, count_by, flat_map}
 use Rattle.ee_flash.specs.Device.{Device, page_at, wear_at}
@@ -78,8 +78,8 @@ pub record IsWholeRun (calls : List Call) (old new : Device) : Type 0 where
   pub run : IsRun calls old new
   pub without_cuts : All (λ call. is_cut call ≡ false) calls
 
--- the changes that the call made: those that were asked for, if the answer is that they were stored; a clear forgets each
--- address
+-- the changes that the call made: those that were asked for, if the answer is that they were
+-- stored; a clear forgets each address
 abbrev pub changes_of_call : Call → List Change
 changes_of_call (Wrote address value (Ok written)) = Put address value ∷ []
 changes_of_call (WroteAll puts (Ok written)) = puts_of puts
@@ -107,14 +107,16 @@ is_single (WroteAll (first ∷ second ∷ more) answer) = false
 is_single (Cleared answer) = false
 is_single call = true
 
--- All wear, and the pages that wait to be erased, are together more by the pages of a set for each transfer, and by none for
--- any other call. It is said of single changes, and where no page was erased as often as can be counted.
+-- All wear, and the pages that wait to be erased, are together more by the pages of a set for each
+-- transfer, and by none for any other call. It is said of single changes, and where no page was
+-- erased as often as can be counted.
 abbrev pub EachTransferErasesASet : Type 0
 EachTransferErasesASet =
     (calls : List Call) (old new : Device) → IsWholeRun calls old new → All (λ call. is_single call ≡ true) calls → CountsWear new
     → total_wear_of new + (state_of new).pending ≡ total_wear_of old + (state_of old).pending + transfers calls * old.size.pages
 
--- With lists of several and clears, which move the map whether the set that it leaves is full or not, they are no more.
+-- With lists of several and clears, which move the map whether the set that it leaves is full or
+-- not, they are no more.
 abbrev pub NoTransferErasesMore : Type 0
 NoTransferErasesMore =
     (calls : List Call) (old new : Device) → IsWholeRun calls old new → CountsWear new
@@ -141,8 +143,9 @@ pub record IsSparePage (device : Device) (page : ℕ) : Type 0 where
   pub in_other : IsPageOf device.size (other side) page
   pub blank : is_blank (page_at device page) ≡ true
 
--- So often at the most was the page erased in a run with so many transfers, by where it stood at the start: in the live
--- set, in the other set with nothing to erase, or in the other set and waiting to be erased.
+-- So often at the most was the page erased in a run with so many transfers, by where it stood at
+-- the start: in the live set, in the other set with nothing to erase, or in the other set and
+-- waiting to be erased.
 pub record WearsAtMost (moves page : ℕ) (old new : Device) : Type 0 where
   pub live : IsLivePage old page → wear_at new page ≤ wear_at old page + (moves + 1) / 2
   pub spare : IsSparePage old page → wear_at new page ≤ wear_at old page + moves / 2
@@ -153,7 +156,8 @@ abbrev pub EachPageWearsEverySecondTransfer : Type 0
 EachPageWearsEverySecondTransfer =
     (calls : List Call) (old new : Device) (page : ℕ) → IsWholeRun calls old new → WearsAtMost (transfers calls) page old new
 
--- So from a legal image in which no page waits, no page is erased more often than every second transfer, rounded up.
+-- So from a legal image in which no page waits, no page is erased more often than every second
+-- transfer, rounded up.
 abbrev pub NoPageWearsMore : Type 0
 NoPageWearsMore =
     (calls : List Call) (old new : Device) (page : ℕ) → IsWholeRun calls old new → IsLegal old → (state_of old).pending ≡ 0
@@ -165,8 +169,8 @@ NoPageWearsMuchMore =
     (calls : List Call) (old new : Device) (page : ℕ) → IsWholeRun calls old new → IsLegal old
     → page < page_count old.size → wear_at new page ≤ wear_at old page + (transfers calls / 2 + 1)
 
--- the map at the end has every change that was answered, in their order, and no other; each read is answered by the map at
--- its point
+-- the map at the end has every change that was answered, in their order, and no other; each read is
+-- answered by the map at its point
 abbrev pub TheStoreIsAMap : Type 0
 TheStoreIsAMap =
     (calls : List Call) (old new : Device) → IsWholeRun calls old new

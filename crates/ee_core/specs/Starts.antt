@@ -19,12 +19,13 @@ use Rattle.ee_core.specs.State.{Wears, formatted_state, state_of}
 use Rattle.ee_core.specs.declared.opening.OpenFault.{OpenFault}
 use Rattle.ee_core.specs.declared.opening.OpenFault.TheVariants.{Scan, Cut}
 
--- no word behind a page's header is held, whatever it would spell: each slot of both sets is erased or torn
+-- no word behind a page's header is held, whatever it would spell: each slot of both
+-- sets is erased or torn
 abbrev pub HoldsNone : Device → Type 0
 HoldsNone device = (page at number : ℕ) → header_words ≤ at → word_at device page at ≢ Held number
 
--- No set is committed, as a scan says by `Unformatted` or `NoLiveSet`, and no slot of either holds a word: no value was ever
--- stored, or none is left.
+-- No set is committed, as a scan says by `Unformatted` or `NoLiveSet`, and no slot of either holds
+-- a word: no value was ever stored, or none is left.
 pub record IsStartable (device : Device) : Type 0 where
   pub uncommitted : (side : Side) → committed_generation (set_of side device) ≡ None
   pub none_held : HoldsNone device
@@ -48,15 +49,16 @@ pub record IsCutStart (old new : Device) : Type 0 where
   pub cut : IsCutFormat old new
   pub starting : IsStarting new
 
--- Why there is no store: the image is neither legal nor startable, and nothing changed; or power was cut, in the first
--- format or in setting a mark.
+-- Why there is no store: the image is neither legal nor startable, and nothing changed; or power
+-- was cut, in the first format or in setting a mark.
 abbrev pub StartFails : Device → OpenFault → Device → Type 0
 StartFails old (Scan fault) new = (¬ IsStartable old) × IsScanFault old fault × (new ≡ old)
 StartFails old Cut new = IsCutStart old new ⊎ IsCutOpening old new
 
 -- ---- the format that both make
 
--- each page that was not blank was erased, once, and no other; a device that can be started stays one
+-- each page that was not blank was erased, once, and no other; a device that can be started stays
+-- one
 pub record AllErased (old new : Device) : Type 0 where
   pub blank : All (λ page. is_blank page ≡ true) new.image
   pub startable : IsStartable old → IsStartable new
@@ -101,8 +103,9 @@ pub record StartsEmpty (device : Device) : Type 0 where
   pub store : (new : Device) → Starts device new → state_of new ≡ formatted_state
   pub no_fault : (fault : OpenFault) (new : Device) → StartFails device fault new → fault ≡ Cut
 
--- A device with no word programmed gets an empty store, however often power is cut in starting it: each start that is cut
--- takes one of the cuts that are left, and the one that isn't gives the store.
+-- A device with no word programmed gets an empty store, however often power is cut in
+-- starting it: each start that is cut takes one of the cuts that are left, and the one that
+-- isn't gives the store.
 abbrev pub StartsEnd : Type 0
 StartsEnd =
     (starts : ℕ) (old new : Device) → IsUnformatted old → AreCutStarts starts old new

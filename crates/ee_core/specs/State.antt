@@ -10,8 +10,8 @@ use Rattle.ee_pages.specs.Page.{is_blank}
 use Rattle.ee_pages.specs.Sets.{fill_of, first_page, live_of, other, pending_of, set_of, slots_of, torn_of}
 use Rattle.ee_pages.specs.declared.side.Side.{Side}
 
--- the value of each address that has one, how many slots are used, the generation of the live set, and how many pages of
--- the other set wait to be erased
+-- the value of each address that has one, how many slots are used, the generation of the live set,
+-- and how many pages of the other set wait to be erased
 pub record State : Type 0 where
   pub map : Map
   pub fill : ℕ
@@ -71,8 +71,8 @@ appended_state change state = record state { map = map_after change state.map; f
 abbrev pub torn_state : State → State
 torn_state state = record state { fill = state.fill + 1 }
 
--- the map, changed, moved to the other set: each address with a value takes a slot, and so many pages of the set that it
--- left wait to be erased
+-- the map, changed, moved to the other set: each address with a value takes a slot, and so many
+-- pages of the set that it left wait to be erased
 abbrev pub moved_state : ℕ → List Change → State → State
 moved_state pages changes state = record {
   map = changed_by changes state.map;
@@ -101,7 +101,7 @@ abbrev pub pending_pages_in : Device → Option (Side × ℕ) → List ℕ
 pending_pages_in device None = []
 pending_pages_in device (Some live) = not_blank_in (other live.0) device
 
--- the pages that wait to be erased: those of the set that is not live which are not blank, by rising number
+-- the pages that wait to be erased: of the set that is not live those not blank, by rising number
 abbrev pub pending_pages : Device → List ℕ
 pending_pages device = pending_pages_in device (live_of device)
 
@@ -121,13 +121,13 @@ abbrev pub worn_by : List ℕ → List ℕ → List ℕ
 worn_by [] wear = wear
 worn_by (page ∷ pages) wear = worn_by pages (slice_set wear page (one_more (slice_index wear page)))
 
--- The pages of the list were erased between, and no other erase was begun: the wear of each page rose by as often as the
--- list names it, up to the greatest count.
+-- The pages of the list were erased between, and no other erase was begun: the wear of each page
+-- rose by as often as the list names it, up to the greatest count.
 pub record Wears (pages : List ℕ) (old new : Device) : Type 0 where
   pub there : All (λ page. page < length old.wear) pages
   pub wear_is : new.wear ≡ worn_by pages old.wear
 
--- So were those before this page of the list, and an erase of this one was begun; those behind it have not worn.
+-- So were those before this page of the list; its erase was begun; those behind it have not worn.
 pub record WearsTo (page : ℕ) (pages : List ℕ) (old new : Device) : Type 0 where
   pub before : List ℕ
   pub behind : List ℕ

@@ -14,10 +14,10 @@ use Rattle.ee_pages.specs.Sets.{first_page, other, page_of_slot, place_of_slot, 
 use Rattle.ee_pages.specs.declared.find.Layout.{Layout}
 use Rattle.ee_pages.specs.declared.side.Side.{Side}
 use Rattle.ee_pages.specs.declared.state.Mark.TheVariants.{Active, Receive}
+use Rattle.ee_core.specs.CallSteps.{AddsWords, HasMoved, Holds, IsCommittedWith, IsSameSet, SetsMark, Stands, map_change, map_in, number_written, opened_set}
 use Rattle.ee_core.specs.Cuts.{AddsPartly, ErasesPartly, FillsPartly, IsDrawnPartly, MovesMapPartly, MovesPartly, PutsPartly, SetsPartly}
 use Rattle.ee_core.specs.Finished.{IsMarked}
-use Rattle.ee_core.specs.Parts.{AddsWords, HasMoved, Holds, IsCommittedWith, IsSameSet, SetsMark, Stands, map_in, meant, number_written, opened_set}
-use Rattle.ee_core.specs.Picture.{IsDrawn, blank, filled_set, is_used, picture_of, retired_pages}
+use Rattle.ee_core.specs.Picture.{IsDrawn, blank_picture, filled_set, is_used, picture_of, retired_pages}
 use Rattle.ee_core.specs.State.{Wears, not_blank_in}
 use Rattle.ee_core.specs.declared.change.Change as declared
 use Rattle.ee_core.specs.declared.copying.Place.{Place}
@@ -34,8 +34,8 @@ pub record IsOpenAt (device : Device) (layout : Layout) (place : Place) : Type 0
   pub filling : IsFilling device (other layout.side) (layout.generation + 1) place.slot
   pub stands : Stands device.size (other layout.side) place
 
--- These words were added to the other set, of which so many slots were written; now this many are, and the set means this
--- map. The live set and all wear are as before.
+-- These words were added to the other set, of which so many slots were written; now this many are,
+-- and the set means this map. The live set and all wear are as before.
 pub record Filled (old new : Device) (layout : Layout) (count : ℕ) (words : List Word) (map : Map) (written : ℕ) : Type 0 where
   pub keeps : KeepsSide old new layout.side
   pub filling : IsFilling new (other layout.side) (layout.generation + 1) written
@@ -55,8 +55,8 @@ abbrev pub Fills : {T E : Type 0} → Result T E → (T → ℕ) → Device → 
 Fills (Ok value) written old new layout count words map = Filled old new layout count words map (written value)
 Fills (Err error) written old new layout count words map = FilledPartly old new layout count words
 
--- in the other set, of which so many slots are written, the page of the next one has its receive word, and all else is as
--- before
+-- in the other set, of which so many slots are written, the page of the next one has its receive
+-- word, and all else is as before
 pub record OpensForSlot (old new : Device) (layout : Layout) (count : ℕ) : Type 0 where
   pub keeps : KeepsSide old new layout.side
   pub filling : IsFilling new (other layout.side) (layout.generation + 1) count
@@ -81,8 +81,8 @@ ReceivesSlot (Err cut) old new layout count = OpensForSlotPartly old new layout 
 pub record PutsInSlot (old new : Device) (layout : Layout) (count : ℕ) (change : declared.Change) : Type 0 where
   pub keeps : KeepsSide old new layout.side
   pub filling : IsFilling new (other layout.side) (layout.generation + 1) (count + 1)
-  pub slot : (number : ℕ) × SpellsChange number (meant change) × (slots_of (set_of (other layout.side) new) ≡ slice_set (slots_of (set_of (other layout.side) old)) count (Held number))
-  pub map_is : (address : ℕ) → map_in (other layout.side) new address ≡ map_after (meant change) (map_in (other layout.side) old) address
+  pub slot : (number : ℕ) × SpellsChange number (map_change change) × (slots_of (set_of (other layout.side) new) ≡ slice_set (slots_of (set_of (other layout.side) old)) count (Held number))
+  pub map_is : (address : ℕ) → map_in (other layout.side) new address ≡ map_after (map_change change) (map_in (other layout.side) old) address
   pub puts : (words : List Word) → length words ≡ count
       → IsDrawn (other layout.side) old (opened_set old.size (layout.generation + 1) (page_of_slot old.size count) words)
       → IsDrawn (other layout.side) new (opened_set old.size (layout.generation + 1) (page_of_slot old.size count) (words ++ (Held (number_written change) ∷ [])))
@@ -101,7 +101,8 @@ ProgramsSlot (Err cut) old new layout count change = PutsInSlotPartly old new la
 
 -- ---- the steps of a transfer
 
--- each page of the other set is blank: those that weren't were erased, each once, and no other; the live set is as before
+-- each page of the other set is blank: those that weren't were erased, each once, and no other; the
+-- live set is as before
 pub record OtherCleared (old new : Device) (side : Side) : Type 0 where
   pub keeps : KeepsSide old new side
   pub blank : All (λ page. is_blank page ≡ true) (set_of (other side) new)
@@ -117,7 +118,8 @@ abbrev pub ClearsOther : {T E : Type 0} → Result T E → Device → Device →
 ClearsOther (Ok done) old new side = OtherCleared old new side
 ClearsOther (Err cut) old new side = OtherClearedPartly old new side
 
--- the other set takes elements of the next generation, and holds none; the live set and all wear are as before
+-- the other set takes elements of the next generation, and holds none; the live set and
+-- all wear are as before
 pub record OtherOpened (old new : Device) (layout : Layout) : Type 0 where
   pub keeps : KeepsSide old new layout.side
   pub opened : IsNewlyOpened new layout
@@ -135,7 +137,8 @@ abbrev pub OpensOther : {T E : Type 0} → Result T E → Device → Device → 
 OpensOther (Ok done) old new layout = OtherOpened old new layout
 OpensOther (Err cut) old new layout = OtherOpenedPartly old new layout
 
--- one mark made the other set, which was filled, the live one; the set that was live and all wear are as before
+-- one mark made the other set, which was filled, the live one; the set that was live and
+-- all wear are as before
 pub record OtherCommitted (old new : Device) (layout : Layout) : Type 0 where
   pub committed : IsCommitted old new (other layout.side) (layout.generation + 1)
   pub same_set : IsSameSet layout.side old new
@@ -147,7 +150,7 @@ pub record OtherCommittedPartly (old new : Device) (layout : Layout) : Type 0 wh
   pub cut : KeepsSide old new layout.side ⊎ IsCommitted old new (other layout.side) (layout.generation + 1)
   pub same_set : IsSameSet layout.side old new
   pub begun : (words : List Word) → Holds old (other layout.side) (layout.generation + 1) words
-      → IsDrawnPartly (other layout.side) new blank (filled_set old.size (layout.generation + 1) words)
+      → IsDrawnPartly (other layout.side) new blank_picture (filled_set old.size (layout.generation + 1) words)
   pub same_size : new.size ≡ old.size
   pub wear : new.wear ≡ old.wear
 
@@ -158,8 +161,9 @@ CommitsOther (Err cut) old new layout = OtherCommittedPartly old new layout
 
 -- ---- the whole map
 
--- The map moved with the changes to the other set, which is committed with these words, one in each of so many slots. Each
--- page of that set that was not blank was erased first. The words of the set that was live are as before.
+-- The map moved with the changes to the other set, which is committed with these words, one in each
+-- of so many slots. Each page of that set that was not blank was erased first. The words of the set
+-- that was live are as before.
 pub record MapMoved (old new : Device) (layout : Layout) (changes : List Change) (words : List Word) (count : ℕ) : Type 0 where
   pub moved : HasMoved old new layout.side layout.generation changes
   pub as_many : count ≡ length words
@@ -168,8 +172,8 @@ pub record MapMoved (old new : Device) (layout : Layout) (changes : List Change)
   pub live_pages : IsDrawn layout.side new (picture_of layout.side old)
   pub wear : Wears (not_blank_in (other layout.side) old) old new
 
--- Or power was cut on the way: in those erases, or behind them, and then the words are as is said; the live set is as
--- before, or the map has moved.
+-- Or power was cut on the way: in those erases, or behind them, and then the words are as is said;
+-- the live set is as before, or the map has moved.
 pub record MapMovedPartly (old new : Device) (layout : Layout) (changes : List Change) (words : List Word) (Leaves : Device → Device → Side → ℕ → List Word → Type 0) : Type 0 where
   pub left : IsOn old
       → ErasesPartly (first_page old.size (other layout.side)) (set_of (other layout.side) old) old new
@@ -181,7 +185,8 @@ abbrev pub MovesMap : {T E : Type 0} → Result T E → (T → ℕ) → Device �
 MovesMap (Ok value) taken old new layout changes words = MapMoved old new layout changes words (taken value)
 MovesMap (Err error) taken old new layout changes words = MapMovedPartly old new layout changes words MovesMapPartly
 
--- The map moved so, and each mark of its new set, and of the pages that wait then, is set. This is the layout then.
+-- The map moved so, and each mark of its new set, and of the pages that wait then, is set. This
+-- is the layout then.
 pub record SetMoved (old new : Device) (layout after : Layout) (changes : List Change) (words : List Word) : Type 0 where
   pub moved : HasMoved old new layout.side layout.generation changes
   pub as_many : after.fill ≡ length words

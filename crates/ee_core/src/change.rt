@@ -2,9 +2,9 @@
 ghost use Rattle.std.specs.Prelude.{◌≡◌, ◌<◌, [], ◌∷◌};
 ghost use Rattle.ee_flash.specs.Device.{all_ones};
 ghost use Rattle.ee_pages.specs.Meaning.{SpellsChange};
+ghost use Rattle.ee_core.specs.CallSteps.{map_change, number_written};
 ghost use Rattle.ee_core.specs.Lookups.{change_of};
-ghost use Rattle.ee_core.specs.Parts.{meant, number_written};
-ghost use Rattle.ee_core.specs.Puts.{carried};
+ghost use Rattle.ee_core.specs.Puts.{changes_of_puts};
 
 use ee_codec::{Address, element_word, forget_word};
 
@@ -32,7 +32,7 @@ pub enum Change {
 impl Change {
     /// What a transfer carries for it: its address with the value, and whether it forgets.
     pub(crate) fn entry(self) -> (Put, bool)
-        ensures carries { carried (result.0 ∷ []) result.1 ≡ meant self ∷ [] }
+        ensures carries { changes_of_puts (result.0 ∷ []) result.1 ≡ map_change self ∷ [] }
         ensures made { change_of result.0 result.1 ≡ self }
     {
         match self {
@@ -44,7 +44,7 @@ impl Change {
     /// The number of the word that spells it, below `u64::MAX`.
     pub(crate) fn word(self) -> u64
         ensures number { result ≡ number_written self }
-        ensures spells { SpellsChange result (meant self) }
+        ensures spells { SpellsChange result (map_change self) }
         ensures below_all_ones { result < all_ones }
     {
         match self {

@@ -1,5 +1,5 @@
-//! The making of changes that nothing refuses: one is appended where a slot is free, and else they are
-//! made with a transfer.
+//! The making of changes that nothing refuses: one is appended where a slot is free, and else they
+//! are made with a transfer.
 ghost use Rattle.std.specs.Prelude.{◌≡◌, ◌<◌, ℕ, [], ◌∷◌, None, OnErr, OnOk};
 ghost use Rattle.ee_codec.specs.Words.{IsAddress};
 ghost use Rattle.ee_flash.specs.Device.{IsOn};
@@ -8,13 +8,13 @@ ghost use Rattle.ee_pages.specs.Layout.{IsLayout};
 ghost use Rattle.ee_pages.specs.Pending.{address_of};
 ghost use Rattle.ee_pages.specs.Sets.{set_of, slots_of};
 ghost use Rattle.ee_core.specs.Appending.{ChangeWritten};
+ghost use Rattle.ee_core.specs.CallSteps.{ForgetsHeld, map_change, map_in};
 ghost use Rattle.ee_core.specs.Changes.{Appends, IsCutChange, IsCutMaking, Moves, NeedsTransfer, Proceeds};
 ghost use Rattle.ee_core.specs.Emptying.{Empties, IsCutClear, MayClear};
 ghost use Rattle.ee_core.specs.Finished.{IsMarked, IsStore};
 ghost use Rattle.ee_core.specs.Lookups.{HasRoomToMake, IsReadyToMake, slots_by};
-ghost use Rattle.ee_core.specs.Parts.{ForgetsHeld, map_in, meant};
 ghost use Rattle.ee_core.specs.Picture.{moved_words};
-ghost use Rattle.ee_core.specs.Puts.{AreApart, carried};
+ghost use Rattle.ee_core.specs.Puts.{AreApart, changes_of_puts};
 ghost use Rattle.ee_core.specs.State.{capacity, state_of};
 ghost use Rattle.ee_core.specs.Transfers.{SetMoved};
 
@@ -27,9 +27,9 @@ use crate::writing::append;
 use ee_flash::{Cut, Flash};
 use ee_pages::Layout;
 
-/// Makes a change to which no refusal applies: in a free slot if there is one, else with a transfer.
-/// The layout and the look-up follow. It stands in both of its callers, so that a write takes fewer
-/// instructions in firmware.
+/// Makes a change to which no refusal applies: in a free slot if there is one, else with a
+/// transfer. The layout and the look-up follow. It stands in both of its callers, so that a write
+/// takes fewer instructions in firmware.
 #[inline(always)]
 pub(crate) fn make_change<F: Flash, L: Lookup>(
     flash: &mut F,
@@ -45,15 +45,15 @@ pub(crate) fn make_change<F: Flash, L: Lookup>(
         layout.old.fill ≡ slot_count (F.device flash.old).size
         → HasRoomToMake (L.fits lookup.old slots) (L.has_room lookup.old slots) change }
     requires marked { IsMarked (F.device flash.old) layout.old.side }
-    requires address { IsAddress (address_of (meant change)) }
-    requires proceeds { Proceeds (F.device flash.old) (meant change ∷ []) }
+    requires address { IsAddress (address_of (map_change change)) }
+    requires proceeds { Proceeds (F.device flash.old) (map_change change ∷ []) }
     requires forgets { ForgetsHeld (state_of (F.device flash.old)).map change }
     ensures appended { result ≡ Ok Written.Appended
-        → Appends (F.device flash.old) (meant change) (F.device flash.new) }
+        → Appends (F.device flash.old) (map_change change) (F.device flash.new) }
     ensures moved { result ≡ Ok Written.Moved
-        → Moves (F.device flash.old) (meant change ∷ []) (F.device flash.new) }
+        → Moves (F.device flash.old) (map_change change ∷ []) (F.device flash.new) }
     ensures cut { OnErr result
-        (IsCutChange (F.device flash.old) (meant change) (F.device flash.new)) }
+        (IsCutChange (F.device flash.old) (map_change change) (F.device flash.new)) }
     ensures store { IsStore (F.device flash.new) }
     ensures layout { IsOn (F.device flash.new) → IsLayout (F.device flash.new) layout.new }
     ensures fits { IsOn (F.device flash.new)
@@ -73,8 +73,8 @@ pub(crate) fn make_change<F: Flash, L: Lookup>(
     }
 }
 
-/// Makes a look-up ready for a value in the first free slot or, where none is free, makes room for it in a transfer. An
-/// `Err`, which only a new address meets, leaves it as it was.
+/// Makes a look-up ready for a value in the first free slot or, where none is free, makes room for
+/// it in a transfer. An `Err`, which only a new address meets, leaves it as it was.
 #[inline(always)]
 pub(crate) fn prepare<F: Flash, L: Lookup>(
     flash: &F,
@@ -108,15 +108,15 @@ pub fn append_change<F: Flash>(
 ) -> Result<(), Cut>
     requires layout { IsLayout (F.device flash.old) layout.old }
     requires marked { IsMarked (F.device flash.old) layout.old.side }
-    requires proceeds { Proceeds (F.device flash.old) (meant change ∷ []) }
+    requires proceeds { Proceeds (F.device flash.old) (map_change change ∷ []) }
     requires forgets { ForgetsHeld (state_of (F.device flash.old)).map change }
     requires free { layout.old.fill < slot_count (F.device flash.old).size }
     ensures appended { OnOk result
-        (Appends (F.device flash.old) (meant change) (F.device flash.new)) }
+        (Appends (F.device flash.old) (map_change change) (F.device flash.new)) }
     ensures written { OnOk result
         (ChangeWritten (F.device flash.old) (F.device flash.new) layout.old layout.new change) }
     ensures cut { OnErr result
-        (IsCutChange (F.device flash.old) (meant change) (F.device flash.new)) }
+        (IsCutChange (F.device flash.old) (map_change change) (F.device flash.new)) }
     ensures store { IsStore (F.device flash.new) }
     ensures layout { IsOn (F.device flash.new) → IsLayout (F.device flash.new) layout.new }
 {
@@ -124,8 +124,9 @@ pub fn append_change<F: Flash>(
     Ok(())
 }
 
-/// Makes changes to which no refusal applies with a transfer that they need, as `move_changes` does, in
-/// a store without an index: it looks for the live addresses in the slots. The layout follows.
+/// Makes changes to which no refusal applies with a transfer that they need, as
+/// `move_changes` does, in a store without an index: it looks for the live addresses in the
+/// slots. The layout follows.
 pub(crate) fn move_unindexed<F: Flash>(
     flash: &mut F,
     layout: &mut Layout,
@@ -133,14 +134,14 @@ pub(crate) fn move_unindexed<F: Flash>(
     forgets: bool,
 ) -> Result<(), Cut>
     requires layout { IsLayout (F.device flash.old) layout.old }
-    requires apart { AreApart (carried puts.now forgets) }
-    requires proceeds { Proceeds (F.device flash.old) (carried puts.now forgets) }
+    requires apart { AreApart (changes_of_puts puts.now forgets) }
+    requires proceeds { Proceeds (F.device flash.old) (changes_of_puts puts.now forgets) }
     requires needed { NeedsTransfer (capacity (F.device flash.old)) (state_of (F.device flash.old))
-        (carried puts.now forgets) }
+        (changes_of_puts puts.now forgets) }
     ensures moved { OnOk result
-        (Moves (F.device flash.old) (carried puts.now forgets) (F.device flash.new)) }
+        (Moves (F.device flash.old) (changes_of_puts puts.now forgets) (F.device flash.new)) }
     ensures cut { OnErr result
-        (IsCutMaking (F.device flash.old) (carried puts.now forgets) (F.device flash.new)) }
+        (IsCutMaking (F.device flash.old) (changes_of_puts puts.now forgets) (F.device flash.new)) }
     ensures store { IsStore (F.device flash.new) }
     ensures layout { IsOn (F.device flash.new) → IsLayout (F.device flash.new) layout.new }
 {
@@ -148,9 +149,9 @@ pub(crate) fn move_unindexed<F: Flash>(
     Ok(())
 }
 
-/// Makes changes to which no refusal applies with a transfer that they need: values that are put, or
-/// the forgettings of their addresses. The cursor, which is before the first, goes over the live addresses.
-/// The layout follows.
+/// Makes changes to which no refusal applies with a transfer that they need: values that are put,
+/// or the forgettings of their addresses. The cursor, which is before the first, goes over the live
+/// addresses. The layout follows.
 pub fn move_changes<F: Flash, C: LiveCursor>(
     flash: &mut F,
     layout: &mut Layout,
@@ -159,20 +160,21 @@ pub fn move_changes<F: Flash, C: LiveCursor>(
     cursor: &mut C,
 ) -> Result<(), Cut>
     requires layout { IsLayout (F.device flash.old) layout.old }
-    requires apart { AreApart (carried puts.now forgets) }
-    requires proceeds { Proceeds (F.device flash.old) (carried puts.now forgets) }
+    requires apart { AreApart (changes_of_puts puts.now forgets) }
+    requires proceeds { Proceeds (F.device flash.old) (changes_of_puts puts.now forgets) }
     requires needed { NeedsTransfer (capacity (F.device flash.old)) (state_of (F.device flash.old))
-        (carried puts.now forgets) }
+        (changes_of_puts puts.now forgets) }
     requires first { C.behind cursor.old ≡ 0 }
     requires over { C.goes_over cursor.old (slots_of (set_of layout.old.side (F.device flash.old))) }
     ensures moved { OnOk result
-        (Moves (F.device flash.old) (carried puts.now forgets) (F.device flash.new)) }
+        (Moves (F.device flash.old) (changes_of_puts puts.now forgets) (F.device flash.new)) }
     ensures set_moved { OnOk result
         (SetMoved (F.device flash.old) (F.device flash.new) layout.old layout.new
-        (carried puts.now forgets)
-        (moved_words (carried puts.now forgets) (map_in layout.old.side (F.device flash.old)))) }
+        (changes_of_puts puts.now forgets)
+        (moved_words (changes_of_puts puts.now forgets)
+        (map_in layout.old.side (F.device flash.old)))) }
     ensures cut { OnErr result
-        (IsCutMaking (F.device flash.old) (carried puts.now forgets) (F.device flash.new)) }
+        (IsCutMaking (F.device flash.old) (changes_of_puts puts.now forgets) (F.device flash.new)) }
     ensures store { IsStore (F.device flash.new) }
     ensures layout { IsOn (F.device flash.new) → IsLayout (F.device flash.new) layout.new }
 {

@@ -6,9 +6,9 @@ ghost use Rattle.ee_pages.specs.Laws.{IsPageOf, KeepsLiveSet};
 ghost use Rattle.ee_pages.specs.Layout.{IsLayout};
 ghost use Rattle.ee_pages.specs.Page.{is_blank};
 ghost use Rattle.ee_pages.specs.Sets.{first_page as first_of, other as other_of, pending_of, set_of};
+ghost use Rattle.ee_core.specs.CallSteps.{ErasesPage};
 ghost use Rattle.ee_core.specs.Calls.{ErasesLowest, KeepsAllButLowest};
 ghost use Rattle.ee_core.specs.Finished.{IsMarked};
-ghost use Rattle.ee_core.specs.Parts.{ErasesPage};
 
 use ee_flash::{Cut, Flash};
 use ee_pages::{Layout, Side, first_page, is_blank as page_is_blank};
@@ -49,6 +49,7 @@ pub fn clean<F: Flash>(flash: &mut F, layout: &Layout) -> Result<bool, Cut>
 pub(crate) fn erase_other<F: Flash>(flash: &mut F, side: Side, page: usize) -> Result<(), Cut>
     requires page { IsPageOf (F.device flash.old).size (other_of side) page }
     requires not_blank { is_blank (page_at (F.device flash.old) page) ≡ false }
+    // At an error power was cut: each word of the page is as before, erased or torn.
     ensures erases { ErasesPage result (F.device flash.old) (F.device flash.new) side page }
     ensures power { Ends result (F.device flash.old) (F.device flash.new) }
 {
@@ -76,7 +77,8 @@ fn first_pending<F: Flash>(flash: &F, side: Side) -> Option<usize>
     None
 }
 
-/// How many pages of a set are not blank, 0 to 64. Those of the set that is not live wait to be erased.
+/// How many pages of a set are not blank, 0 to 64. Those of the set that is not live wait to be
+/// erased.
 ///
 /// Source: ours.
 pub fn count_pending<F: Flash>(flash: &F, side: Side) -> usize

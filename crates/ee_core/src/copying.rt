@@ -8,10 +8,10 @@ ghost use Rattle.ee_pages.specs.Laws.{KeepsSide};
 ghost use Rattle.ee_pages.specs.Meaning.{Put as MapPut, SpellsChange, changed_by, map_after, live_in};
 ghost use Rattle.ee_pages.specs.LiveOrder.{IsNextLive};
 ghost use Rattle.ee_pages.specs.Sets.{other as other_of, set_of, slots_of};
+ghost use Rattle.ee_core.specs.CallSteps.{Stands, map_change, map_in, number_written, replaced_map};
 ghost use Rattle.ee_core.specs.Course.{GoesOver, course_of, last_given};
-ghost use Rattle.ee_core.specs.Parts.{Stands, map_in, meant, number_written, replaced_map};
 ghost use Rattle.ee_core.specs.Picture.{elements_of, map_without, moved_words, put_words};
-ghost use Rattle.ee_core.specs.Puts.{AreApart, carried, names, puts_of};
+ghost use Rattle.ee_core.specs.Puts.{AreApart, changes_of_puts, names, puts_of};
 ghost use Rattle.ee_core.specs.Transfers.{Fills, IsOpenAt, IsNewlyOpened, ProgramsSlot, ReceivesSlot};
 
 use crate::change::{Change, Put};
@@ -22,10 +22,12 @@ use ee_flash::{Cut, Flash, HEADER_WORDS};
 use ee_pages::{Layout, LiveBatch, Mark, first_page, mark, next_batch};
 use std::marker::Model;
 
-/// Goes over the live addresses of a set, by rising address. It looks through the slots once for each
-/// batch.
+/// Goes over the live addresses of a set, by rising address. It looks through the slots
+/// once for each batch.
+///
+/// Source: ours.
 #[derive(Drop)]
-pub(crate) struct Cursor {
+pub struct Cursor {
     batch: LiveBatch,
     /// How many of the batch it gave.
     given: usize,
@@ -45,12 +47,26 @@ impl Cursor {
         ensures first { result.after ≡ 0 }
         ensures over { GoesOver (map_in layout.now.side (F.device flash.now)) result }
     {
-        let mut cursor = Cursor {
+        let mut cursor = Cursor::unread();
+        cursor.begin(flash, layout);
+        cursor
+    }
+
+    /// With nothing read yet, before it begins.
+    pub fn unread() -> Cursor {
+        Cursor {
             batch: LiveBatch::new(),
             given: 0,
-        };
-        next_batch(flash, layout, None, &mut cursor.batch);
-        cursor
+        }
+    }
+
+    /// Begins before the first address of a live set.
+    pub fn begin<F: Flash>(&mut self, flash: &F, layout: &Layout)
+        ensures first { self.new.after ≡ 0 }
+        ensures over { GoesOver (map_in layout.now.side (F.device flash.now)) self.new }
+    {
+        self.given = 0;
+        next_batch(flash, layout, None, &mut self.batch);
     }
 }
 
@@ -123,14 +139,17 @@ pub(crate) fn fill_set<F: Flash, C: LiveCursor>(
     requires opened { IsNewlyOpened (F.device flash.old) layout.now }
     requires first { C.behind cursor.old ≡ 0 }
     requires over { C.goes_over cursor.old (slots_of (set_of layout.now.side (F.device flash.old))) }
-    requires apart { AreApart (carried puts.now forgets) }
-    requires fits { live_in (changed_by (carried puts.now forgets)
+    requires apart { AreApart (changes_of_puts puts.now forgets) }
+    requires fits { live_in (changed_by (changes_of_puts puts.now forgets)
         (map_in layout.now.side (F.device flash.old))) ≤ slot_count (F.device flash.old).size }
+    // At an error power was cut: the words are there in part, and the live set is as before.
     ensures fills { let map = map_in layout.now.side (F.device flash.old) in
         Fills result (λ count. count) (F.device flash.old) (F.device flash.new) layout.now 0
-        (moved_words (carried puts.now forgets) map) (changed_by (carried puts.now forgets) map) }
+        (moved_words (changes_of_puts puts.now forgets) map)
+        (changed_by (changes_of_puts puts.now forgets) map) }
     ensures each_once { IfOk result (λ count. count ≡ live_in
-        (changed_by (carried puts.now forgets) (map_in layout.now.side (F.device flash.old)))) }
+        (changed_by (changes_of_puts puts.now forgets)
+        (map_in layout.now.side (F.device flash.old)))) }
     ensures power { Ends result (F.device flash.old) (F.device flash.new) }
 {
     let first = put_all(flash, layout, values_put(puts, forgets))?;
@@ -143,6 +162,7 @@ pub(crate) fn fill_set<F: Flash, C: LiveCursor>(
 fn put_all<F: Flash>(flash: &mut F, layout: &Layout, puts: &[Put]) -> Result<Place, Cut>
     requires opened { IsNewlyOpened (F.device flash.old) layout.now }
     requires fits { length puts.now ≤ slot_count (F.device flash.old).size }
+    // At an error power was cut: the words are there in part, and the live set is as before.
     ensures fills { Fills result (λ place. place.slot) (F.device flash.old) (F.device flash.new)
         layout.now 0 (put_words (puts_of puts.now)) (changed_by (puts_of puts.now) (λ address. None)) }
     ensures stands { IfOk result
@@ -152,13 +172,13 @@ fn put_all<F: Flash>(flash: &mut F, layout: &Layout, puts: &[Put]) -> Result<Pla
     let mut place = first_place(flash, layout);
     'puts: for put in puts {
         let (address, value) = (put.address, put.value);
-        stage(flash, layout, &mut place, Change::Put { address, value })?;
+        stage_put(flash, layout, &mut place, address, value)?;
     }
     Ok(place)
 }
 
-/// Copies each live address but those of the changes to the other set, from this place on. Gives how
-/// many of its slots are written then.
+/// Copies each live address but those of the changes to the other set, from this place on. Gives
+/// how many of its slots are written then.
 fn copy_others<F: Flash, C: LiveCursor>(
     flash: &mut F,
     layout: &Layout,
@@ -174,6 +194,7 @@ fn copy_others<F: Flash, C: LiveCursor>(
     requires fits { place.slot + length (elements_of
         (map_without (puts_of puts.now) (map_in layout.now.side (F.device flash.old))))
         ≤ slot_count (F.device flash.old).size }
+    // At an error power was cut: the words are there in part, and the live set is as before.
     ensures fills { let map = map_in layout.now.side (F.device flash.old) in
         Fills result (λ all. all) (F.device flash.old) (F.device flash.new) layout.now place.slot
         (elements_of (map_without (puts_of puts.now) map))
@@ -189,8 +210,8 @@ fn copy_others<F: Flash, C: LiveCursor>(
     Ok(place.slot)
 }
 
-/// Copies a live address to this place of the other set, unless it is passed over. The place becomes
-/// that of the next free slot.
+/// Copies a live address to this place of the other set, unless it is passed over. The place
+/// becomes that of the next free slot.
 fn copy_one<F: Flash>(
     flash: &mut F,
     layout: &Layout,
@@ -205,6 +226,7 @@ fn copy_one<F: Flash>(
     ensures at { OnOk result (IsOpenAt (F.device flash.new) layout.now place.new) }
     ensures passed { passed ≡ true → (result ≡ Ok tt) × (place.new ≡ place.old)
         × (F.device flash.new ≡ F.device flash.old) }
+    // At an error power was cut: the words are there in part, and the live set is as before.
     ensures fills { passed ≡ false
         → Fills result (λ done. place.new.slot) (F.device flash.old) (F.device flash.new)
         layout.now place.old.slot (Held (element address value) ∷ [])
@@ -215,8 +237,31 @@ fn copy_one<F: Flash>(
     if passed {
         return Ok(());
     }
-    stage(flash, layout, place, Change::Put { address, value })?;
+    stage_put(flash, layout, place, address, value)?;
     Ok(())
+}
+
+/// Writes an address with its value into this place of the other set, as `stage` does a change.
+/// Both callers hand these over in registers, which makes firmware smaller.
+#[inline(never)]
+fn stage_put<F: Flash>(
+    flash: &mut F,
+    layout: &Layout,
+    place: &mut Place,
+    address: Address,
+    value: u32,
+) -> Result<(), Cut>
+    requires at { IsOpenAt (F.device flash.old) layout.now place.old }
+    requires free { place.old.slot < slot_count (F.device flash.old).size }
+    // At an error power was cut: the words are there in part, and the live set is as before.
+    ensures fills { Fills result (λ done. place.new.slot) (F.device flash.old) (F.device flash.new)
+        layout.now place.old.slot (Held (element address value) ∷ [])
+        (map_after (MapPut address value) (map_in (other_of layout.now.side) (F.device flash.old))) }
+    ensures stands { OnOk result
+        (Stands (F.device flash.new).size (other_of layout.now.side) place.new) }
+    ensures power { Ends result (F.device flash.old) (F.device flash.new) }
+{
+    stage(flash, layout, place, Change::Put { address, value })
 }
 
 /// Writes a change into this place of the other set, its first free slot. A further page gets its
@@ -229,13 +274,14 @@ fn stage<F: Flash>(
 ) -> Result<(), Cut>
     requires at { IsOpenAt (F.device flash.old) layout.now place.old }
     requires free { place.old.slot < slot_count (F.device flash.old).size }
+    // At an error power was cut: the words are there in part, and the live set is as before.
     ensures fills { Fills result (λ done. place.new.slot) (F.device flash.old) (F.device flash.new)
         layout.now place.old.slot (Held (number_written change) ∷ [])
-        (map_after (meant change) (map_in (other_of layout.now.side) (F.device flash.old))) }
+        (map_after (map_change change) (map_in (other_of layout.now.side) (F.device flash.old))) }
     ensures stands { OnOk result
         (Stands (F.device flash.new).size (other_of layout.now.side) place.new) }
     // The change stands in the slot of this number.
-    ensures slot { OnOk result ((number : ℕ) × SpellsChange number (meant change)
+    ensures slot { OnOk result ((number : ℕ) × SpellsChange number (map_change change)
         × (slots_of (set_of (other_of layout.now.side) (F.device flash.new))
         ≡ slice_set (slots_of (set_of (other_of layout.now.side) (F.device flash.old))) place.old.slot
         (Held number))) }
@@ -253,6 +299,7 @@ fn stage<F: Flash>(
 fn receive<F: Flash>(flash: &mut F, layout: &Layout, place: Place) -> Result<(), Cut>
     requires at { IsOpenAt (F.device flash.old) layout.now place }
     requires free { place.slot < slot_count (F.device flash.old).size }
+    // At an error power was cut: the receive word is there, or torn, or not there.
     ensures receives { ReceivesSlot result (F.device flash.old) (F.device flash.new) layout.now
         place.slot }
     ensures power { Ends result (F.device flash.old) (F.device flash.new) }
@@ -265,6 +312,7 @@ fn receive<F: Flash>(flash: &mut F, layout: &Layout, place: Place) -> Result<(),
 fn put_in<F: Flash>(flash: &mut F, layout: &Layout, place: Place, change: Change) -> Result<(), Cut>
     requires at { IsOpenAt (F.device flash.old) layout.now place }
     requires free { place.slot < slot_count (F.device flash.old).size }
+    // At an error power was cut: the slot has the change, or is torn, or as before.
     ensures programs { ProgramsSlot result (F.device flash.old) (F.device flash.new) layout.now
         place.slot change }
     ensures power { Ends result (F.device flash.old) (F.device flash.new) }

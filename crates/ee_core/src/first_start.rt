@@ -6,23 +6,22 @@ ghost use Rattle.ee_pages.specs.Layout.{IsScanFault};
 ghost use Rattle.ee_core.specs.Openings.{IsFormatted};
 ghost use Rattle.ee_core.specs.Starts.{HoldsNone, IsCutStart, IsStartable, StartFails, Starts};
 
-use crate::formatting::write_format;
-use crate::opening::{OpenFault, open};
+use crate::opening::{OpenFault, make_store, open};
 use crate::store::Store;
 use ee_flash::{Cut, Flash, HEADER_WORDS, Word};
 use ee_pages::ScanFault;
 
-/// Opens the store of a device that is on, as `open` does, or makes the first one, as `format` does: on
-/// a device in which no set is committed and no word behind a page's header can be read, torn words
-/// or not. So it is the call to make whenever the device is switched on: a first start in which power
+/// Opens the store of a device that is on, as `open` does, or makes the first one, as `format`
+/// does: on a device in which no set is committed and each word behind a page's header is erased or
+/// torn. So it is the call to make whenever the device is switched on: a first start in which power
 /// is cut is made again, and no word that may be a value is ever erased.
 ///
 /// Source: ours.
 ///
 /// # Errors
 ///
-/// The device and the first `OpenFault` that applies. At a fault of the scan nothing changed. After a
-/// cut the variables are as before: in a first start there are none.
+/// The device and the first `OpenFault` that applies. At a fault of the scan nothing changed. After
+/// a cut the variables are as before: in a first start there are none.
 pub fn start<F: Flash + Drop>(flash: F) -> Result<Store<F>, (F, OpenFault)>
     requires { IsOn (F.device flash) }
     ensures started { IfOk result (Starts (F.device flash)) }
@@ -56,7 +55,7 @@ fn is_startable<F: Flash>(flash: &F, fault: ScanFault) -> bool
     }
 }
 
-/// Whether no word behind a page's header can be read.
+/// Whether each word behind a page's header is erased or torn.
 fn holds_none<F: Flash>(flash: &F) -> bool
     ensures yes { result ≡ true → HoldsNone (F.device flash.now) }
     ensures no { result ≡ false → ¬ HoldsNone (F.device flash.now) }
@@ -94,9 +93,8 @@ fn start_anew<F: Flash + Drop>(flash: F) -> Result<Store<F>, (F, OpenFault)>
     ensures fault { IfErr result (λ failed. failed.1 ≡ OpenFault.Cut) }
     ensures cut { IfErr result (λ failed. IsCutStart (F.device flash) (F.device failed.0)) }
 {
-    let mut flash = flash;
-    match write_format(&mut flash) {
-        Ok(layout) => Ok(Store::of(flash, layout)),
-        Err(Cut) => Err((flash, OpenFault::Cut)),
+    match make_store(flash) {
+        Ok(store) => Ok(store),
+        Err((flash, Cut)) => Err((flash, OpenFault::Cut)),
     }
 }

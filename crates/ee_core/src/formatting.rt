@@ -8,6 +8,7 @@ use ee_pages::{Layout, Mark, Side, is_blank as page_is_blank, mark};
 /// Erases what is not blank, makes the first set the live one with generation 1, and gives the
 /// layout.
 pub(crate) fn write_format<F: Flash>(flash: &mut F) -> Result<Layout, Cut>
+    // At an error power was cut: in the erases, or in the marks behind them.
     ensures writes { WritesFormat result (F.device flash.old) (F.device flash.new) }
     ensures power { Ends result (F.device flash.old) (F.device flash.new) }
 {
@@ -24,6 +25,7 @@ pub(crate) fn write_format<F: Flash>(flash: &mut F) -> Result<Layout, Cut>
 
 /// Erases each page that is not blank, by rising page.
 fn erase_all<F: Flash>(flash: &mut F) -> Result<(), Cut>
+    // At an error power was cut: some pages are erased, and one in part.
     ensures erases { ErasesAll result (F.device flash.old) (F.device flash.new) }
     ensures power { Ends result (F.device flash.old) (F.device flash.new) }
 {

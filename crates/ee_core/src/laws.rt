@@ -1,5 +1,5 @@
-//! Laws of calls of any `Variables` in which power is not cut, over any run of them and of the images
-//! that they leave, and of starts; each the contract of a function that does nothing.
+//! Laws of calls of any `Variables` in which power is not cut, over any run of them and of the
+//! images that they leave, and of starts; each the contract of a function that does nothing.
 ghost use Rattle.ee_core.specs.PageStates.{MovedWordsAreLive, PicturesTellImages, StatesAfterAppend, StatesAfterClean, StatesAfterFormat, StatesAfterOpening, StatesAfterTransfer};
 ghost use Rattle.ee_core.specs.Puts.{ListsAreThere};
 ghost use Rattle.ee_core.specs.Rescues.{HeldThroughCuts, OneWordCostsNoMore, WaitingWordCostsNoMore};
@@ -28,14 +28,14 @@ pub fn clean_runs_erase_sets()
     ensures { CleanRunsEraseSets }
 {}
 
-/// With T transfers a page of the live set is erased (T + 1) / 2 times at the most, one of the other
-/// set T / 2 times if it is blank at the start, and T / 2 + 1 times if it waits to be erased.
+/// With T transfers a page of the live set is erased (T + 1) / 2 times at the most, one of the
+/// other set T / 2 times if it is blank at the start, and T / 2 + 1 times if it waits to be erased.
 pub fn each_page_wears_every_second_transfer()
     ensures { EachPageWearsEverySecondTransfer }
 {}
 
-/// From an image in which no page waits to be erased, no page is erased more often than every second
-/// transfer, rounded up.
+/// From an image in which no page waits to be erased, no page is erased more often than every
+/// second transfer, rounded up.
 pub fn no_page_wears_more()
     ensures { NoPageWearsMore }
 {}
@@ -55,8 +55,8 @@ pub fn lists_are_there()
     ensures { ListsAreThere }
 {}
 
-/// After an append each page before that of its slot is valid, and that one is active, unless a mark
-/// says that it is valid already.
+/// After an append each page before that of its slot is valid, and that one is active, unless a
+/// mark says that it is valid already.
 pub fn states_after_append()
     ensures { StatesAfterAppend }
 {}
@@ -93,7 +93,8 @@ pub fn pictures_tell_images()
     ensures { PicturesTellImages }
 {}
 
-/// A device with no word programmed gets an empty store by `start`, however often power is cut in it.
+/// A device with no word programmed gets an empty store by `start`, however often
+/// power is cut in it.
 pub fn starts_end()
     ensures { StartsEnd }
 {}
@@ -103,9 +104,9 @@ pub fn held_through_cuts()
     ensures { HeldThroughCuts }
 {}
 
-/// One word of a live set that went bad costs its own value, and no more, behind any cuts of rescues
-/// and openings too. Of the two words that commit the set it takes that the other set isn't begun, or
-/// is marked whole, and that no cut came.
+/// One word of a live set that went bad costs its own value, and no more, behind any cuts of
+/// rescues and openings too. Of the two words that commit the set it takes that the other set isn't
+/// begun, or is marked whole, and that no cut came.
 pub fn one_word_costs_no_more()
     ensures { OneWordCostsNoMore }
 {}

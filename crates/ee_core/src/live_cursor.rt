@@ -3,14 +3,14 @@ ghost use Rattle.std.specs.Prelude.{◌≡◌, IfSome, OnSome};
 ghost use Rattle.ee_codec.specs.Words.{IsAddress};
 ghost use Rattle.ee_pages.specs.LiveOrder.{IsNextLive};
 ghost use Rattle.ee_pages.specs.Sets.{set_of, slots_of};
-ghost use Rattle.ee_core.specs.Parts.{map_in};
+ghost use Rattle.ee_core.specs.CallSteps.{map_in};
 
 use ee_codec::Address;
 use ee_flash::Flash;
 use ee_pages::Layout;
 
-/// Goes over the live addresses of a set, by rising address. A transfer copies by it, and each store
-/// has its own.
+/// Goes over the live addresses of a set, by rising address. A transfer copies by it, and
+/// each store has its own.
 pub trait LiveCursor {
     ghost use Rattle.std.specs.Prelude.{ℕ, List};
     ghost use Rattle.ee_flash.specs.declared.word.Word.{Word};

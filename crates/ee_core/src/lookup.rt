@@ -1,4 +1,5 @@
-//! How a store finds values, and makes the changes that nothing refuses: each kind of store has a look-up of its own.
+//! How a store finds values, and makes the changes that nothing refuses: each kind of store has a
+//! look-up of its own.
 ghost use Rattle.std.specs.Prelude.{◌≡◌, ◌<◌, ◌≤◌, ℕ, List, [], ◌∷◌, IfSome, None, OnErr, OnOk, length};
 ghost use Rattle.std.specs.List.{All};
 ghost use Rattle.ee_codec.specs.Words.{IsAddress};
@@ -8,11 +9,11 @@ ghost use Rattle.ee_flash.specs.declared.word.Word.{Word};
 ghost use Rattle.ee_pages.specs.Layout.{IsLayout};
 ghost use Rattle.ee_pages.specs.LiveOrder.{AreLiveThrough, IsNextLive, above_of};
 ghost use Rattle.ee_pages.specs.Meaning.{changed_by, live_in, meaning};
+ghost use Rattle.ee_core.specs.CallSteps.{ForgetsHeld, map_change, map_in};
 ghost use Rattle.ee_core.specs.Changes.{Appends, IsCutChange, IsCutMaking, Moves, NeedsTransfer, Proceeds};
 ghost use Rattle.ee_core.specs.Finished.{IsMarked, IsStore};
 ghost use Rattle.ee_core.specs.Lookups.{HasRoomToMove, IsReadyToMake, slots_by};
-ghost use Rattle.ee_core.specs.Parts.{ForgetsHeld, map_in, meant};
-ghost use Rattle.ee_core.specs.Puts.{AreApart, HasNew, carried, puts_of};
+ghost use Rattle.ee_core.specs.Puts.{AreApart, HasNew, changes_of_puts, puts_of};
 ghost use Rattle.ee_core.specs.State.{capacity, state_of};
 
 use crate::change::{Change, Put};
@@ -28,8 +29,8 @@ use ee_pages::{Layout, LiveBatch, latest, live_count, next_batch, next_live};
 #[derive(Clone, Copy, Debug, PartialEq, Eq)]
 pub struct NoMemory;
 
-/// How a store finds the value of an address. A look-up may keep something in memory, and makes each change itself, so that
-/// what it keeps follows.
+/// How a store finds the value of an address. A look-up may keep something in memory, and makes
+/// each change itself, so that what it keeps follows.
 ///
 /// Source: ours.
 pub trait Lookup {
@@ -61,7 +62,8 @@ pub trait Lookup {
         requires fits { fits self.now (slots_by layout.now (F.device flash.now)) }
         ensures { result ≡ live_in (map_in layout.now.side (F.device flash.now)) };
 
-    /// How many addresses have a value with these values, each of which is of an address of its own.
+    /// How many addresses have a value with these values, each of which is of an
+    /// address of its own.
     fn live_with<F: Flash>(&self, flash: &F, layout: &Layout, puts: &[Put]) -> usize
         requires layout { IsLayout (F.device flash.now) layout.now }
         requires fits { fits self.now (slots_by layout.now (F.device flash.now)) }
@@ -91,7 +93,8 @@ pub trait Lookup {
             result.found.items result.through }
         ensures proper { All (λ found. IsAddress found.0) result.found.items };
 
-    /// Makes ready for a value in the first free slot. An `Err`, which only a new address meets, leaves it as it was.
+    /// Makes ready for a value in the first free slot. An `Err`, which only a new address meets,
+    /// leaves it as it was.
     fn make_ready<F: Flash>(&mut self, flash: &F, layout: &Layout, put: Put) -> Result<(), NoMemory>
         requires layout { IsLayout (F.device flash.now) layout.now }
         requires fits { fits self.old (slots_by layout.now (F.device flash.now)) }
@@ -103,7 +106,8 @@ pub trait Lookup {
         ensures fits { OnErr result
             (fits self.new (slots_by layout.now (F.device flash.now))) };
 
-    /// Makes room for a transfer with these values. An `Err`, which only a new address meets, leaves it as it was.
+    /// Makes room for a transfer with these values. An `Err`, which only a new address meets,
+    /// leaves it as it was.
     fn make_room<F: Flash>(
         &mut self,
         flash: &F,
@@ -124,7 +128,8 @@ pub trait Lookup {
         ensures { (slots : List Word) → ((address : ℕ) → meaning slots address ≡ None)
             → fits self.new slots };
 
-    /// Makes a change to which no refusal applies in the first free slot. The layout and the look-up follow.
+    /// Makes a change to which no refusal applies in the first free slot. The layout and
+    /// the look-up follow.
     fn append<F: Flash>(
         &mut self,
         flash: &mut F,
@@ -135,19 +140,20 @@ pub trait Lookup {
         requires ready { let slots = slots_by layout.old (F.device flash.old) in
             IsReadyToMake (fits self.old slots) (is_ready self.old slots) change }
         requires marked { IsMarked (F.device flash.old) layout.old.side }
-        requires proceeds { Proceeds (F.device flash.old) (meant change ∷ []) }
+        requires proceeds { Proceeds (F.device flash.old) (map_change change ∷ []) }
         requires forgets { ForgetsHeld (state_of (F.device flash.old)).map change }
         requires free { layout.old.fill < slot_count (F.device flash.old).size }
         ensures appended { OnOk result
-            (Appends (F.device flash.old) (meant change) (F.device flash.new)) }
+            (Appends (F.device flash.old) (map_change change) (F.device flash.new)) }
         ensures cut { OnErr result
-            (IsCutChange (F.device flash.old) (meant change) (F.device flash.new)) }
+            (IsCutChange (F.device flash.old) (map_change change) (F.device flash.new)) }
         ensures store { IsStore (F.device flash.new) }
         ensures layout { IsOn (F.device flash.new) → IsLayout (F.device flash.new) layout.new }
         ensures fits { IsOn (F.device flash.new)
             → fits self.new (slots_by layout.new (F.device flash.new)) };
 
-    /// Makes changes to which no refusal applies with a transfer that they need. The layout and the look-up follow.
+    /// Makes changes to which no refusal applies with a transfer that they need. The layout and
+    /// the look-up follow.
     fn transfer<F: Flash>(
         &mut self,
         flash: &mut F,
@@ -158,14 +164,15 @@ pub trait Lookup {
         requires layout { IsLayout (F.device flash.old) layout.old }
         requires room { let slots = slots_by layout.old (F.device flash.old) in
             HasRoomToMove (fits self.old slots) (has_room self.old slots) puts.now forgets }
-        requires apart { AreApart (carried puts.now forgets) }
-        requires proceeds { Proceeds (F.device flash.old) (carried puts.now forgets) }
+        requires apart { AreApart (changes_of_puts puts.now forgets) }
+        requires proceeds { Proceeds (F.device flash.old) (changes_of_puts puts.now forgets) }
         requires needed { NeedsTransfer (capacity (F.device flash.old)) (state_of (F.device flash.old))
-            (carried puts.now forgets) }
+            (changes_of_puts puts.now forgets) }
         ensures moved { OnOk result
-            (Moves (F.device flash.old) (carried puts.now forgets) (F.device flash.new)) }
+            (Moves (F.device flash.old) (changes_of_puts puts.now forgets) (F.device flash.new)) }
         ensures cut { OnErr result
-            (IsCutMaking (F.device flash.old) (carried puts.now forgets) (F.device flash.new)) }
+            (IsCutMaking (F.device flash.old) (changes_of_puts puts.now forgets)
+            (F.device flash.new)) }
         ensures store { IsStore (F.device flash.new) }
         ensures layout { IsOn (F.device flash.new) → IsLayout (F.device flash.new) layout.new }
         ensures fits { IsOn (F.device flash.new)

@@ -1,4 +1,5 @@
-//! The marks that a transfer or a cut left to set: pages used up, the page in use, pages to be erased.
+//! The marks that a transfer or a cut left to set: pages used up, the page in use,
+//! pages to be erased.
 ghost use Rattle.std.specs.Prelude.{◌≡◌, ◌<◌, ◌≤◌, ◌+◌, ◌-◌, OnErr, OnOk, false, not, true};
 ghost use Rattle.ee_flash.specs.Power.{Ends};
 ghost use Rattle.ee_flash.specs.Device.{page_at};
@@ -10,7 +11,7 @@ ghost use Rattle.ee_pages.specs.Sets.{first_page as first, other as other_of};
 ghost use Rattle.ee_core.specs.Finished.{IsLiveMarked, IsMarked, IsOldMarked, last_used};
 ghost use Rattle.ee_core.specs.Cuts.{IsDrawnPartly, SetsPartly};
 ghost use Rattle.ee_core.specs.Openings.{ShowsCutMarks, ShowsMarks};
-ghost use Rattle.ee_core.specs.Parts.{IsSameBut, IsSameSet, KeepsMarks, SetsMark, Stays};
+ghost use Rattle.ee_core.specs.CallSteps.{IsSameBut, IsSameSet, KeepsMarks, SetsMark, Stays};
 ghost use Rattle.ee_core.specs.Picture.{IsDrawn, marked_to, picture_of, retired_pages};
 
 use ee_flash::{Cut, Flash};

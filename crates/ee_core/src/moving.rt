@@ -8,9 +8,9 @@ ghost use Rattle.ee_pages.specs.Filling.{IsFilling};
 ghost use Rattle.ee_pages.specs.Meaning.{changed_by, live_in};
 ghost use Rattle.ee_pages.specs.Page.{is_blank};
 ghost use Rattle.ee_pages.specs.Sets.{other as other_of, set_of, slots_of};
-ghost use Rattle.ee_core.specs.Parts.{IsOlder, map_in};
+ghost use Rattle.ee_core.specs.CallSteps.{IsOlder, map_in};
 ghost use Rattle.ee_core.specs.Picture.{moved_words};
-ghost use Rattle.ee_core.specs.Puts.{AreApart, carried, each_forgotten};
+ghost use Rattle.ee_core.specs.Puts.{AreApart, changes_of_puts, each_forgotten};
 ghost use Rattle.ee_core.specs.Transfers.{ClearsOther, CommitsOther, MovesMap, MovesSet, OpensOther};
 
 use crate::change::Put;
@@ -21,10 +21,10 @@ use crate::marking::finish;
 use ee_flash::{Cut, Flash, HEADER_WORDS};
 use ee_pages::{Layout, Mark, first_page, is_blank as page_is_blank, mark};
 
-/// Moves the map, with values that are put or without their addresses, where these are forgotten, to
-/// the other set, and makes that one live. The cursor, which is before the first, goes over the live
-/// addresses. Of the layout it takes the set, in which any words may stand, and its generation, no
-/// smaller than the one that the set is committed with. The layout follows.
+/// Moves the map, with values that are put or without their addresses, where these are forgotten,
+/// to the other set, and makes that one live. The cursor, which is before the first, goes over the
+/// live addresses. Of the layout it takes the set, in which any words may stand, and its
+/// generation, no smaller than the one that the set is committed with. The layout follows.
 pub(crate) fn transfer<F: Flash, C: LiveCursor>(
     flash: &mut F,
     layout: &mut Layout,
@@ -36,13 +36,14 @@ pub(crate) fn transfer<F: Flash, C: LiveCursor>(
     requires first { C.behind cursor.old ≡ 0 }
     requires over { C.goes_over cursor.old (slots_of (set_of layout.old.side (F.device flash.old))) }
     requires generation { IsGeneration (layout.old.generation + 1) }
-    requires apart { AreApart (carried puts.now forgets) }
-    requires fits { live_in (changed_by (carried puts.now forgets)
+    requires apart { AreApart (changes_of_puts puts.now forgets) }
+    requires fits { live_in (changed_by (changes_of_puts puts.now forgets)
         (map_in layout.old.side (F.device flash.old))) ≤ slot_count (F.device flash.old).size }
     // At an error power was cut: the map has moved, or the set is live as before.
     ensures moves { MovesSet result (λ done. layout.new) (F.device flash.old) (F.device flash.new)
-        layout.old (carried puts.now forgets)
-        (moved_words (carried puts.now forgets) (map_in layout.old.side (F.device flash.old))) }
+        layout.old (changes_of_puts puts.now forgets)
+        (moved_words (changes_of_puts puts.now forgets)
+        (map_in layout.old.side (F.device flash.old))) }
     ensures power { Ends result (F.device flash.old) (F.device flash.new) }
 {
     let count = move_map(flash, layout, puts, forgets, cursor)?;
@@ -66,13 +67,14 @@ pub(crate) fn transfer_by_slots<F: Flash>(
 ) -> Result<(), Cut>
     requires older { IsOlder (F.device flash.old) layout.old.side (layout.old.generation + 1) }
     requires generation { IsGeneration (layout.old.generation + 1) }
-    requires apart { AreApart (carried puts.now forgets) }
-    requires fits { live_in (changed_by (carried puts.now forgets)
+    requires apart { AreApart (changes_of_puts puts.now forgets) }
+    requires fits { live_in (changed_by (changes_of_puts puts.now forgets)
         (map_in layout.old.side (F.device flash.old))) ≤ slot_count (F.device flash.old).size }
     // At an error power was cut: the map has moved, or the set is live as before.
     ensures moves { MovesSet result (λ done. layout.new) (F.device flash.old) (F.device flash.new)
-        layout.old (carried puts.now forgets)
-        (moved_words (carried puts.now forgets) (map_in layout.old.side (F.device flash.old))) }
+        layout.old (changes_of_puts puts.now forgets)
+        (moved_words (changes_of_puts puts.now forgets)
+        (map_in layout.old.side (F.device flash.old))) }
     ensures power { Ends result (F.device flash.old) (F.device flash.new) }
 {
     let mut cursor = Cursor::new(flash, layout);
@@ -80,8 +82,8 @@ pub(crate) fn transfer_by_slots<F: Flash>(
     Ok(())
 }
 
-/// Moves the map, with what it is to carry, to the other set, and makes that one live. Gives how many
-/// slots it takes there.
+/// Moves the map, with what it is to carry, to the other set, and makes that one live. Gives how
+/// many slots it takes there.
 fn move_map<F: Flash, C: LiveCursor>(
     flash: &mut F,
     layout: &Layout,
@@ -93,12 +95,14 @@ fn move_map<F: Flash, C: LiveCursor>(
     requires first { C.behind cursor.old ≡ 0 }
     requires over { C.goes_over cursor.old (slots_of (set_of layout.now.side (F.device flash.old))) }
     requires generation { IsGeneration (layout.now.generation + 1) }
-    requires apart { AreApart (carried puts.now forgets) }
-    requires fits { live_in (changed_by (carried puts.now forgets)
+    requires apart { AreApart (changes_of_puts puts.now forgets) }
+    requires fits { live_in (changed_by (changes_of_puts puts.now forgets)
         (map_in layout.now.side (F.device flash.old))) ≤ slot_count (F.device flash.old).size }
+    // At an error power was cut: the map has moved, or the set is live as before.
     ensures moves { MovesMap result (λ count. count) (F.device flash.old) (F.device flash.new)
-        layout.now (carried puts.now forgets)
-        (moved_words (carried puts.now forgets) (map_in layout.now.side (F.device flash.old))) }
+        layout.now (changes_of_puts puts.now forgets)
+        (moved_words (changes_of_puts puts.now forgets)
+        (map_in layout.now.side (F.device flash.old))) }
     ensures power { Ends result (F.device flash.old) (F.device flash.new) }
 {
     clear(flash, layout)?;
@@ -108,11 +112,12 @@ fn move_map<F: Flash, C: LiveCursor>(
     Ok(count)
 }
 
-/// Makes the other set the live one with nothing in it, as `transfer` does with a map in which nothing
-/// has a value. The layout follows.
+/// Makes the other set the live one with nothing in it, as `transfer` does with a map in which
+/// nothing has a value. The layout follows.
 pub(crate) fn transfer_nothing<F: Flash>(flash: &mut F, layout: &mut Layout) -> Result<(), Cut>
     requires older { IsOlder (F.device flash.old) layout.old.side (layout.old.generation + 1) }
     requires generation { IsGeneration (layout.old.generation + 1) }
+    // At an error power was cut: the map has moved, or the set is live as before.
     ensures moves { MovesSet result (λ done. layout.new) (F.device flash.old) (F.device flash.new)
         layout.old each_forgotten [] }
     ensures power { Ends result (F.device flash.old) (F.device flash.new) }
@@ -133,6 +138,7 @@ pub(crate) fn transfer_nothing<F: Flash>(flash: &mut F, layout: &mut Layout) -> 
 fn move_nothing<F: Flash>(flash: &mut F, layout: &Layout) -> Result<(), Cut>
     requires older { IsOlder (F.device flash.old) layout.now.side (layout.now.generation + 1) }
     requires generation { IsGeneration (layout.now.generation + 1) }
+    // At an error power was cut: the map has moved, or the set is live as before.
     ensures moves { MovesMap result (λ done. 0) (F.device flash.old) (F.device flash.new)
         layout.now each_forgotten [] }
     ensures power { Ends result (F.device flash.old) (F.device flash.new) }
@@ -143,10 +149,11 @@ fn move_nothing<F: Flash>(flash: &mut F, layout: &Layout) -> Result<(), Cut>
     Ok(())
 }
 
-/// Erases each page of the other set that is not blank, by rising page. Like the two below it stands
-/// in both of its callers, so that no code of one is the other's in firmware.
+/// Erases each page of the other set that is not blank, by rising page. Like the two below it
+/// stands in both of its callers, so that no code of one is the other's in firmware.
 #[inline(always)]
 fn clear<F: Flash>(flash: &mut F, layout: &Layout) -> Result<(), Cut>
+    // At an error power was cut: some pages are erased, and one in part.
     ensures clears { ClearsOther result (F.device flash.old) (F.device flash.new) layout.now.side }
     ensures power { Ends result (F.device flash.old) (F.device flash.new) }
 {
@@ -165,6 +172,7 @@ fn open_set<F: Flash>(flash: &mut F, layout: &Layout) -> Result<(), Cut>
     requires generation { IsGeneration (layout.now.generation + 1) }
     requires blank { All (λ page. is_blank page ≡ true)
         (set_of (other_of layout.now.side) (F.device flash.old)) }
+    // At an error power was cut: the other set is open in part, and the live set as before.
     ensures opens { OpensOther result (F.device flash.old) (F.device flash.new) layout.now }
     ensures power { Ends result (F.device flash.old) (F.device flash.new) }
 {

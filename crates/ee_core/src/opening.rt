@@ -1,13 +1,15 @@
 //! How a store comes to be: opened from a legal image, or made anew on any device.
-ghost use Rattle.std.specs.Prelude.{IfErr, IfOk};
+ghost use Rattle.std.specs.Prelude.{IfErr, IfOk, OnOk};
 ghost use Rattle.ee_flash.specs.Device.{IsOn};
+ghost use Rattle.ee_pages.specs.Layout.{IsLayout};
 ghost use Rattle.ee_core.specs.Openings.{IsCutFormat, IsFormatted, OpenFails, Opens};
+ghost use Rattle.ee_core.specs.Starts.{IsStartable, IsStarting};
 
 use crate::formatting::write_format;
 use crate::marking::finish;
 use crate::store::Store;
 use ee_flash::{Cut, Flash};
-use ee_pages::{ScanFault, scan};
+use ee_pages::{Layout, ScanFault, scan};
 
 /// Why a device can't be opened, the first cause that applies.
 ///
@@ -35,13 +37,27 @@ pub fn open<F: Flash + Drop>(flash: F) -> Result<Store<F>, (F, OpenFault)>
         (λ failed. OpenFails (F.device flash) failed.1 (F.device failed.0)) }
 {
     let mut flash = flash;
-    let layout = match scan(&flash) {
+    match open_on(&mut flash) {
+        Ok(layout) => Ok(Store::of(flash, layout)),
+        Err(fault) => Err((flash, fault)),
+    }
+}
+
+/// `open` in place: the layout of the store that the device becomes.
+pub fn open_on<F: Flash>(flash: &mut F) -> Result<Layout, OpenFault>
+    requires { IsOn (F.device flash.old) }
+    ensures opened { OnOk result (Opens (F.device flash.old) (F.device flash.new)) }
+    ensures layout { IfOk result (IsLayout (F.device flash.new)) }
+    ensures failed { IfErr result
+        (λ fault. OpenFails (F.device flash.old) fault (F.device flash.new)) }
+{
+    let layout = match scan(flash) {
         Ok(layout) => layout,
-        Err(fault) => return Err((flash, OpenFault::Scan(fault))),
+        Err(fault) => return Err(OpenFault::Scan(fault)),
     };
-    match finish(&mut flash, &layout) {
-        Ok(()) => Ok(Store::of(flash, layout)),
-        Err(Cut) => Err((flash, OpenFault::Cut)),
+    match finish(flash, &layout) {
+        Ok(()) => Ok(layout),
+        Err(Cut) => Err(OpenFault::Cut),
     }
 }
 
@@ -57,6 +73,18 @@ pub fn format<F: Flash + Drop>(flash: F) -> Result<Store<F>, (F, Cut)>
     requires { IsOn (F.device flash) }
     ensures formatted { IfOk result (IsFormatted (F.device flash)) }
     ensures cut { IfErr result (λ failed. IsCutFormat (F.device flash) (F.device failed.0)) }
+{
+    make_store(flash)
+}
+
+/// Makes a store with nothing in it, as `format` does. A device that can be started stays one, or
+/// is the store, where power is cut.
+pub(crate) fn make_store<F: Flash + Drop>(flash: F) -> Result<Store<F>, (F, Cut)>
+    requires { IsOn (F.device flash) }
+    ensures formatted { IfOk result (IsFormatted (F.device flash)) }
+    ensures cut { IfErr result (λ failed. IsCutFormat (F.device flash) (F.device failed.0)) }
+    ensures starting { IfErr result
+        (λ failed. IsStartable (F.device flash) → IsStarting (F.device failed.0)) }
 {
     let mut flash = flash;
     match write_format(&mut flash) {

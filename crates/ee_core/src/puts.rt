@@ -1,11 +1,12 @@
-//! Lists of values that are put at once: which addresses they have, and whether one has an address twice.
+//! Lists of values that are put at once: which addresses they have, and whether one
+//! has an address twice.
 ghost use Rattle.std.specs.Prelude.{◌≡◌, ◌≤◌, [], IfNone, IfSome, if◌then◌else◌, length};
 ghost use Rattle.std.specs.List.{All};
 ghost use Rattle.ee_codec.specs.Words.{IsAddress};
 ghost use Rattle.ee_flash.specs.Size.{slot_count};
 ghost use Rattle.ee_pages.specs.Layout.{IsLayout};
 ghost use Rattle.ee_pages.specs.Meaning.{changed_by, live_in};
-ghost use Rattle.ee_core.specs.Parts.{map_in};
+ghost use Rattle.ee_core.specs.CallSteps.{map_in};
 ghost use Rattle.ee_core.specs.Puts.{AreApart, IsEachOnce, IsFirstTwice, is_put, puts_of};
 
 use crate::change::Put;

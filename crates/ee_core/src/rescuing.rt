@@ -4,7 +4,7 @@ ghost use Rattle.ee_codec.specs.Words.{IsGeneration};
 ghost use Rattle.ee_flash.specs.Device.{IsOn};
 ghost use Rattle.ee_flash.specs.Power.{Ends};
 ghost use Rattle.ee_pages.specs.Rescue.{bad_words as bad_in};
-ghost use Rattle.ee_core.specs.Parts.{IsOlder, map_in};
+ghost use Rattle.ee_core.specs.CallSteps.{IsOlder, map_in};
 ghost use Rattle.ee_core.specs.Picture.{elements_of};
 ghost use Rattle.ee_core.specs.Rescues.{IsRescued, RescueFails};
 ghost use Rattle.ee_core.specs.Transfers.{MovesSet};

@@ -4,16 +4,17 @@ ghost use Rattle.std.specs.Prelude.{◌≡◌, ◌≢◌, ◌<◌, ◌≤◌, []
 ghost use Rattle.ee_flash.specs.Device.{IsOn};
 ghost use Rattle.ee_pages.specs.Layout.{IsLayout};
 ghost use Rattle.ee_core.specs.Calls.{Writes, WritesAll};
-ghost use Rattle.ee_core.specs.Changes.{IsFull, IsSpent, greatest_generation};
+ghost use Rattle.ee_core.specs.Changes.{greatest_generation};
 ghost use Rattle.ee_core.specs.Finished.{IsStore};
 ghost use Rattle.ee_core.specs.Lookups.{slots_by};
 ghost use Rattle.ee_pages.specs.Meaning.{changed_by, live_in};
 ghost use Rattle.ee_core.specs.Puts.{AreApart, puts_of};
 ghost use Rattle.ee_core.specs.State.{capacity, state_of, torn_slots_of};
 
-use crate::change::{Change, Put};
-use crate::changing::{empty, make_change, prepare};
-use crate::cleaning::{clean, count_pending};
+use crate::change::Put;
+use crate::changing::empty;
+use crate::cleaning::count_pending;
+use crate::known::Known;
 use crate::lookup::{Lookup, Slots};
 use crate::puts::first_twice;
 use crate::variables::{
@@ -27,31 +28,25 @@ use std::marker::Model;
 /// The greatest generation of a set.
 pub const GREATEST_GENERATION: u32 = 4_294_967_294;
 
-/// Variables in a flash device. It keeps in memory where the live set is and how far it is used, and
-/// finds values by a look-up: `Slots` keeps nothing, and reads all else from the flash.
+/// Variables in a flash device. It keeps in memory where the live set is and how far it is used,
+/// and finds values by a look-up: `Slots` keeps nothing, and reads all else from the flash.
 ///
 /// Source: two sets, of which one takes the writes, AN4894; the rest is ours.
 #[derive(Drop)]
 pub struct Store<F: Flash + Drop, L: Lookup + Drop = Slots> {
-    flash: F,
-    layout: Layout,
-    lookup: L,
+    pub(crate) flash: F,
+    pub(crate) known: Known<L>,
 }
 
 impl<F: Flash + Drop, L: Lookup + Drop> Model for Store<F, L> {
-    ghost use Rattle.ee_flash.specs.Device.{Device, IsOn};
-    ghost use Rattle.ee_pages.specs.Layout.{IsLayout};
-    ghost use Rattle.ee_core.specs.Finished.{IsStore};
-    ghost use Rattle.ee_core.specs.Lookups.{slots_by};
+    ghost use Rattle.ee_flash.specs.Device.{Device};
+    ghost use Rattle.ee_core.specs.Known.{Knows};
 
     ghost Value = { Device };
 
     ghost view = { λ store. F.device store.flash };
 
-    ghost invariant = { λ store. IsStore (F.device store.flash)
-        × (IsOn (F.device store.flash) → IsLayout (F.device store.flash) store.layout)
-        × (IsOn (F.device store.flash)
-        → L.fits store.lookup (slots_by store.layout (F.device store.flash))) };
+    ghost invariant = { λ store. Knows L.fits (F.device store.flash) store.known };
 }
 
 impl<F: Flash + Drop> Store<F> {
@@ -61,30 +56,28 @@ impl<F: Flash + Drop> Store<F> {
         requires layout { IsLayout (F.device flash) layout }
         ensures { result ≡ F.device flash }
     {
-        Store::with(flash, layout, Slots)
+        let lookup = Slots;
+        Store {
+            flash,
+            known: Known { layout, lookup },
+        }
     }
 }
 
 impl<F: Flash + Drop, L: Lookup + Drop> Store<F, L> {
-    /// A store of this device, of which this is the layout. It finds values by this look-up.
-    pub(crate) fn with(flash: F, layout: Layout, lookup: L) -> Store<F, L>
-        requires store { IsStore (F.device flash) }
-        requires layout { IsLayout (F.device flash) layout }
-        requires fits { L.fits lookup (slots_by layout (F.device flash)) }
-        ensures { result ≡ F.device flash }
-    {
-        Store {
-            flash,
-            layout,
-            lookup,
-        }
-    }
-
     /// The device, to be looked at.
     pub fn flash(&self) -> &F
         ensures { F.device result.now ≡ self.now }
     {
         &self.flash
+    }
+
+    /// The look-up, to be looked at.
+    pub fn lookup(&self) -> &L
+        ensures { IsOn self.now → ((layout : Layout) × IsLayout self.now layout
+            × L.fits result.now (slots_by layout self.now)) }
+    {
+        &self.known.lookup
     }
 
     /// The device, as it is.
@@ -95,29 +88,20 @@ impl<F: Flash + Drop, L: Lookup + Drop> Store<F, L> {
         self.flash
     }
 
-    /// The device, as it is, its layout and the look-up.
-    pub(crate) fn into_parts(self) -> (F, Layout, L)
-        ensures device { F.device result.0 ≡ self }
-        ensures store { IsStore self }
-        ensures layout { IsOn self → IsLayout self result.1 }
-        ensures fits { IsOn self → L.fits result.2 (slots_by result.1 self) }
-    {
-        (self.flash, self.layout, self.lookup)
-    }
-
-    /// How many slots of the live set are torn, 0 to its fill: words in whose step power was cut. It
-    /// reads each slot once.
+    /// How many slots of the live set are torn, 0 to its fill: words in whose step power was cut.
+    /// It reads each slot once.
     ///
     /// Source: ours.
     pub fn torn_slots(&self) -> usize
         requires { IsOn self.now }
         ensures { result ≡ torn_slots_of self.now }
     {
-        torn_slots(&self.flash, &self.layout)
+        torn_slots(&self.flash, &self.known.layout)
     }
 
     /// Writes the one value of a list.
     fn write_one(&mut self, put: Put) -> Result<Written, WriteAllFault>
+        // At `Ok` all values are there; at `Err` nothing changed, or power was cut: all, or none.
         ensures writes { WritesAll self.old (put ∷ []) result self.new }
         ensures memory { result ≡ Err WriteAllFault.Memory → L.takes_memory }
     {
@@ -135,6 +119,7 @@ impl<F: Flash + Drop, L: Lookup + Drop> Store<F, L> {
     fn write_several(&mut self, puts: &[Put]) -> Result<Written, WriteAllFault>
         requires on { IsOn self.old }
         requires several { 1 < length puts.now }
+        // At `Ok` all values are there; at `Err` nothing changed, or power was cut: all, or none.
         ensures writes { WritesAll self.old puts.now result self.new }
         ensures memory { result ≡ Err WriteAllFault.Memory → L.takes_memory }
     {
@@ -147,20 +132,25 @@ impl<F: Flash + Drop, L: Lookup + Drop> Store<F, L> {
         if self.is_last() {
             return Err(WriteAllFault::Spent);
         }
-        let Ok(()) = self.lookup.make_room(&self.flash, &self.layout, puts) else {
+        let Ok(()) = self
+            .known
+            .lookup
+            .make_room(&self.flash, &self.known.layout, puts)
+        else {
             return Err(WriteAllFault::Memory);
         };
         match self
+            .known
             .lookup
-            .transfer(&mut self.flash, &mut self.layout, puts, false)
+            .transfer(&mut self.flash, &mut self.known.layout, puts, false)
         {
             Ok(()) => Ok(Written::Moved),
             Err(Cut) => Err(WriteAllFault::Cut),
         }
     }
 
-    /// Whether more addresses would have a value than there are slots, with these values, each of which
-    /// is of an address of its own.
+    /// Whether more addresses would have a value than there are slots, with these values, each of
+    /// which is of an address of its own.
     fn is_full_for_all(&self, puts: &[Put]) -> bool
         requires on { IsOn self.now }
         requires apart { AreApart (puts_of puts.now) }
@@ -168,18 +158,12 @@ impl<F: Flash + Drop, L: Lookup + Drop> Store<F, L> {
             MatchBool result (capacity self.now < live) (live ≤ capacity self.now) }
     {
         let slots = self.flash.shape().slots();
-        puts.len() > slots || self.lookup.live_with(&self.flash, &self.layout, puts) > slots
-    }
-
-    /// Whether a write or forgetting must be refused since no generation is left for the transfer
-    /// that it needs.
-    fn is_spent(&self) -> bool
-        requires { IsOn self.now }
-        ensures { MatchBool result (IsSpent (capacity self.now) (state_of self.now))
-            (¬ IsSpent (capacity self.now) (state_of self.now)) }
-    {
-        self.layout.fill == self.flash.shape().slots()
-            && self.layout.generation == GREATEST_GENERATION
+        puts.len() > slots
+            || self
+                .known
+                .lookup
+                .live_with(&self.flash, &self.known.layout, puts)
+                > slots
     }
 
     /// Whether no generation is left for a transfer.
@@ -188,24 +172,7 @@ impl<F: Flash + Drop, L: Lookup + Drop> Store<F, L> {
         ensures { MatchBool result ((state_of self.now).generation ≡ greatest_generation)
             (¬ ((state_of self.now).generation ≡ greatest_generation)) }
     {
-        self.layout.generation == GREATEST_GENERATION
-    }
-
-    /// Whether the address has no value and there is no slot for one more. Live addresses are counted
-    /// only where every slot is used.
-    fn is_full_for(&self, address: Address) -> bool
-        requires { IsOn self.now }
-        ensures { MatchBool result (IsFull (capacity self.now) (state_of self.now) address)
-            (¬ IsFull (capacity self.now) (state_of self.now) address) }
-    {
-        let slots = self.flash.shape().slots();
-        if self.layout.fill < slots {
-            return false;
-        }
-        match self.lookup.value_of(&self.flash, &self.layout, address) {
-            Some(_) => false,
-            None => self.lookup.live_count(&self.flash, &self.layout) == slots,
-        }
+        self.known.layout.generation == GREATEST_GENERATION
     }
 }
 
@@ -223,47 +190,21 @@ impl<F: Flash + Drop, L: Lookup + Drop> Variables for Store<F, L> {
     }
 
     fn read(&self, address: Address) -> Result<Option<u32>, Off> {
-        if !self.flash.is_on() {
-            return Err(Off);
-        }
-        Ok(self.lookup.value_of(&self.flash, &self.layout, address))
+        self.known.read(&self.flash, address)
     }
 
     #[inline(always)]
     fn write(&mut self, address: Address, value: u32) -> Result<Written, WriteFault>
+        // At `Ok` the change is appended or moved; at `Err` nothing changed, or power was cut.
         ensures writes { Writes self.old address value result self.new }
         // With a look-up that takes no memory it never runs out of it.
         ensures memory { result ≡ Err WriteFault.Memory → L.takes_memory }
     {
-        if !self.flash.is_on() {
-            return Err(WriteFault::Off);
-        }
-        if self.is_full_for(address) {
-            return Err(WriteFault::Full);
-        }
-        if self.is_spent() {
-            return Err(WriteFault::Spent);
-        }
-        let Ok(()) = prepare(
-            &self.flash,
-            &self.layout,
-            &mut self.lookup,
-            Put { address, value },
-        ) else {
-            return Err(WriteFault::Memory);
-        };
-        match make_change(
-            &mut self.flash,
-            &mut self.layout,
-            &mut self.lookup,
-            Change::Put { address, value },
-        ) {
-            Ok(written) => Ok(written),
-            Err(Cut) => Err(WriteFault::Cut),
-        }
+        self.known.write(&mut self.flash, address, value)
     }
 
     fn write_all(&mut self, changes: &[Put]) -> Result<Written, WriteAllFault>
+        // At `Ok` all values are there; at `Err` nothing changed, or power was cut: all, or none.
         ensures writes { WritesAll self.old changes.now result self.new }
         // With a look-up that takes no memory it never runs out of it.
         ensures memory { result ≡ Err WriteAllFault.Memory → L.takes_memory }
@@ -281,39 +222,22 @@ impl<F: Flash + Drop, L: Lookup + Drop> Variables for Store<F, L> {
     }
 
     fn forget(&mut self, address: Address) -> Result<Written, ForgetFault> {
-        if !self.flash.is_on() {
-            return Err(ForgetFault::Off);
-        }
-        let Some(value) = self.lookup.value_of(&self.flash, &self.layout, address) else {
-            return Err(ForgetFault::Absent);
-        };
-        if self.is_spent() {
-            return Err(ForgetFault::Spent);
-        }
-        match make_change(
-            &mut self.flash,
-            &mut self.layout,
-            &mut self.lookup,
-            Change::Forget { address, value },
-        ) {
-            Ok(written) => Ok(written),
-            Err(Cut) => Err(ForgetFault::Cut),
-        }
+        self.known.forget(&mut self.flash, address)
     }
 
     fn clear(&mut self) -> Result<bool, ClearFault> {
         if !self.flash.is_on() {
             return Err(ClearFault::Off);
         }
-        if self.layout.fill == 0 {
+        if self.known.layout.fill == 0 {
             return Ok(false);
         }
         if self.is_last() {
             return Err(ClearFault::Spent);
         }
-        match empty(&mut self.flash, &mut self.layout) {
+        match empty(&mut self.flash, &mut self.known.layout) {
             Ok(()) => {
-                self.lookup.find_nothing();
+                self.known.lookup.find_nothing();
                 Ok(true)
             }
             Err(Cut) => Err(ClearFault::Cut),
@@ -321,36 +245,36 @@ impl<F: Flash + Drop, L: Lookup + Drop> Variables for Store<F, L> {
     }
 
     fn clean_step(&mut self) -> Result<bool, WriteFault> {
-        if !self.flash.is_on() {
-            return Err(WriteFault::Off);
-        }
-        match clean(&mut self.flash, &self.layout) {
-            Ok(erased) => Ok(erased),
-            Err(Cut) => Err(WriteFault::Cut),
-        }
+        self.known.clean_step(&mut self.flash)
     }
 
     fn pending(&self) -> usize {
-        count_pending(&self.flash, self.layout.side.other())
+        count_pending(&self.flash, self.known.layout.side.other())
     }
 
     fn fill(&self) -> usize {
-        self.layout.fill
+        self.known.layout.fill
     }
 
     fn generation(&self) -> u32 {
-        self.layout.generation
+        self.known.layout.generation
     }
 
     fn live_count(&self) -> usize {
-        self.lookup.live_count(&self.flash, &self.layout)
+        self.known
+            .lookup
+            .live_count(&self.flash, &self.known.layout)
     }
 
     fn next_live(&self, after: Option<Address>) -> Option<(Address, u32)> {
-        self.lookup.next_live(&self.flash, &self.layout, after)
+        self.known
+            .lookup
+            .next_live(&self.flash, &self.known.layout, after)
     }
 
     fn next_batch(&self, after: Option<Address>) -> LiveBatch {
-        self.lookup.next_batch(&self.flash, &self.layout, after)
+        self.known
+            .lookup
+            .next_batch(&self.flash, &self.known.layout, after)
     }
 }

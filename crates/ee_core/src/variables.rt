@@ -50,15 +50,16 @@ pub enum WriteFault {
     Cut,
 }
 
-/// Why no value of a list is written, the first cause that applies. All but `Cut` leave the device as
-/// it was.
+/// Why no value of a list is written, the first cause that applies. All but `Cut` leave
+/// the device as it was.
 ///
 /// Source: ours.
 #[derive(Clone, Copy, Debug, PartialEq, Eq)]
 pub enum WriteAllFault {
     /// The device is off.
     Off,
-    /// An address is listed twice: the first entry, counted from 0, whose address an earlier one has.
+    /// An address is listed twice: the first entry, counted from 0, whose address an earlier one
+    /// has.
     Twice(usize),
     /// More addresses would have a value than there are slots.
     Full,
@@ -71,7 +72,8 @@ pub enum WriteAllFault {
     Cut,
 }
 
-/// Why nothing is forgotten, the first cause that applies. All but `Cut` leave the device as it was.
+/// Why nothing is forgotten, the first cause that applies. All but `Cut` leave the device as it
+/// was.
 ///
 /// Source: ours.
 #[derive(Clone, Copy, Debug, PartialEq, Eq)]
@@ -111,8 +113,8 @@ pub trait Variables {
     /// The device that keeps them, as a value.
     ghost device: { Self → Device };
 
-    /// The slots of a set, 1 to 32512: as many changes as it takes, and as many addresses can have a
-    /// value.
+    /// The slots of a set, 1 to 32512: as many changes as it takes, and as many
+    /// addresses can have a value.
     fn slots(&self) -> usize
         ensures slots { result ≡ slot_count (device self.now).size }
         ensures store { IsStore (device self.now) };
@@ -128,6 +130,7 @@ pub trait Variables {
     ///
     /// `Off`: the device is off.
     fn read(&self, address: Address) -> Result<Option<u32>, Off>
+        // At `Ok` it is the map's value; at `Err` the device is off.
         ensures { Reads (device self.now) address result };
 
     /// Writes a value, also one that the address has already.
@@ -136,16 +139,18 @@ pub trait Variables {
     ///
     /// The first `WriteFault` that applies.
     fn write(&mut self, address: Address, value: u32) -> Result<Written, WriteFault>
+        // At `Ok` the change is appended or moved; at `Err` nothing changed, or power was cut.
         ensures { Writes (device self.old) address value result (device self.new) };
 
-    /// Writes these values at once: after this call, and after a cut in it too, the map has all of them
-    /// or is as it was. A list of one is written as by `write`; for more the live set moves to the other
-    /// set, whether a slot is free or not.
+    /// Writes these values at once: after this call, and after a cut in it too, the map has all of
+    /// them or is as it was. A list of one is written as by `write`; for more the live set moves to
+    /// the other set, whether a slot is free or not.
     ///
     /// # Errors
     ///
     /// The first `WriteAllFault` that applies.
     fn write_all(&mut self, changes: &[Put]) -> Result<Written, WriteAllFault>
+        // At `Ok` all values are there; at `Err` nothing changed, or power was cut: all, or none.
         ensures { WritesAll (device self.old) changes.now result (device self.new) };
 
     /// Takes the value of an address away.
@@ -154,17 +159,19 @@ pub trait Variables {
     ///
     /// The first `ForgetFault` that applies.
     fn forget(&mut self, address: Address) -> Result<Written, ForgetFault>
+        // At `Ok` the address has no value; at `Err` nothing changed, or power was cut.
         ensures { Forgets (device self.old) address result (device self.new) };
 
-    /// Takes the values of all addresses away at once: after this call, and after a cut in it too, none
-    /// has a value or all have theirs. `false` if no slot is used: then it takes no step. Else the
-    /// other set becomes the live one with nothing in it. The words of the old values stay in the
-    /// flash until their set is erased.
+    /// Takes the values of all addresses away at once: after this call, and after a cut in it too,
+    /// none has a value or all have theirs. `false` if no slot is used: then it takes no step. Else
+    /// the other set becomes the live one with nothing in it. The words of the old values stay in
+    /// the flash until their set is erased.
     ///
     /// # Errors
     ///
     /// The first `ClearFault` that applies.
     fn clear(&mut self) -> Result<bool, ClearFault>
+        // At `true` nothing has a value; at `false` and `Err` nothing changed, or power was cut.
         ensures { Clears (device self.old) result (device self.new) };
 
     /// Erases the lowest page of the other set that is not blank. `false` if there is none.
@@ -173,6 +180,7 @@ pub trait Variables {
     ///
     /// `WriteFault::Off` or `WriteFault::Cut`, and no other.
     fn clean_step(&mut self) -> Result<bool, WriteFault>
+        // At `true` one page is erased; at `false` and `Err` nothing changed, or power was cut.
         ensures { Cleans (device self.old) result (device self.new) };
 
     /// How many pages of the other set are not blank, 0 to 64.
@@ -202,8 +210,8 @@ pub trait Variables {
         ensures next { IsNextLive (state_of (device self.now)).map (above_of after) result }
         ensures proper { IfSome result (λ found. IsAddress found.0) };
 
-    /// The next addresses above `after`, or the first of all if `after` is `None`, that have a value,
-    /// with their values: as many as one look through the slots gives.
+    /// The next addresses above `after`, or the first of all if `after` is `None`, that have a
+    /// value, with their values: as many as one look through the slots gives.
     fn next_batch(&self, after: Option<Address>) -> LiveBatch
         requires { IsOn (device self.now) }
         ensures live { AreLiveThrough (state_of (device self.now)).map (above_of after)

@@ -5,9 +5,9 @@ ghost use Rattle.ee_flash.specs.Size.{slot_count};
 ghost use Rattle.ee_pages.specs.Layout.{IsLayout};
 ghost use Rattle.ee_pages.specs.Sets.{first_page as first_of, other as other_of, page_of_slot, place_of_slot};
 ghost use Rattle.ee_core.specs.Appending.{Pushes, WritesChange};
+ghost use Rattle.ee_core.specs.CallSteps.{IsReady, IsSameSet, Stays};
 ghost use Rattle.ee_core.specs.Cuts.{IsDrawnPartly};
 ghost use Rattle.ee_core.specs.Finished.{IsMarked};
-ghost use Rattle.ee_core.specs.Parts.{IsReady, IsSameSet, Stays};
 ghost use Rattle.ee_core.specs.Picture.{IsDrawn, marked_to, picture_of};
 
 use crate::change::Change;
@@ -39,8 +39,8 @@ pub(crate) fn append<F: Flash>(
     Ok(())
 }
 
-/// The page of the first free slot, and the slot's place in it. The layout has the page in use, so that
-/// this takes no division.
+/// The page of the first free slot, and the slot's place in it. The layout has the page in use, so
+/// that this takes no division.
 #[inline(always)]
 fn free_slot<F: Flash>(flash: &F, layout: &Layout) -> (usize, usize)
     requires layout { IsLayout (F.device flash.now) layout.now }
@@ -57,8 +57,8 @@ fn free_slot<F: Flash>(flash: &F, layout: &Layout) -> (usize, usize)
     (layout.current, HEADER_WORDS + used)
 }
 
-/// Marks the page of the first free slot, which is this one, as the one that is used, if it is a further
-/// one, and the page before it as used up.
+/// Marks the page of the first free slot, which is this one, as the one that is used, if it is a
+/// further one, and the page before it as used up.
 #[inline(always)]
 fn open_page<F: Flash>(flash: &mut F, layout: &Layout, page: usize) -> Result<(), Cut>
     requires layout { IsLayout (F.device flash.old) layout.now }
@@ -89,7 +89,8 @@ fn open_page<F: Flash>(flash: &mut F, layout: &Layout, page: usize) -> Result<()
     Ok(())
 }
 
-/// Programs a change into the first free slot of the live set, which stands in this place of this page.
+/// Programs a change into the first free slot of the live set, which stands in this
+/// place of this page.
 #[inline(always)]
 fn push<F: Flash>(
     flash: &mut F,

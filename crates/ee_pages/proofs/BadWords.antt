@@ -10,7 +10,7 @@ use Rattle.ee_flash.specs.declared.word.Word.{Word}
 use Rattle.ee_flash.specs.declared.word.Word.TheVariants.{Erased, Held, Torn}
 use Rattle.ee_codec.specs.Reading.{mark_of, receive_of}
 use Rattle.ee_pages.specs.Legal.{IsLive}
-use Rattle.ee_pages.specs.Meaning.{latest_in, later, meaning, says, value_said}
+use Rattle.ee_pages.specs.Meaning.{latest_in, later_of, meaning, says, value_said}
 use Rattle.ee_pages.specs.Page.{is_written, word_in}
 use Rattle.ee_pages.specs.Rescue.{has_begun, is_left_behind, named_generation, rescued_map, rescued_side}
 use Rattle.ee_pages.specs.RescueLaws.{IsHeld, WentBad, IsToldApart, LosesASet, LosesNewest, PutsInSet, meaning_without}
@@ -29,19 +29,19 @@ use Rattle.ee_pages.proofs.Rescues.{begun, by_rules, held_is_rescued_side, map_r
 
 silent_set : (slots : List Word) (slot : ℕ) (word : Word) (address : ℕ) → says word address ≡ None → slot < length slots → latest_in (set slots slot word) address ≡ latest_in (take slot slots ++ drop (suc slot) slots) address
 silent_set [] slot word address silent h = absurd (omega arith)
-silent_set (old ∷ slots) zero word address silent h = ap (λ said. later said (latest_in slots address)) silent ∙ later-none (latest_in slots address)
-silent_set (old ∷ slots) (suc slot) word address silent h = ap (later (says old address)) (silent_set slots slot word address silent (omega arith))
+silent_set (old ∷ slots) zero word address silent h = ap (λ said. later_of said (latest_in slots address)) silent ∙ later-none (latest_in slots address)
+silent_set (old ∷ slots) (suc slot) word address silent h = ap (later_of (says old address)) (silent_set slots slot word address silent (omega arith))
 
-either_said : (before here behind : Option (Option ℕ)) → (later before behind ≡ later before (later here behind)) ⊎ ((behind ≡ None) × (here ≡ None → ⊥))
+either_said : (before here behind : Option (Option ℕ)) → (later_of before behind ≡ later_of before (later_of here behind)) ⊎ ((behind ≡ None) × (here ≡ None → ⊥))
 either_said before here (Some said) = inl refl
 either_said before None None = inl refl
 either_said before (Some said) None = inr (refl, λ e. absurd (cc e))
 
-split_said : (slots : List Word) (slot address : ℕ) → slot < length slots → latest_in slots address ≡ later (latest_in (take slot slots) address) (later (says (get_or slots slot Erased) address) (latest_in (drop (suc slot) slots) address))
+split_said : (slots : List Word) (slot address : ℕ) → slot < length slots → latest_in slots address ≡ later_of (latest_in (take slot slots) address) (later_of (says (get_or slots slot Erased) address) (latest_in (drop (suc slot) slots) address))
 split_said slots slot address h =
     ap (λ (all : List Word). latest_in all address) (sym (take-append-drop slot slots))
     ∙ latest_in-append (take slot slots) (drop slot slots) address
-    ∙ ap (λ (rest : List Word). later (latest_in (take slot slots) address) (latest_in rest address)) (drop-cons slots slot Erased h)
+    ∙ ap (λ (rest : List Word). later_of (latest_in (take slot slots) address) (latest_in rest address)) (drop-cons slots slot Erased h)
 
 any_set : {X : Type 0} (p : X → Bool) (xs : List X) (k : ℕ) (y d : X) → p y ≡ p (get_or xs k d) → list_any p (set xs k y) ≡ list_any p xs
 any_set p [] k y d e = refl
@@ -176,16 +176,21 @@ module _ (old new : Device) (side : Side) (generation page at : ℕ) (word : Wor
 
       slot_costs_its_value : 3 < at → (rescued_map new address ≡ meaning (slots_of mine) address) ⊎ LosesNewest old new side page at address
       slot_costs_its_value high =
-          let slots = slots_of mine in let slot = page * (old.size.words - 4) + (at - 4) in
-          let few : at - 4 < old.size.words - 4 = omega (arith, puts.at_in_range, high) in let next : suc slot ≡ slot + 1 = omega arith in let place : at ≡ 4 + (at - 4) = omega (arith, high) in
+          let slots = slots_of mine in
+          let slot = page * (old.size.words - 4) + (at - 4) in
+          let few : at - 4 < old.size.words - 4 = omega (arith, puts.at_in_range, high) in
+          let next : suc slot ≡ slot + 1 = omega arith in
+          let place : at ≡ 4 + (at - 4) = omega (arith, high) in
           let within : slot < length slots = omega (arith, row_within side old page (at - 4 + 1) live.formed puts.page_in_range (omega (arith, few))) in
           let there = puts.there ∙ ap (λ n. with_word_in mine page n word) place in
           let now : slots_of (set_of side new) ≡ set slots slot word = ap slots_of there ∙ slots-slot old.size.words mine page (at - 4) slot word (pages-set_of side old live.formed) in_set few refl in
           let without : latest_in (set slots slot word) address ≡ latest_in (take slot slots ++ drop (slot + 1) slots) address =
           silent_set slots slot word address (bad.silent high address) within ∙ ap (λ n. latest_in (take slot slots ++ drop n slots) address) next in
           let map_is : rescued_map new address ≡ meaning_without slots slot address = map_rescued new side is address ∙ ap (λ (all : List Word). meaning all address) now ∙ ap value_said without in
-          let behind = latest_in (drop (slot + 1) slots) address in let before = latest_in (take slot slots) address in let here = says (get_or slots slot Erased) address in
-          let all : latest_in slots address ≡ later before (later here behind) = split_said slots slot address within ∙ ap (λ n. later before (later here (latest_in (drop n slots) address))) next in
+          let behind = latest_in (drop (slot + 1) slots) address in
+          let before = latest_in (take slot slots) address in
+          let here = says (get_or slots slot Erased) address in
+          let all : latest_in slots address ≡ later_of before (later_of here behind) = split_said slots slot address within ∙ ap (λ n. later_of before (later_of here (latest_in (drop n slots) address))) next in
           elim (either_said before here behind) [
             | inl same ↦ inl (map_is ∙ ap value_said (latest_in-append (take slot slots) (drop (slot + 1) slots) address ∙ same ∙ sym all))
             | inr newest ↦ inr (record { in_slot = high; newest = record { says_nothing_later = newest.0; says_something = newest.1 }; map_is = map_is })

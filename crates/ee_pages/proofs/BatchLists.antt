@@ -10,7 +10,7 @@ use Rattle.std.specs.Prelude.{◌==◌}
 use Rattle.ee_codec.specs.Reading.{slot_of}
 use Rattle.ee_codec.specs.Words.{IsAddress, element}
 use Rattle.ee_flash.specs.declared.word.Word.TheVariants.{Held}
-use Rattle.ee_pages.specs.Nearest.{IsOfAddress, Named, item_by, last_named, living, named_by, slot_names}
+use Rattle.ee_pages.specs.Nearest.{IsOfAddress, Named, item_by, last_named, live_values, named_by, slot_names}
 use Rattle.ee_pages.proofs.Nearest.{last_is}
 use Rattle.ee_pages.proofs.SetPrograms.{take_of_set}
 
@@ -63,23 +63,23 @@ names_by number name names = elim (cases_lt 0 (number % 2 ^ 16)) [
 
 -- ---- those that give a value
 
-pub living-append : (xs ys : List Named) → living (xs ++ ys) ≡ living xs ++ living ys
+pub living-append : (xs ys : List Named) → live_values (xs ++ ys) ≡ live_values xs ++ live_values ys
 living-append [] ys = refl
 living-append ((address, Some value) ∷ xs) ys = ap (λ (l : List (ℕ × ℕ)). (address, value) ∷ l) (living-append xs ys)
 living-append ((address, None) ∷ xs) ys = living-append xs ys
 
-lives_by : (number : ℕ) → number / 2 ^ 16 % 2 ^ 16 ≡ 0 → living (named_by number ∷ []) ≡ item_by number ∷ []
+lives_by : (number : ℕ) → number / 2 ^ 16 % 2 ^ 16 ≡ 0 → live_values (named_by number ∷ []) ≡ item_by number ∷ []
 lives_by number zeroth = rw (eq-eqb (number / 2 ^ 16 % 2 ^ 16) 0 zeroth) refl
 
-dies_by : (number : ℕ) → (number / 2 ^ 16 % 2 ^ 16 ≡ 0 → ⊥) → living (named_by number ∷ []) ≡ []
+dies_by : (number : ℕ) → (number / 2 ^ 16 % 2 ^ 16 ≡ 0 → ⊥) → live_values (named_by number ∷ []) ≡ []
 dies_by number other = rw (ne_eqb (number / 2 ^ 16 % 2 ^ 16) 0 other) refl
 
 -- at the next place, with those before it that give a value moved to the front
-module _ (old now : List ℕ) (place kept : ℕ) (few : place < length old) (so_far : map item_by (take kept now) ≡ living (map named_by (take place old))) (rest : drop place now ≡ drop place old) (long : length now ≡ length old) (low : kept ≤ place) where
-  one_more : living (map named_by (take (place + 1) old)) ≡ living (map named_by (take place old)) ++ living (named_by (get_or old place 0) ∷ [])
+module _ (old now : List ℕ) (place kept : ℕ) (few : place < length old) (so_far : map item_by (take kept now) ≡ live_values (map named_by (take place old))) (rest : drop place now ≡ drop place old) (long : length now ≡ length old) (low : kept ≤ place) where
+  one_more : live_values (map named_by (take (place + 1) old)) ≡ live_values (map named_by (take place old)) ++ live_values (named_by (get_or old place 0) ∷ [])
   one_more =
-      ap (λ (l : List ℕ). living (map named_by l)) (take_more old place 0 few)
-      ∙ ap living (map-append named_by (take place old) (get_or old place 0 ∷ []))
+      ap (λ (l : List ℕ). live_values (map named_by l)) (take_more old place 0 few)
+      ∙ ap live_values (map-append named_by (take place old) (get_or old place 0 ∷ []))
       ∙ living-append (map named_by (take place old)) (named_by (get_or old place 0) ∷ [])
 
   module _ (number : ℕ) (is : number ≡ get_or now place 0) where
@@ -91,23 +91,23 @@ module _ (old now : List ℕ) (place kept : ℕ) (few : place < length old) (so_
         ∙ ap (λ (l : List ℕ). get_or l 0 0) rest
         ∙ get_or-drop place old 0 0 ∙ ap (λ n. get_or old n 0) at
 
-    pub one_dies : (live : Bool) → live ≡ (number / 2 ^ 16 % 2 ^ 16 == 0) → live ≡ false → map item_by (take kept now) ≡ living (map named_by (take (place + 1) old))
+    pub one_dies : (live : Bool) → live ≡ (number / 2 ^ 16 % 2 ^ 16 == 0) → live ≡ false → map item_by (take kept now) ≡ live_values (map named_by (take (place + 1) old))
     one_dies live live_is dies =
         let other = eqb-false (number / 2 ^ 16 % 2 ^ 16) 0 (sym live_is ∙ dies) in
         so_far
-        ∙ sym (append-nil (living (map named_by (take place old))))
-        ∙ ap (λ (l : List (ℕ × ℕ)). living (map named_by (take place old)) ++ l) (sym (dies_by number other))
-        ∙ ap (λ n. living (map named_by (take place old)) ++ living (named_by n ∷ [])) is_old
+        ∙ sym (append-nil (live_values (map named_by (take place old))))
+        ∙ ap (λ (l : List (ℕ × ℕ)). live_values (map named_by (take place old)) ++ l) (sym (dies_by number other))
+        ∙ ap (λ n. live_values (map named_by (take place old)) ++ live_values (named_by n ∷ [])) is_old
         ∙ sym one_more
 
-    pub one_lives : (live : Bool) → live ≡ (number / 2 ^ 16 % 2 ^ 16 == 0) → live ≡ true → map item_by (take (kept + 1) (set now kept number)) ≡ living (map named_by (take (place + 1) old))
+    pub one_lives : (live : Bool) → live ≡ (number / 2 ^ 16 % 2 ^ 16 == 0) → live ≡ true → map item_by (take (kept + 1) (set now kept number)) ≡ live_values (map named_by (take (place + 1) old))
     one_lives live live_is lives =
         let zeroth = eqb-true (number / 2 ^ 16 % 2 ^ 16) 0 (sym live_is ∙ lives) in
         ap (map item_by) (take_more_set now kept number (omega (arith, long, low, few)))
         ∙ map-append item_by (take kept now) (number ∷ [])
         ∙ ap (λ (l : List (ℕ × ℕ)). l ++ item_by number ∷ []) so_far
-        ∙ ap (λ (l : List (ℕ × ℕ)). living (map named_by (take place old)) ++ l) (sym (lives_by number zeroth))
-        ∙ ap (λ n. living (map named_by (take place old)) ++ living (named_by n ∷ [])) is_old
+        ∙ ap (λ (l : List (ℕ × ℕ)). live_values (map named_by (take place old)) ++ l) (sym (lives_by number zeroth))
+        ∙ ap (λ n. live_values (map named_by (take place old)) ++ live_values (named_by n ∷ [])) is_old
         ∙ sym one_more
 
     pub rest_stays : drop (place + 1) (set now kept number) ≡ drop (place + 1) old
@@ -197,7 +197,8 @@ pub put_among : (room count place end number : ℕ) (numbers new_numbers : List 
     → take end new_numbers ≡ take end (insert numbers place number)
     → map named_by (take end new_numbers) ≡ take room (insert (map named_by (take count numbers)) place (named_by number))
 put_among room count place end number numbers new_numbers within few fits grows full put =
-    let all = map named_by numbers in let whole = insert all place (named_by number) in
+    let all = map named_by numbers in
+    let whole = insert all place (named_by number) in
     let cut : take end whole ≡ take room (take (suc count) whole) = elim (cases_lt count room) [
       | inl less ↦ ap (λ n. take n whole) (let e : end ≡ suc count = omega (arith, grows less) in e) ∙ sym (take-take_high room (suc count) whole (omega arith))
       | inr more ↦ let same : count ≡ room = omega arith in ap (λ n. take n whole) (full same) ∙ sym (take-take_low room (suc count) whole (omega arith))

@@ -17,7 +17,7 @@ use Rattle.ee_pages.specs.Filling.{IsCommitted, IsFilling}
 use Rattle.ee_pages.specs.Laws.{IsPageOf, KeepsLiveSet, KeepsSide}
 use Rattle.ee_pages.specs.Legal.{IsLive, is_allowed, is_allowed_at}
 use Rattle.ee_pages.specs.Page.{marking, word_in}
-use Rattle.ee_pages.specs.Sets.{committed_generation, first_page, front, greater, is_mark, live_of, other, set_of, slots_of, word_of}
+use Rattle.ee_pages.specs.Sets.{committed_generation, first_page, front, greater_set, is_mark, live_of, other, set_of, slots_of, word_of}
 use Rattle.ee_pages.specs.declared.side.Side.{Side}
 use Rattle.ee_pages.specs.declared.side.Side.TheVariants.{First, Second}
 use Rattle.ee_pages.specs.declared.state.Mark.TheVariants.{Active}
@@ -31,11 +31,11 @@ abbrev generation_in : Option (Side × ℕ) → ℕ
 generation_in None = 0
 generation_in (Some live) = live.1
 
-only_first : (first : Option ℕ) (generation : ℕ) → greater first None ≡ Some (First, generation) → first ≡ Some generation
+only_first : (first : Option ℕ) (generation : ℕ) → greater_set first None ≡ Some (First, generation) → first ≡ Some generation
 only_first None generation e = cc
 only_first (Some first) generation e = let same : first ≡ generation = ap generation_in e in ap Some same
 
-only_second : (second : Option ℕ) (generation : ℕ) → greater None second ≡ Some (Second, generation) → second ≡ Some generation
+only_second : (second : Option ℕ) (generation : ℕ) → greater_set None second ≡ Some (Second, generation) → second ≡ Some generation
 only_second None generation e = cc
 only_second (Some second) generation e = let same : second ≡ generation = ap generation_in e in ap Some same
 

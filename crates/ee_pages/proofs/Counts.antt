@@ -18,7 +18,8 @@ live_to-suc map n = refl
 gap : (map : Map) (n k : ℕ) → ((address : ℕ) → n < address → address ≤ n + k → map address ≡ None) → live_to map (n + k) ≡ live_to map n
 gap map n zero none = ap (live_to map) (let e : n + 0 ≡ n = omega arith in e)
 gap map n (suc k) none =
-    let e : n + suc k ≡ suc (n + k) = omega arith in let here : map (suc (n + k)) ≡ None = none (suc (n + k)) (omega arith) (omega arith) in
+    let e : n + suc k ≡ suc (n + k) = omega arith in
+    let here : map (suc (n + k)) ≡ None = none (suc (n + k)) (omega arith) (omega arith) in
     let rest : live_to map (n + k) ≡ live_to map n = gap map n k (λ address low high. none address low (omega arith)) in
     ap (live_to map) e ∙ live_to-suc map (n + k) ∙ rw here (omega (arith, rest))
 
@@ -29,18 +30,21 @@ gap_to map n m h none =
 
 pub live_to-next : (map : Map) (above address value : ℕ) → IsNextLive map above (Some (address, value)) → live_to map address ≡ live_to map above + 1
 live_to-next map above address value next =
-    let e : address ≡ suc (address - 1) = omega (arith, next.0) in let here : map (suc (address - 1)) ≡ Some value = subst (λ n. map n ≡ Some value) e next.1 in
+    let e : address ≡ suc (address - 1) = omega (arith, next.0) in
+    let here : map (suc (address - 1)) ≡ Some value = subst (λ n. map n ≡ Some value) e next.1 in
     let before = gap_to map above (address - 1) (omega (arith, next.0)) (λ k low high. next.2 k low (omega (arith, next.0))) in
     ap (live_to map) e ∙ live_to-suc map (address - 1) ∙ rw here (omega (arith, before))
 
 pub live_to-end : (map : Map) (above : ℕ) → above < 65535 → IsNextLive map above None → live_to map 65534 ≡ live_to map above
 live_to-end map above h none = gap_to map above 65534 (omega arith) (λ k low high. none k low)
 
--- a batch of live addresses: as many more have a value, each address is at least one further, and the last one is proper
+-- a batch of live addresses: as many more have a value, each address is at least one further, and
+-- the last one is proper
 pub live_to-batch : (map : Map) (found : List (ℕ × ℕ)) (above : ℕ) → AreNextLive map above found → live_to map (last_of above found) ≡ live_to map above + length found
 live_to-batch map [] above next = omega arith
 live_to-batch map (first ∷ more) above next =
-    let one = live_to-next map above first.0 first.1 next.0 in let rest = live_to-batch map more first.0 next.1 in
+    let one = live_to-next map above first.0 first.1 next.0 in
+    let rest = live_to-batch map more first.0 next.1 in
     omega (arith, one, rest)
 
 pub last_rises : (map : Map) (found : List (ℕ × ℕ)) (above : ℕ) → AreNextLive map above found → above + length found ≤ last_of above found

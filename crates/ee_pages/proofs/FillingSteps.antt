@@ -38,8 +38,11 @@ pub stages_change : (change : Change) (number : ℕ) (old new : Device) (side : 
     × (slots_of (set_of side new) ≡ slice_set (slots_of (set_of side old)) count (Held number))
     × ((address : ℕ) → meaning (slots_of (set_of side new)) address ≡ map_after change (meaning (slots_of (set_of side old))) address)
 stages_change change number old new side generation count filling room spells taken done =
-    let slots = slots_of (set_of side old) in let k = page_of_slot old.size count in let at = place_of_slot old.size count in
-    let in_range = page_in_range old count room in let size = (step_changes_one_page _ old new taken).same_size in
+    let slots = slots_of (set_of side old) in
+    let k = page_of_slot old.size count in
+    let at = place_of_slot old.size count in
+    let in_range = page_in_range old count room in
+    let size = (step_changes_one_page _ old new taken).same_size in
     let put : set_of side new ≡ with_word_in (set_of side old) k at (Held number) = whole_in_set side old new k at number in_range taken done in
     let written = subst (IsSlotWritten old generation count (Held number) (set_of side old)) (sym put) (change_written side old generation taken.formed filling.allowed count filling.fill room change number spells) in (
       record {
@@ -67,7 +70,8 @@ opens_page page old new side generation count proper filling in_range behind tak
       let two : Erased ≡ Held (receive generation) = sym free ∙ filling.receives in
       absurd (cc two)
   | inr further ↦
-      let word = Held (receive generation) in let size = (step_changes_one_page _ old new taken).same_size in
+      let word = Held (receive generation) in
+      let size = (step_changes_one_page _ old new taken).same_size in
       let put : set_of side new ≡ with_word_in (set_of side old) page 0 word = whole_in_set side old new page 0 (receive generation) in_range taken done in
       let written = subst (IsHeaderWritten old generation page 0 word (set_of side old)) (sym put)
       (header_written side old generation taken.formed filling.allowed page 0 word in_range (omega arith) (omega (arith, behind, filling.fill))
@@ -109,7 +113,9 @@ pub opens_set : (old new : Device) (side : Side) (generation : ℕ) → IsGenera
     → let step = marking (first_page old.size side) (Receive generation) in IsStep step old new → new ≡ device_after step old
     → IsFilling new side generation 0 × ((address : ℕ) → meaning (slots_of (set_of side new)) address ≡ None)
 opens_set old new side generation proper blank taken done =
-    let word = Held (receive generation) in let size = (step_changes_one_page _ old new taken).same_size in let some = taken.formed.within_limits.some_pages in
+    let word = Held (receive generation) in
+    let size = (step_changes_one_page _ old new taken).same_size in
+    let some = taken.formed.within_limits.some_pages in
     let from : first_page old.size side ≡ first_page old.size side + 0 = omega arith in
     let moved : IsStep (Program (first_page old.size side + 0) 0 (receive generation)) old new = subst (λ n. IsStep (Program n 0 (receive generation)) old new) from taken in
     let whole : new ≡ device_after (Program (first_page old.size side + 0) 0 (receive generation)) old = subst (λ n. new ≡ device_after (Program n 0 (receive generation)) old) from done in

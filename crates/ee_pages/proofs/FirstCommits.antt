@@ -68,5 +68,6 @@ pub first_commit_commits : (old new : Device) (side : Side) (generation count : 
     → committed_generation (set_of (other side) old) ≡ None → let step = marking (first_page old.size side) Active in IsStep step old new → new ≡ device_after step old
     → IsCommitted old new side generation × (set_of (other side) new ≡ set_of (other side) old)
 first_commit_commits old new side generation count filling proper alone taken whole =
-    let some : 0 < generation = omega (arith, proper.0) in let below : generation < 4294967295 = omega (arith, proper.1) in
+    let some : 0 < generation = omega (arith, proper.0) in
+    let below : generation < 4294967295 = omega (arith, proper.1) in
     (first_commits old new side generation count filling some below alone taken (ap (λ (device : Device). device.image) whole), other_set_stays old new side generation count filling some below alone taken)

@@ -36,12 +36,15 @@ module _ (side : Side) (device : Device) (generation : ℕ) (formed : IsFormed d
   -- a word that fits, with every slot before its page written
   pub header_written : (k at : ℕ) (word : Word) → k < device.size.pages → at < 4 → k * (device.size.words - 4) ≤ fill_of (slots_of (set_of side device)) → fits generation (place_of k at) word ≡ true → IsHeaderWritten device generation k at word (set_of side device) (with_word_in (set_of side device) k at word)
   header_written k at word below header behind fit =
-      let pages = set_of side device in let in_range : k < length pages = omega (arith, length-set_of side device formed) in
+      let pages = set_of side device in
+      let in_range : k < length pages = omega (arith, length-set_of side device formed) in
       let long = All-get_or (λ page. length page ≡ device.size.words) pages k [] in_range (pages-set_of side device formed) in
-      let inside : at < length (get_or pages k []) = omega (arith, long, formed.within_limits.some_words) in let slots = slots-header pages k at word header in
+      let inside : at < length (get_or pages k []) = omega (arith, long, formed.within_limits.some_words) in
+      let slots = slots-header pages k at word header in
       let there = word-there pages k at word in_range inside in
       let elsewhere = λ (page place : ℕ) (apart : (page ≢ k) ⊎ (place ≢ at)). word-elsewhere pages k at word page place in_range apart in
-      let same : front (slots_of (with_word_in pages k at word)) ≡ front (slots_of pages) = ap front slots in let filled = fill-front side device generation formed obeyed in
+      let same : front (slots_of (with_word_in pages k at word)) ≡ front (slots_of pages) = ap front slots in
+      let filled = fill-front side device generation formed obeyed in
       record {
         slots = slots;
         obeyed = still_obeyed device.size generation k at pages (with_word_in pages k at word) obeyed (omega (arith, same)) elsewhere

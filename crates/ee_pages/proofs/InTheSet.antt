@@ -1,4 +1,5 @@
--- A word put into a page of a set: the set's words and slots afterwards, and when the table is obeyed still.
+-- A word put into a page of a set: the set's words and slots afterwards, and when the
+-- table is obeyed still.
 use Rattle.std.proofs.Common.{◌≡◌, ◌≢◌, ◌⊎◌, inl, inr, ℕ, ◌+◌, ◌-◌, ◌*◌, ◌<◌, ◌≤◌, Bool, true, false, not, ◌&&◌, ◌||◌, cond, nat_le, None, List, [], ◌∷◌, ◌++◌, length, drop, get_or, set, refl, sym, ap, ◌∙◌, arith, suc, zero}
 use Rattle.std.specs.List.{All, filter, prefix_len}
 use Rattle.std.proofs.lemmas.Bool.{cases_eq}
@@ -8,7 +9,7 @@ use Rattle.ee_flash.specs.Size.{Size}
 use Rattle.ee_flash.specs.declared.word.Word.{Word}
 use Rattle.ee_flash.specs.declared.word.Word.TheVariants.{Erased}
 use Rattle.ee_pages.specs.Legal.{fits, is_allowed, is_allowed_at, place_of, slots_before}
-use Rattle.ee_pages.specs.Meaning.{later, latest_in, says}
+use Rattle.ee_pages.specs.Meaning.{later_of, latest_in, says}
 use Rattle.ee_pages.specs.Page.{is_written, word_in}
 use Rattle.ee_pages.specs.Sets.{front, slots_of, word_of}
 use Rattle.ee_pages.proofs.LastSaid.{later-later, later-none, latest_in-erased}
@@ -44,13 +45,16 @@ slots-header (page ∷ pages) (suc k) at word h = ap (λ (words : List Word). dr
 pub slots-slot : (words : ℕ) (pages : List (List Word)) (k j slot : ℕ) (word : Word) → All (λ page. length page ≡ words) pages → k < length pages → j < words - 4 → slot ≡ k * (words - 4) + j → slots_of (with_word_in pages k (4 + j) word) ≡ set (slots_of pages) slot word
 slots-slot words [] k j slot word each h within is = absurd (omega arith)
 slots-slot words (page ∷ pages) zero j slot word each h within is =
-    let long : length page ≡ words = each 0 [] (omega arith) in let inside : j < length (drop 4 page) = omega (arith, length-drop 4 page, long) in
+    let long : length page ≡ words = each 0 [] (omega arith) in
+    let inside : j < length (drop 4 page) = omega (arith, length-drop 4 page, long) in
     let here : slot ≡ j = omega arith in
     ap (λ (first : List Word). first ++ slots_of pages) (drop-set-add 4 page j word)
     ∙ sym (ap (λ n. set (drop 4 page ++ slots_of pages) n word) here ∙ set-append_left (drop 4 page) (slots_of pages) j word inside)
 slots-slot words (page ∷ pages) (suc k) j slot word each h within is =
-    let long : length page ≡ words = each 0 [] (omega arith) in let here : length (drop 4 page) ≡ words - 4 = omega (arith, length-drop 4 page, long) in
-    let before : words - 4 ≤ slot = omega arith in let rest : slot - (words - 4) ≡ k * (words - 4) + j = omega arith in
+    let long : length page ≡ words = each 0 [] (omega arith) in
+    let here : length (drop 4 page) ≡ words - 4 = omega (arith, length-drop 4 page, long) in
+    let before : words - 4 ≤ slot = omega arith in
+    let rest : slot - (words - 4) ≡ k * (words - 4) + j = omega arith in
     ap (λ (next : List Word). drop 4 page ++ next) (slots-slot words pages k j (slot - (words - 4)) word (λ i none below. each (suc i) none (omega arith)) (omega arith) within rest)
     ∙ sym (set-append_right (drop 4 page) (slots_of pages) (words - 4) slot word here before)
 
@@ -80,14 +84,14 @@ module _ {X : Type 0} (p : X → Bool) (y : X) (passes : p y ≡ true) where
   filter-set (x ∷ xs) (suc i) d h fails = one_longer (p x) x (filter p (set xs i y)) (filter p xs) (filter-set xs i d (omega arith) fails)
 
 -- put in front of erased slots, a word says the last
-pub latest_in-set : (slots : List Word) (slot : ℕ) (word : Word) (address : ℕ) → slot < length slots → ((k : ℕ) → slot ≤ k → is_written (get_or slots k Erased) ≡ false) → latest_in (set slots slot word) address ≡ later (latest_in slots address) (says word address)
+pub latest_in-set : (slots : List Word) (slot : ℕ) (word : Word) (address : ℕ) → slot < length slots → ((k : ℕ) → slot ≤ k → is_written (get_or slots k Erased) ≡ false) → latest_in (set slots slot word) address ≡ later_of (latest_in slots address) (says word address)
 latest_in-set [] slot word address h behind = absurd (omega arith)
 latest_in-set (old ∷ slots) zero word address h behind =
     let rest : latest_in slots address ≡ None = latest_in-erased slots address (λ k. behind (suc k) (omega arith)) in
     let all : latest_in (old ∷ slots) address ≡ None = latest_in-erased (old ∷ slots) address (λ k. behind k (omega arith)) in
-    ap (later (says word address)) rest ∙ sym (ap (λ said. later said (says word address)) all ∙ later-none (says word address))
+    ap (later_of (says word address)) rest ∙ sym (ap (λ said. later_of said (says word address)) all ∙ later-none (says word address))
 latest_in-set (old ∷ slots) (suc slot) word address h behind =
-    ap (later (says old address)) (latest_in-set slots slot word address (omega arith) (λ k low. behind (suc k) (omega arith)))
+    ap (later_of (says old address)) (latest_in-set slots slot word address (omega arith) (λ k low. behind (suc k) (omega arith)))
     ∙ later-later (says old address) (latest_in slots address) (says word address)
 
 -- a word that fits stays allowed where at least as many slots before it are written
@@ -106,8 +110,8 @@ as_before size generation old new page place grows same allowed =
     ap (λ word. is_allowed size generation (front (slots_of new)) page place word) same
     ∙ more_written (fits generation (place_of page place) (word_of old page place)) (is_written (word_of old page place)) (slots_before size page place) (front (slots_of old)) (front (slots_of new)) allowed grows
 
--- The table is obeyed still, where the front is no less and only this one word differs, which fits and stands behind
--- written slots.
+-- The table is obeyed still, where the front is no less and only this one word differs, which fits
+-- and stands behind written slots.
 pub still_obeyed : (size : Size) (generation k at : ℕ) (old new : List (List Word)) → IsObeyed size generation old → front (slots_of old) ≤ front (slots_of new) → ((page place : ℕ) → (page ≢ k) ⊎ (place ≢ at) → word_of new page place ≡ word_of old page place) → fits generation (place_of k at) (word_of new k at) ≡ true → slots_before size k at ≤ front (slots_of new) → IsObeyed size generation new
 still_obeyed size generation k at old new obeyed grows other fit behind page place in_range within = elim (cases_eq page k) [
   | inr apart ↦ as_before size generation old new page place grows (other page place (inl apart)) (obeyed page place in_range within)

@@ -10,7 +10,7 @@ use Rattle.ee_flash.specs.Size.{slot_count}
 use Rattle.ee_flash.specs.declared.word.Word.{Word}
 use Rattle.ee_flash.specs.declared.word.Word.TheVariants.{Erased, Held, Torn}
 use Rattle.ee_pages.specs.Layout.{IsLayout}
-use Rattle.ee_pages.specs.Meaning.{later, latest_in, says}
+use Rattle.ee_pages.specs.Meaning.{later_of, latest_in, says}
 use Rattle.ee_pages.specs.Page.{is_written}
 use Rattle.ee_pages.specs.Sets.{first_page, front, page_of_slot, set_of, slots_of}
 use Rattle.ee_pages.specs.declared.find.Layout.{Layout}
@@ -31,26 +31,26 @@ latest_in-erased (word ∷ words) address each = rw (says-erased word address (e
 pub latest_in-drop : (k : ℕ) (words : List Word) (address : ℕ) (said : Option ℕ) → latest_in (drop k words) address ≡ Some said → latest_in words address ≡ Some said
 latest_in-drop zero words address said e = e
 latest_in-drop (suc k) [] address said e = e
-latest_in-drop (suc k) (word ∷ words) address said e = ap (later (says word address)) (latest_in-drop k words address said e)
+latest_in-drop (suc k) (word ∷ words) address said e = ap (later_of (says word address)) (latest_in-drop k words address said e)
 
-pub latest_in-step : (slot : ℕ) (words : List Word) (address : ℕ) → slot < length words → latest_in (drop slot words) address ≡ later (says (get_or words slot Erased) address) (latest_in (drop (slot + 1) words) address)
+pub latest_in-step : (slot : ℕ) (words : List Word) (address : ℕ) → slot < length words → latest_in (drop slot words) address ≡ later_of (says (get_or words slot Erased) address) (latest_in (drop (slot + 1) words) address)
 latest_in-step slot words address h =
     let e : slot + 1 ≡ suc slot = omega arith in
     rw (e, drop-cons words slot Erased h) refl
 
 -- what is said of an address in two parts, one behind the other
-pub later-none : (said : Option (Option ℕ)) → later None said ≡ said
+pub later-none : (said : Option (Option ℕ)) → later_of None said ≡ said
 later-none None = refl
 later-none (Some said) = refl
 
-pub later-later : (first second third : Option (Option ℕ)) → later first (later second third) ≡ later (later first second) third
+pub later-later : (first second third : Option (Option ℕ)) → later_of first (later_of second third) ≡ later_of (later_of first second) third
 later-later first second None = refl
 later-later first second (Some said) = refl
 
-pub latest_in-append : (words more : List Word) (address : ℕ) → latest_in (words ++ more) address ≡ later (latest_in words address) (latest_in more address)
+pub latest_in-append : (words more : List Word) (address : ℕ) → latest_in (words ++ more) address ≡ later_of (latest_in words address) (latest_in more address)
 latest_in-append [] more address = sym (later-none (latest_in more address))
 latest_in-append (word ∷ words) more address =
-    ap (later (says word address)) (latest_in-append words more address)
+    ap (later_of (says word address)) (latest_in-append words more address)
     ∙ later-later (says word address) (latest_in words address) (latest_in more address)
 
 -- behind the first words nothing of them is left
@@ -63,8 +63,8 @@ latest_in-row start end words address h silent =
     let e : start + (end - start) ≡ end = omega arith in
     ap (λ words. latest_in words address) (chunk-drop start (end - start) words)
     ∙ latest_in-append (take (end - start) (drop start words)) (drop (start + (end - start)) words) address
-    ∙ ap (λ n. later (latest_in (take (end - start) (drop start words)) address) (latest_in (drop n words) address)) e
-    ∙ ap (later (latest_in (take (end - start) (drop start words)) address)) silent
+    ∙ ap (λ n. later_of (latest_in (take (end - start) (drop start words)) address) (latest_in (drop n words) address)) e
+    ∙ ap (later_of (latest_in (take (end - start) (drop start words)) address)) silent
 
 module _ (start count : ℕ) (words : List Word) (address : ℕ) (within : start + count ≤ length words) where
   length-row : length (take count (drop start words)) ≡ count

@@ -27,14 +27,16 @@ slots_before_slot device slot = places (slot / (device.size.words - 4) * (device
 -- every slot from the front on is erased
 pub slots_behind : (side : Side) (device : Device) (generation : ℕ) → IsFormed device → ((page at : ℕ) → page < device.size.pages → at < device.size.words → is_allowed_at device.size generation (set_of side device) page at ≡ true) → (slot : ℕ) → front (slots_of (set_of side device)) ≤ slot → is_written (get_or (slots_of (set_of side device)) slot Erased) ≡ false
 slots_behind side device generation formed allowed slot h =
-    let slots = slots_of (set_of side device) in let count = length-slots side device formed in
+    let slots = slots_of (set_of side device) in
+    let count = length-slots side device formed in
     elim (cases_lt slot (slot_count device.size)) [
       | inr past ↦ ap is_written (get_or_past slots slot Erased (omega (arith, count)))
       | inl within ↦ elim (cases_lt (front slots) slot) [
         | inr same ↦ let e : slot ≡ front slots = omega arith in
             ap (λ n. is_written (get_or slots n Erased)) e ∙ prefix_len_stops is_written slots Erased (omega (arith, count))
         | inl more ↦
-            let page = page_of_slot device.size slot in let at = place_of_slot device.size slot in
+            let page = page_of_slot device.size slot in
+            let at = place_of_slot device.size slot in
             let fact = allowed page at (page_in_range device slot within) (place_in_range device slot formed) in
             ap is_written (slot_at side device slot formed within)
             ∙ erased_behind (fits generation (place_of page at) (word_of (set_of side device) page at)) (is_written (word_of (set_of side device) page at)) (slots_before device.size page at) (front slots) fact (subst (λ n. front slots < n) (sym (slots_before_slot device slot)) more)

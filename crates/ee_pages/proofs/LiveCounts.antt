@@ -23,17 +23,22 @@ module _ (old new : Map) (named : ℕ) (else_same : (address : ℕ) → address 
   below : (n : ℕ) → n < named → live_to new n ≡ live_to old n
   below zero h = live_to-zero new ∙ sym (live_to-zero old)
   below (suc n) h =
-      let here : new (suc n) ≡ old (suc n) = else_same (suc n) (omega arith) in let rest = below n (omega arith) in
+      let here : new (suc n) ≡ old (suc n) = else_same (suc n) (omega arith) in
+      let rest = below n (omega arith) in
       live_to-suc new n ∙ rw (here, rest) (sym (live_to-suc old n))
 
   from : (n : ℕ) → 0 < named → named ≤ n → live_to new n + cond (is_some (old named)) 1 0 ≡ live_to old n + cond (is_some (new named)) 1 0
   from zero some h = absurd (omega arith)
   from (suc n) some h = elim (cases_eq named (suc n)) [
     | inl same ↦
-        let rest = below n (omega arith) in let e = live_to-suc new n in let f = live_to-suc old n in
+        let rest = below n (omega arith) in
+        let e = live_to-suc new n in
+        let f = live_to-suc old n in
         rw same (omega arith)
     | inr other ↦
-        let here : new (suc n) ≡ old (suc n) = else_same (suc n) (λ e. other (sym e)) in let rest = from n some (omega arith) in let e = live_to-suc new n in
+        let here : new (suc n) ≡ old (suc n) = else_same (suc n) (λ e. other (sym e)) in
+        let rest = from n some (omega arith) in
+        let e = live_to-suc new n in
         let f : live_to old (suc n) ≡ live_to old n + cond (is_some (new (suc n))) 1 0 = live_to-suc old n ∙ rw here refl in
         omega arith
   ]
@@ -41,10 +46,12 @@ module _ (old new : Map) (named : ℕ) (else_same : (address : ℕ) → address 
   one_at_most : (n : ℕ) → live_to new n ≤ live_to old n + 1
   one_at_most zero = let e = live_to-zero new in omega arith
   one_at_most (suc n) =
-      let e = live_to-suc new n in let f = live_to-suc old n in
+      let e = live_to-suc new n in
+      let f = live_to-suc old n in
       elim (cases_eq (suc n) named) [
         | inl same ↦ let rest = below n (omega arith) in omega (arith, one_or_none (is_some (new (suc n))))
-        | inr other ↦ let here = else_same (suc n) other in let rest = one_at_most n in omega (arith, rw here at e)
+        | inr other ↦ let here = else_same (suc n) other in
+            let rest = one_at_most n in omega (arith, rw here at e)
       ]
 
   -- an address more, or less, or as many
@@ -69,10 +76,12 @@ put_count false old new e = omega arith
 
 pub change_counts : (change : Change) (map : Map) → IsAddress (address_of change) → IsCountAfter change map
 change_counts (Put address value) map proper =
-    let new = map_after (Put address value) map in let fact = live_in-differs map new address (λ other apart. put_elsewhere address value other map apart) proper.0 proper.1 in
+    let new = map_after (Put address value) map in
+    let fact = live_in-differs map new address (λ other apart. put_elsewhere address value other map apart) proper.0 proper.1 in
     put_count (is_some (map address)) (live_in map) (live_in new) (rw (put_there address value map) at fact)
 change_counts (Forget address) map proper =
-    let new = map_after (Forget address) map in let fact = live_in-differs map new address (λ other apart. forget_elsewhere address other map apart) proper.0 proper.1 in
+    let new = map_after (Forget address) map in
+    let fact = live_in-differs map new address (λ other apart. forget_elsewhere address other map apart) proper.0 proper.1 in
     let gone = forget_there address map in
     omega (arith, rw gone at fact)
 
@@ -104,7 +113,10 @@ one_front slot slots = one_at_most (meaning slots) (meaning (slot ∷ slots)) (n
 pub live_within_fill : (slots : List Word) → live_in (meaning slots) ≤ fill_of slots
 live_within_fill [] = let none = gap_to (meaning []) 0 65534 (omega arith) (λ address low high. refl) in omega (arith, none, live_to-zero (meaning []))
 live_within_fill (Erased ∷ slots) =
-    let same = below (meaning slots) (meaning (Erased ∷ slots)) 65535 (λ address other. erased_in_front slots address) 65534 (omega arith) in let rest = live_within_fill slots in
+    let same = below (meaning slots) (meaning (Erased ∷ slots)) 65535 (λ address other. erased_in_front slots address) 65534 (omega arith) in
+    let rest = live_within_fill slots in
     omega (arith, same, rest)
-live_within_fill (Held number ∷ slots) = let rest = live_within_fill slots in let one = one_front (Held number) slots in omega (arith, one, rest)
-live_within_fill (Torn ∷ slots) = let rest = live_within_fill slots in let one = one_front Torn slots in omega (arith, one, rest)
+live_within_fill (Held number ∷ slots) = let rest = live_within_fill slots in
+    let one = one_front (Held number) slots in omega (arith, one, rest)
+live_within_fill (Torn ∷ slots) = let rest = live_within_fill slots in
+    let one = one_front Torn slots in omega (arith, one, rest)

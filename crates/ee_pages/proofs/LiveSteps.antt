@@ -14,7 +14,7 @@ use Rattle.ee_codec.specs.Words.{mark_number}
 use Rattle.ee_pages.specs.Legal.{IsLive, fits, place_of}
 use Rattle.ee_pages.specs.Meaning.{Map, map_after, meaning, value_said, Change, SpellsChange}
 use Rattle.ee_pages.specs.Pushing.{TakesSlot, slot_step, IsMarkBehind}
-use Rattle.ee_pages.specs.Sets.{committed_generation, fill_of, first_page, greater, live_of, other, page_of_slot, place_of_slot, set_of, slots_of, word_of}
+use Rattle.ee_pages.specs.Sets.{committed_generation, fill_of, first_page, greater_set, live_of, other, page_of_slot, place_of_slot, set_of, slots_of, word_of}
 use Rattle.ee_pages.specs.declared.side.Side.{Side}
 use Rattle.ee_pages.specs.declared.side.Side.TheVariants.{First, Second}
 use Rattle.ee_pages.specs.declared.state.Mark.TheVariants as marks
@@ -50,7 +50,10 @@ pub whole_push_takes : (change : Change) (number : ℕ) (old new : Device) (side
     → TakesSlot old new side generation (map_after change (meaning slots))
     × (slots_of (set_of side new) ≡ slice_set slots (fill_of slots) (Held number))
 whole_push_takes change number old new side generation live room spells taken done =
-    let slots = slots_of (set_of side old) in let slot = fill_of slots in let k = page_of_slot old.size slot in let at = place_of_slot old.size slot in
+    let slots = slots_of (set_of side old) in
+    let slot = fill_of slots in
+    let k = page_of_slot old.size slot in
+    let at = place_of_slot old.size slot in
     let in_range = page_in_range old slot room in
     let put : set_of side new ≡ with_word_in (set_of side old) k at (Held number) = whole_in_set side old new k at number in_range taken done in
     let written = subst (IsSlotWritten old generation slot (Held number) (set_of side old)) (sym put) (change_written side old generation taken.formed live.allowed slot refl room change number spells) in (
@@ -66,8 +69,13 @@ pub push_takes : (change : Change) (number : ℕ) (old new : Device) (side : Sid
     × (KeepsLiveSet old new side generation ⊎ TakesSlot old new side generation (meaning slots)
     ⊎ TakesSlot old new side generation (map_after change (meaning slots)))
 push_takes change number old new side generation live room spells taken =
-    let slots = slots_of (set_of side old) in let slot = fill_of slots in let k = page_of_slot old.size slot in let at = place_of_slot old.size slot in
-    let in_range = page_in_range old slot room in let formed = step_keeps_formed _ old new taken in let size = (step_changes_one_page _ old new taken).same_size in
+    let slots = slots_of (set_of side old) in
+    let slot = fill_of slots in
+    let k = page_of_slot old.size slot in
+    let at = place_of_slot old.size slot in
+    let in_range = page_in_range old slot room in
+    let formed = step_keeps_formed _ old new taken in
+    let size = (step_changes_one_page _ old new taken).same_size in
     let apart = other_in_set side old new k at number in_range taken in (
       apart,
       elim (program_in_set side old new k at number in_range taken) [
@@ -87,11 +95,11 @@ push_takes change number old new side generation live room spells taken =
 no_commit : (side : Side) (device : Device) (generation : ℕ) → live_of device ≡ Some (side, generation) → committed_generation (set_of side device) ≡ None → ⊥
 no_commit First device generation live none =
     let first = greater_first (committed_generation (set_of First device)) (committed_generation (set_of Second device)) generation live in
-    let gone : greater None None ≡ Some (First, generation) = subst (λ commit. greater commit None ≡ Some (First, generation)) none first in
+    let gone : greater_set None None ≡ Some (First, generation) = subst (λ commit. greater_set commit None ≡ Some (First, generation)) none first in
     cc gone
 no_commit Second device generation live none =
     let second = greater_second (committed_generation (set_of First device)) (committed_generation (set_of Second device)) generation live in
-    let gone : greater None None ≡ Some (Second, generation) = subst (λ commit. greater None commit ≡ Some (Second, generation)) none second in
+    let gone : greater_set None None ≡ Some (Second, generation) = subst (λ commit. greater_set None commit ≡ Some (Second, generation)) none second in
     cc gone
 
 marked : (side : Side) (device : Device) (generation : ℕ) → IsLive device side generation → word_of (set_of side device) 0 1 ≢ Erased
@@ -100,7 +108,8 @@ marked side device generation live none = no_commit side device generation live.
 -- a mark's word, not one of the two that commit the set
 mark_at : (at k : ℕ) (old new : Device) (side : Side) (generation : ℕ) → IsLive old side generation → k < old.size.pages → k * (old.size.words - 4) ≤ fill_of (slots_of (set_of side old)) → at < 4 → 0 ≢ at → (0 ≢ k) ⊎ (1 ≢ at) → place_of k at ≡ Marking → IsStep (Program (first_page old.size side + k) at mark_number) old new → KeepsLiveSet old new side generation × (set_of (other side) new ≡ set_of (other side) old)
 mark_at at k old new side generation live in_range behind header not_receive not_active place taken =
-    let formed = step_keeps_formed _ old new taken in let size = (step_changes_one_page _ old new taken).same_size in
+    let formed = step_keeps_formed _ old new taken in
+    let size = (step_changes_one_page _ old new taken).same_size in
     let apart = other_in_set side old new k at mark_number in_range taken in
     let written = λ (word : Word) (fit : fits generation Marking word ≡ true) (put : set_of side new ≡ with_word_in (set_of side old) k at word).
     subst (IsHeaderWritten old generation k at word (set_of side old)) (sym put)

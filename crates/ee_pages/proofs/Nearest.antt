@@ -10,9 +10,9 @@ use Rattle.ee_codec.specs.declared.slot.Slot.{Slot}
 use Rattle.ee_codec.specs.declared.slot.Slot.TheVariants.{Free, Spoiled, Element, Forgotten, Foreign}
 use Rattle.ee_flash.specs.declared.word.Word.{Word}
 use Rattle.ee_flash.specs.declared.word.Word.TheVariants.{Erased}
-use Rattle.ee_pages.specs.Meaning.{later, latest_in, meaning, says, slot_says, value_said}
+use Rattle.ee_pages.specs.Meaning.{later_of, latest_in, meaning, says, slot_says, value_said}
 use Rattle.ee_pages.specs.LiveOrder.{AreLiveThrough, AreNextLive, IsNoneLive, last_of}
-use Rattle.ee_pages.specs.Nearest.{IsPlace, IsRising, Named, with_each_named, last_named, living, with_named, noted_above, slot_names}
+use Rattle.ee_pages.specs.Nearest.{IsPlace, IsRising, Named, with_each_named, last_named, live_values, with_named, noted_above, slot_names}
 use Rattle.ee_pages.proofs.LastSaid.{later-none}
 
 -- what a list says of an address
@@ -82,35 +82,35 @@ noted-or_not true new list address other = said_in-other new list address other
 noted-or_not false new list address other = refl
 
 -- what the list says once this is noted, above an address
-noted-says : (above : ℕ) (new : Named) (list : List Named) (address : ℕ) → above < address → said_in (noted_above above (Some new) list) address ≡ later (said_in list address) (cond (new.0 == address) (Some new.1) None)
+noted-says : (above : ℕ) (new : Named) (list : List Named) (address : ℕ) → above < address → said_in (noted_above above (Some new) list) address ≡ later_of (said_in list address) (cond (new.0 == address) (Some new.1) None)
 noted-says above new list address h = elim (cases_eq new.0 address) [
   | inl same ↦
       let low : above < new.0 = omega (arith, same) in
       ap (λ (b : Bool). said_in (cond b (with_named new list) list) address) (lt-ltb above new.0 low)
       ∙ subst (λ n. said_in (with_named new list) n ≡ Some new.1) same (said_in-noted new list)
-      ∙ sym (ap (λ (b : Bool). later (said_in list address) (cond b (Some new.1) None)) (eq-eqb new.0 address same))
+      ∙ sym (ap (λ (b : Bool). later_of (said_in list address) (cond b (Some new.1) None)) (eq-eqb new.0 address same))
   | inr other ↦
       noted-or_not (nat_lt above new.0) new list address other
-      ∙ sym (ap (λ (b : Bool). later (said_in list address) (cond b (Some new.1) None)) (ne_eqb new.0 address other))
+      ∙ sym (ap (λ (b : Bool). later_of (said_in list address) (cond b (Some new.1) None)) (ne_eqb new.0 address other))
 ]
 
 -- what a slot says is what it names
-names-says : (slot : Slot) (above : ℕ) (list : List Named) (address : ℕ) → above < address → said_in (noted_above above (slot_names slot) list) address ≡ later (said_in list address) (slot_says slot address)
+names-says : (slot : Slot) (above : ℕ) (list : List Named) (address : ℕ) → above < address → said_in (noted_above above (slot_names slot) list) address ≡ later_of (said_in list address) (slot_says slot address)
 names-says Free above list address h = refl
 names-says Spoiled above list address h = refl
 names-says Foreign above list address h = refl
 names-says (Element named value) above list address h = noted-says above (named, Some value) list address h
 names-says (Forgotten named value) above list address h = noted-says above (named, None) list address h
 
-later-assoc : (first second third : Option (Option ℕ)) → later (later first second) third ≡ later first (later second third)
+later-assoc : (first second third : Option (Option ℕ)) → later_of (later_of first second) third ≡ later_of first (later_of second third)
 later-assoc first second None = refl
 later-assoc first second (Some said) = refl
 
-pub said_in-gathered : (above : ℕ) (words : List Word) (list : List Named) (address : ℕ) → above < address → said_in (with_each_named above words list) address ≡ later (said_in list address) (latest_in words address)
+pub said_in-gathered : (above : ℕ) (words : List Word) (list : List Named) (address : ℕ) → above < address → said_in (with_each_named above words list) address ≡ later_of (said_in list address) (latest_in words address)
 said_in-gathered above [] list address h = refl
 said_in-gathered above (word ∷ words) list address h =
     said_in-gathered above words (noted_above above (slot_names (slot_of word)) list) address h
-    ∙ ap (λ (said : Option (Option ℕ)). later said (latest_in words address)) (names-says (slot_of word) above list address h)
+    ∙ ap (λ (said : Option (Option ℕ)). later_of said (latest_in words address)) (names-says (slot_of word) above list address h)
     ∙ later-assoc (said_in list address) (says word address) (latest_in words address)
 
 rising-noted_above : (above : ℕ) (new : Option Named) (list : List Named) → IsRising above list → IsRising above (noted_above above new list)
@@ -198,13 +198,13 @@ behind_last above address (first ∷ rest) rising h =
     let low = last-at_least first.0 rest rising.1 in
     (omega (arith, h), behind_last first.0 address rest rising.1 h)
 
--- The list says of each address above this one what the words say, and above another one none has a value up to it: then
--- the living ones of its first few are the next live addresses, and none is live behind them up to the last, or at all
--- where there are fewer.
+-- The list says of each address above this one what the words say, and above another one none has a
+-- value up to it: then the living ones of its first few are the next live addresses, and none is
+-- live behind them up to the last, or at all where there are fewer.
 pub record AreNext (words : List Word) (from above n : ℕ) (list : List Named) : Type 0 where
-  pub next : AreNextLive (meaning words) from (living (take n list))
-  pub rest : IsNoneLive (meaning words) (last_of from (living (take n list))) (Some (last_named above (take n list)))
-  pub all : length (take n list) < n → IsNoneLive (meaning words) (last_of from (living (take n list))) None
+  pub next : AreNextLive (meaning words) from (live_values (take n list))
+  pub rest : IsNoneLive (meaning words) (last_of from (live_values (take n list))) (Some (last_named above (take n list)))
+  pub all : length (take n list) < n → IsNoneLive (meaning words) (last_of from (live_values (take n list))) None
 
 module _ (words : List Word) where
   abbrev pub Says : ℕ → List Named → Type 0
@@ -323,7 +323,8 @@ rising_at (first ∷ rest) above zero default rising some within = absurd (omega
 rising_at (first ∷ []) above (suc place) default rising some within = absurd (omega (arith, within))
 rising_at (first ∷ second ∷ rest) above (suc zero) default rising some within = rising.1.0
 rising_at (first ∷ second ∷ rest) above (suc (suc place)) default rising some within =
-    let less : suc place - 1 ≡ place = omega arith in let one_less : suc (suc place) - 1 ≡ suc place = omega arith in
+    let less : suc place - 1 ≡ place = omega arith in
+    let one_less : suc (suc place) - 1 ≡ suc place = omega arith in
     subst (λ k. (get_or (first ∷ second ∷ rest) k default).0 < (get_or rest place default).0) (sym one_less)
     (subst (λ k. (get_or (second ∷ rest) k default).0 < (get_or rest place default).0) less (rising_at (second ∷ rest) first.0 (suc place) default rising.1 (omega arith) (omega arith)))
 
@@ -351,7 +352,8 @@ module _ (room : ℕ) where
   -- where there is no room behind the others
   pub kept_full : (above : ℕ) (new : Named) (list : List Named) (place : ℕ) → length list ≤ room → above < new.0 → IsPlace new.0 list place → place ≤ length list → room ≤ place → list ≡ take room (noted_above above (Some new) list)
   kept_full above new list place few high at within full =
-      let same : place ≡ length list = omega arith in let all : length list ≡ room = omega arith in
+      let same : place ≡ length list = omega arith in
+      let all : length list ≡ room = omega arith in
       rw (lt-ltb above new.0 high) (sym (ap (λ n. take n (with_named new list)) (sym all) ∙ put_behind list new (subst (λ n. IsPlace new.0 list n) same at)))
 
   -- where there is no room, an address behind the last one is not taken
@@ -383,7 +385,8 @@ module _ (room : ℕ) where
   -- one word more
   pub one_word : (above : ℕ) (words : List Word) (place : ℕ) (word : Word) (start list after : List Named) → place < length words → word ≡ get_or words place Erased → list ≡ take room (with_each_named above (take place words) start) → after ≡ take room (noted_above above (slot_names (slot_of word)) list) → after ≡ take room (with_each_named above (take (place + 1) words) start)
   one_word above words place word start list after within is before noted =
-      let so_far = with_each_named above (take place words) start in let said = slot_names (slot_of word) in
+      let so_far = with_each_named above (take place words) start in
+      let said = slot_names (slot_of word) in
       noted
       ∙ ap (λ (l : List Named). take room (noted_above above said l)) before
       ∙ few-noted_above room above said so_far
@@ -391,18 +394,19 @@ module _ (room : ℕ) where
       ∙ ap (take room) (sym (gathered-append above (take place words) (get_or words place Erased ∷ []) start))
       ∙ ap (λ (more : List Word). take room (with_each_named above more start)) (sym (take_more words place Erased within))
 
-  through_is : 0 < room → (slots : List Word) (above : ℕ) (all : List Named) (through : Option ℕ) → IsRising above all → AreNext slots above above room all → IfNone through (length (take room all) < room) → IfSome through (λ last. length (take room all) ≡ room) → IfSome through (λ last. last ≡ last_named above (take room all)) → AreLiveThrough (meaning slots) above (living (take room all)) through
+  through_is : 0 < room → (slots : List Word) (above : ℕ) (all : List Named) (through : Option ℕ) → IsRising above all → AreNext slots above above room all → IfNone through (length (take room all) < room) → IfSome through (λ last. length (take room all) ≡ room) → IfSome through (λ last. last ≡ last_named above (take room all)) → AreLiveThrough (meaning slots) above (live_values (take room all)) through
   through_is some slots above all None rising next none full last = record { next = next.next; rest = next.all none; further = full }
   through_is some slots above all (Some through) rising next none full last = record {
     next = next.next;
-    rest = subst (λ n. IsNoneLive (meaning slots) (last_of above (living (take room all))) (Some n)) (sym last) next.rest;
+    rest = subst (λ n. IsNoneLive (meaning slots) (last_of above (live_values (take room all))) (Some n)) (sym last) next.rest;
     further = let far = last_named-further room above all rising (omega (arith, full, some)) in omega (arith, last);
   }
 
   -- so the living ones of the first that are gathered are the next live addresses
-  batch_is : 0 < room → (slots : List Word) (above : ℕ) (list : List Named) (through : Option ℕ) → list ≡ take room (with_each_named above slots []) → IfNone through (length list < room) → IfSome through (λ last. length list ≡ room) → IfSome through (λ last. last ≡ last_named above list) → AreLiveThrough (meaning slots) above (living list) through
+  batch_is : 0 < room → (slots : List Word) (above : ℕ) (list : List Named) (through : Option ℕ) → list ≡ take room (with_each_named above slots []) → IfNone through (length list < room) → IfSome through (λ last. length list ≡ room) → IfSome through (λ last. last ≡ last_named above list) → AreLiveThrough (meaning slots) above (live_values list) through
   batch_is some slots above list through e none full last =
-      let all = with_each_named above slots [] in let rising = rising-gathered above slots [] tt in
+      let all = with_each_named above slots [] in
+      let rising = rising-gathered above slots [] tt in
       let next = are_next slots above above room all (omega arith) (λ k more less. absurd (omega arith)) (λ k more. said_in-gathered above slots [] k more ∙ later-none (latest_in slots k)) rising in
       rw e (through_is some slots above all through rising next (rw e at none) (rw e at full) (rw e at last))
 
@@ -413,6 +417,6 @@ module _ (room : ℕ) where
       gathers ∙ ap (λ (words : List Word). take room (with_each_named above words [])) all
 
   -- the same, as the parts of a batch are made
-  pub batch_from : 0 < room → (slots : List Word) (above start : ℕ) (list items : List Named) (through : Option ℕ) → list ≡ items → items ≡ take room (with_each_named start slots []) → start ≡ above → IfNone through (length list < room) → IfSome through (λ last. length list ≡ room) → IfSome through (λ last. last ≡ last_named above list) → AreLiveThrough (meaning slots) above (living list) through
+  pub batch_from : 0 < room → (slots : List Word) (above start : ℕ) (list items : List Named) (through : Option ℕ) → list ≡ items → items ≡ take room (with_each_named start slots []) → start ≡ above → IfNone through (length list < room) → IfSome through (λ last. length list ≡ room) → IfSome through (λ last. last ≡ last_named above list) → AreLiveThrough (meaning slots) above (live_values list) through
   batch_from some slots above start list items through same gathers begins none full last =
       batch_is some slots above list through (same ∙ gathers ∙ ap (λ n. take room (with_each_named n slots [])) begins) none full last

@@ -88,7 +88,8 @@ module _ (room above : ℕ) (list : List Named) (new : Named) (through : ℕ) (r
     (up_to : 0 < through → (get_or list (through - 1) (0, None)).0 ≤ new.0) (behind : through < length list → new.0 < (get_or list through (0, None)).0) where
   pub noted_anew : 0 < through → (get_or list (through - 1) (0, None)).0 ≡ new.0 → set list (through - 1) new ≡ take room (with_named new list)
   noted_anew some same =
-      let place = through - 1 in let inside : place < length list = omega (arith, some, within) in
+      let place = through - 1 in
+      let inside : place < length list = omega (arith, some, within) in
       put_over room list new place (0, None)
       (place_is list above new.0 place (0, None) rising (omega (arith, inside)) (λ h. omega (arith, same)) (λ more. omega (arith, rising_at list above place (0, None) rising more inside, same)))
       inside same few

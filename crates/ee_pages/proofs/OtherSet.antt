@@ -13,7 +13,7 @@ use Rattle.ee_pages.specs.Laws.{CannotCommit, IsPageOf, KeepsLiveSet, KeepsSide}
 use Rattle.ee_pages.specs.Legal.{IsLive, is_allowed_at}
 use Rattle.ee_pages.specs.Meaning.{meaning}
 use Rattle.ee_pages.specs.Page.{word_in}
-use Rattle.ee_pages.specs.Sets.{committed_generation, fill_of, first_page, greater, is_mark, live_of, other, set_of, slots_of, word_of}
+use Rattle.ee_pages.specs.Sets.{committed_generation, fill_of, first_page, greater_set, is_mark, live_of, other, set_of, slots_of, word_of}
 use Rattle.ee_pages.specs.declared.side.Side.{Side}
 use Rattle.ee_pages.specs.declared.side.Side.TheVariants.{First, Second}
 
@@ -71,12 +71,14 @@ commit_after (Erase page) old new first taken may = elim (cases_eq first page) [
       let differs = step_changes_one_page (Erase page) old new taken in
       weaker _ _ _ _ (inl (elsewhere old new page first 0 differs apart)) (inl (elsewhere old new page first 1 differs apart))
   | inl same ↦
-      let left = (step_leaves_pages (Erase page) old new taken).0 in let receive : Weaker (word_at new first 0) (word_at old first 0) = rw same (left.each 0) in
+      let left = (step_leaves_pages (Erase page) old new taken).0 in
+      let receive : Weaker (word_at new first 0) (word_at old first 0) = rw same (left.each 0) in
       let mark : Weaker (word_at new first 1) (word_at old first 1) = rw same (left.each 1) in
       weaker _ _ _ _ receive mark
 ]
 commit_after (Program page at value) old new first taken may =
-    let differs = step_changes_one_page (Program page at value) old new taken in let left = step_leaves_pages (Program page at value) old new taken in
+    let differs = step_changes_one_page (Program page at value) old new taken in
+    let left = step_leaves_pages (Program page at value) old new taken in
     let h : page < length old.image = omega (arith, taken.formed.image_length, taken.may.0) in
     elim (cases_eq first page) [
       | inr apart ↦ weaker _ _ _ _ (inl (elsewhere old new page first 0 differs apart)) (inl (elsewhere old new page first 1 differs apart))
@@ -99,23 +101,23 @@ side_in (Some live) = live.0
 abbrev by_tests : Bool → Bool → ℕ → ℕ → Option (Side × ℕ)
 by_tests below above first second = cond below (Some (First, first)) (cond above (Some (Second, second)) None)
 
-first_by : (below above : Bool) (first second generation : ℕ) → by_tests below above first second ≡ Some (First, generation) → greater (Some first) None ≡ Some (First, generation)
+first_by : (below above : Bool) (first second generation : ℕ) → by_tests below above first second ≡ Some (First, generation) → greater_set (Some first) None ≡ Some (First, generation)
 first_by true above first second generation e = e
 first_by false true first second generation e = let sides : Second ≡ First = ap side_in e in cc sides
 first_by false false first second generation e = cc
 
-second_by : (below above : Bool) (first second generation : ℕ) → by_tests below above first second ≡ Some (Second, generation) → greater None (Some second) ≡ Some (Second, generation)
+second_by : (below above : Bool) (first second generation : ℕ) → by_tests below above first second ≡ Some (Second, generation) → greater_set None (Some second) ≡ Some (Second, generation)
 second_by true above first second generation e = let sides : First ≡ Second = ap side_in e in cc sides
 second_by false true first second generation e = e
 second_by false false first second generation e = cc
 
-pub greater_first : (first second : Option ℕ) (generation : ℕ) → greater first second ≡ Some (First, generation) → greater first None ≡ Some (First, generation)
+pub greater_first : (first second : Option ℕ) (generation : ℕ) → greater_set first second ≡ Some (First, generation) → greater_set first None ≡ Some (First, generation)
 greater_first None None generation e = e
 greater_first None (Some second) generation e = let sides : Second ≡ First = ap side_in e in cc sides
 greater_first (Some first) None generation e = e
 greater_first (Some first) (Some second) generation e = first_by (nat_lt second first) (nat_lt first second) first second generation e
 
-pub greater_second : (first second : Option ℕ) (generation : ℕ) → greater first second ≡ Some (Second, generation) → greater None second ≡ Some (Second, generation)
+pub greater_second : (first second : Option ℕ) (generation : ℕ) → greater_set first second ≡ Some (Second, generation) → greater_set None second ≡ Some (Second, generation)
 greater_second None None generation e = e
 greater_second None (Some second) generation e = e
 greater_second (Some first) None generation e = let sides : First ≡ Second = ap side_in e in cc sides
@@ -148,7 +150,9 @@ pub other_set_keeps_side : (step : Step) (old new : Device) (side : Side) → Is
     → IsPageOf old.size (other side) (page_of step) → CannotCommit (first_page old.size (other side)) step old
     → KeepsSide old new side
 other_set_keeps_side step old new side taken at may =
-    let differs = step_changes_one_page step old new taken in let formed = step_keeps_formed step old new taken in let same = same_set side old new (page_of step) differs at in
+    let differs = step_changes_one_page step old new taken in
+    let formed = step_keeps_formed step old new taken in
+    let same = same_set side old new (page_of step) differs at in
     let first : first_page new.size (other side) ≡ first_page old.size (other side) = ap (λ size. first_page size (other side)) differs.same_size in
     let new_commit : committed_generation (set_of (other side) new) ≡ commits (word_at new (first_page old.size (other side)) 0) (word_at new (first_page old.size (other side)) 1) =
     commits_by (other side) new formed ∙ ap (λ page. commits (word_at new page 0) (word_at new page 1)) first in

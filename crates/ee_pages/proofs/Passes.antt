@@ -1,7 +1,7 @@
--- What a pass over a live set finds out, page by page: how far its slots are used, and which word may not stand there.
+-- What a pass over a live set finds out, page by page: how far its slots are used, and which word
+-- may not stand there.
 use Rattle.std.proofs.Common.{◌≡◌, inl, inr, ℕ, ◌+◌, ◌-◌, ◌*◌, ◌<◌, ◌≤◌, Bool, true, false, not, ◌&&◌, ◌||◌, nat_le, nat_eq, List, length, get_or, refl, sym, subst, ap, ◌∙◌, arith}
 use Rattle.std.proofs.lemmas.Bool.{cases_lt, eq-eqb, lt-ltb, ne_eqb, true≢false}
-use Rattle.std.specs.Prelude.{IfErr, OnOk, Result, Ok, Err}
 use Rattle.std.proofs.lemmas.Grind.{common_steps}
 use Rattle.std.proofs.lemmas.List.Folds.{list_any_at}
 use Rattle.std.proofs.lemmas.List.Sums.{prefix_len_passes, prefix_len_stops}
@@ -10,7 +10,7 @@ use Rattle.ee_flash.specs.Device.{Device, IsFormed, word_at}
 use Rattle.ee_flash.specs.Size.{Size}
 use Rattle.ee_flash.specs.declared.word.Word.{Word}
 use Rattle.ee_flash.specs.declared.word.Word.TheVariants.{Erased, Held, Torn}
-use Rattle.ee_pages.specs.Layout.{IsFirstForeign, IsWrittenBehind}
+use Rattle.ee_pages.specs.Layout.{IsUsedTo}
 use Rattle.ee_pages.specs.Legal.{fits, holds_slot, is_allowed, is_allowed_at, place_of, slots_before}
 use Rattle.ee_pages.specs.Page.{is_blank, is_written, word_in}
 use Rattle.ee_pages.specs.Sets.{first_page, front, page_of_slot, set_of, slots_of, word_of}
@@ -88,30 +88,6 @@ at_least slots n few each = elim (cases_lt (front slots) n) [
       absurd (true≢false (sym (each (front slots) less) ∙ stops))
 ]
 
--- the page of the last slot that is used, where the first that isn't is this one of a page
-pub last_page : (size : Size) (page used : ℕ) → used < size.words - 4 → 0 < used → page ≡ page_of_slot size (page * (size.words - 4) + used - 1)
-last_page size page used h some =
-    let e : page * (size.words - 4) + used - 1 ≡ page * (size.words - 4) + (used - 1) = omega (arith, some) in
-    sym (ap (page_of_slot size) e ∙ div-mul-add page (size.words - 4) (used - 1) (omega (arith, h)))
-
-next_row : (p row : ℕ) → (p + 1) * row ≡ p * row + row
-next_row p row = omega arith
-
-pub last_page_before : (size : Size) (page used : ℕ) → used < size.words - 4 → used ≡ 0 → page - 1 ≡ page_of_slot size (page * (size.words - 4) + used - 1)
-last_page_before size page used h none = elim (cases_lt 0 page) [
-  | inl some ↦
-      let at : page - 1 + 1 ≡ page = omega (arith, some) in
-      let rows : page * (size.words - 4) ≡ (page - 1) * (size.words - 4) + (size.words - 4) = ap (λ n. n * (size.words - 4)) (sym at) ∙ next_row (page - 1) (size.words - 4) in
-      let e : page * (size.words - 4) + used - 1 ≡ (page - 1) * (size.words - 4) + (size.words - 4 - 1) = omega (arith, some, none, h, rows) in
-      sym (ap (page_of_slot size) e ∙ div-mul-add (page - 1) (size.words - 4) (size.words - 4 - 1) (omega (arith, h)))
-  | inr first ↦
-      let zeroth : page ≡ 0 = omega (arith, first) in
-      let rows : page * (size.words - 4) ≡ 0 * (size.words - 4) = ap (λ n. n * (size.words - 4)) zeroth in
-      let e : page * (size.words - 4) + used - 1 ≡ 0 * (size.words - 4) + 0 = omega (arith, rows, none) in
-      let f : page - 1 ≡ 0 = omega (arith, first) in
-      f ∙ sym (ap (page_of_slot size) e ∙ div-mul-add 0 (size.words - 4) 0 (omega (arith, h)))
-]
-
 -- ---- a page before which all slots are written
 
 -- in the device it is the page `here`
@@ -152,7 +128,8 @@ module _ (device : Device) (side : Side) (page here : ℕ) (formed : IsFormed de
 
     pub allowed_to : (generation : ℕ) → ((j : ℕ) → j < 4 → fits generation (place_of page j) (word_of (set_of side device) page j) ≡ true) → (j : ℕ) → j < written → is_allowed_at device.size generation (set_of side device) page j ≡ true
     allowed_to generation header j h =
-        let word = word_of (set_of side device) page j in let front_is = front (slots_of (set_of side device)) in
+        let word = word_of (set_of side device) page j in
+        let front_is = front (slots_of (set_of side device)) in
         elim (cases_lt j 4) [
           | inl low ↦ fitting (fits generation (place_of page j) word) (is_written word) (slots_before device.size page j) front_is (header j low) (omega (arith, low, before))
           | inr high ↦ elim (cases_lt j end) [
@@ -166,7 +143,8 @@ module _ (device : Device) (side : Side) (page here : ℕ) (formed : IsFormed de
 
     pub foreign_at : (generation : ℕ) → written < device.size.words → is_written (word_at device here written) ≡ true → is_allowed_at device.size generation (set_of side device) page written ≡ false
     foreign_at generation h is =
-        let word = word_of (set_of side device) page written in let front_is = front (slots_of (set_of side device)) in
+        let word = word_of (set_of side device) page written in
+        let front_is = front (slots_of (set_of side device)) in
         let is_here = ap is_written (word_here written) ∙ is in
         elim (cases_lt end written) [
           | inl less ↦
@@ -179,41 +157,79 @@ module _ (device : Device) (side : Side) (page here : ℕ) (formed : IsFormed de
               (ap (λ place. fits generation place word) (in_slot page written (omega (arith, e, from))) ∙ misfit generation word isnt is_here)
         ]
 
--- ---- the pages behind the one with the first erased slot
+-- ---- a page of a live set, from a place of which on all has to be erased
 
-module _ (device : Device) (side : Side) (generation page used : ℕ) (few : used < device.size.words - 4) (front_is : front (slots_of (set_of side device)) ≡ page * (device.size.words - 4) + used)
-    (allowed : (k j : ℕ) → k < page → j < device.size.words → is_allowed_at device.size generation (set_of side device) k j ≡ true)
-    (here : (j : ℕ) → j < device.size.words → is_allowed_at device.size generation (set_of side device) page j ≡ true) where
-  pub allowed_by_blank : (last : ℕ) → ((k j : ℕ) → page < k → k < last → j < device.size.words → is_written (word_of (set_of side device) k j) ≡ false) → (k j : ℕ) → k < last → j < device.size.words → is_allowed_at device.size generation (set_of side device) k j ≡ true
-  allowed_by_blank last blank k j h within = elim (cases_lt k page) [
-    | inl less ↦ allowed k j less within
-    | inr more ↦ elim (cases_lt page k) [
-      | inl past ↦ allowed_erased device.size generation (front (slots_of (set_of side device))) k j (word_of (set_of side device) k j) (blank k j past h within)
-      | inr same ↦
-          let e : page ≡ k = omega (arith, more, same) in
-          subst (λ n. is_allowed_at device.size generation (set_of side device) n j ≡ true) e (here j within)
-    ]
+by_full : {P : Type 0} (full : Bool) → (full ≡ true → P) → (full ≡ false → P) → P
+by_full true whole partly = whole refl
+by_full false whole partly = partly refl
+
+-- it is the place behind the used slots, where all slots before the page are used, and else
+-- the page's first word
+module _ (device : Device) (side : Side) (page here : ℕ) (formed : IsFormed device) (inside : page < device.size.pages) (here_is : here ≡ first_page device.size side + page)
+    (full : Bool) (before : full ≡ true → page * (device.size.words - 4) ≤ front (slots_of (set_of side device))) (past : full ≡ false → front (slots_of (set_of side device)) < page * (device.size.words - 4))
+    (generation end written : ℕ) (to : full ≡ true → IsUsedTo device generation side page end) (none : full ≡ false → end ≡ 0) (within : end ≤ device.size.words)
+    (behind_it : end ≤ written) (blank : (j : ℕ) → end ≤ j → j < written → is_written (word_at device here j) ≡ false) where
+  used_here : (is : full ≡ true) (j : ℕ) → 4 ≤ j → j < end → holds_slot (word_at device here j) ≡ true
+  used_here is j from h = ap holds_slot (sym (word_here device side page here formed inside here_is j)) ∙ (to is).before j from h
+
+  unused_here : (is : full ≡ true) → end < device.size.words → holds_slot (word_at device here end) ≡ false
+  unused_here is h = ap holds_slot (sym (word_here device side page here formed inside here_is end)) ∙ (to is).unused h
+
+  pub used_reach : full ≡ true → page * (device.size.words - 4) + (end - 4) ≤ front (slots_of (set_of side device))
+  used_reach is = reaches device side page here formed inside here_is (before is) end written (to is).from within (used_here is) (unused_here is) behind_it blank
+
+  pub used_stop : full ≡ true → end - 4 < device.size.words - 4 → device.size.words ≤ written → front (slots_of (set_of side device)) ≡ page * (device.size.words - 4) + (end - 4)
+  used_stop is few all =
+      let short : end < device.size.words = omega (arith, few, (to is).from) in
+      stops device side page here formed inside here_is (before is) end written (to is).from within (used_here is) (unused_here is) behind_it blank short (blank end (omega arith) (omega (arith, short, all)))
+
+  pub all_allowed : (j : ℕ) → j < written → is_allowed_at device.size generation (set_of side device) page j ≡ true
+  all_allowed j h = by_full full
+      (λ is. allowed_to device side page here formed inside here_is (before is) end written (to is).from within (used_here is) (unused_here is) behind_it blank generation (to is).header j h)
+      (λ isnt. allowed_erased device.size generation (front (slots_of (set_of side device))) page j (word_of (set_of side device) page j)
+      (ap is_written (word_here device side page here formed inside here_is j) ∙ blank j (omega (arith, none isnt)) h))
+
+  pub none_allowed : written < device.size.words → is_written (word_at device here written) ≡ true → is_allowed_at device.size generation (set_of side device) page written ≡ false
+  none_allowed h is_so = by_full full
+      (λ is. foreign_at device side page here formed inside here_is (before is) end written (to is).from within (used_here is) (unused_here is) behind_it blank generation h is_so)
+      (λ isnt. foreign_behind device.size generation (front (slots_of (set_of side device))) page written (word_of (set_of side device) page written)
+      (ap is_written (word_here device side page here formed inside here_is written) ∙ is_so) (omega (arith, past isnt)))
+
+next_row : (page row : ℕ) → (page + 1) * row ≡ page * row + row
+next_row page row = omega arith
+
+-- so many slots are used of those before a page, and so many of the page
+module _ (size : Size) (used here page slots front : ℕ) (same : slots ≡ size.words - 4) (most : used ≤ page * (size.words - 4)) (reach : used ≤ front)
+    (stopped : used < page * (size.words - 4) → front ≡ used) (few : here ≤ size.words - 4) (more : nat_eq used (page * slots) ≡ true → page * (size.words - 4) + here ≤ front)
+    (stops_here : nat_eq used (page * slots) ≡ true → here < size.words - 4 → front ≡ page * (size.words - 4) + here) (none : nat_eq used (page * slots) ≡ false → here ≡ 0) where
+  rows : page * slots ≡ page * (size.words - 4)
+  rows = ap (λ n. page * n) same
+
+  not_all : used < page * (size.words - 4) → nat_eq used (page * slots) ≡ false
+  not_all less = ne_eqb used (page * slots) (λ e. omega (arith, e, rows, less))
+
+  all : page * (size.words - 4) ≤ used → nat_eq used (page * slots) ≡ true
+  all past = eq-eqb used (page * slots) (omega (arith, rows, past, most))
+
+  pub most_then : used + here ≤ (page + 1) * (size.words - 4)
+  most_then = omega (arith, most, few, next_row page (size.words - 4))
+
+  pub reach_then : used + here ≤ front
+  reach_then = elim (cases_lt used (page * (size.words - 4))) [
+    | inl less ↦ omega (arith, reach, none (not_all less))
+    | inr past ↦ omega (arith, most, past, more (all past))
   ]
 
-  later_rows : (k j row : ℕ) → page < k → used < row → page * row + used < k * row + j
-  later_rows k j row more less = grind (arith)
+  pub stopped_then : used + here < (page + 1) * (size.words - 4) → front ≡ used + here
+  stopped_then h = elim (cases_lt used (page * (size.words - 4))) [
+    | inl less ↦ omega (arith, stopped less, none (not_all less))
+    | inr past ↦ let e : used ≡ page * (size.words - 4) = omega (arith, most, past) in omega (arith, e, stops_here (all past) (omega (arith, h, e, next_row page (size.words - 4))))
+  ]
 
-  pub first_foreign : (place : ℕ × ℕ) → IsWrittenBehind device side page place → IsFirstForeign device.size generation (set_of side device) place.0 place.1
-  first_foreign place found = record {
-    page_in_range = found.page_in_range;
-    place_in_range = found.place_in_range;
-    foreign = foreign_behind device.size generation (front (slots_of (set_of side device))) place.0 place.1 (word_of (set_of side device) place.0 place.1) found.written
-        (rw front_is (later_rows place.0 (place.1 - 4) (device.size.words - 4) found.behind few));
-    pages_before = λ k j less within. allowed_by_blank place.0 found.pages_before k j less within;
-    places_before = λ j less. allowed_erased device.size generation (front (slots_of (set_of side device))) place.0 j (word_of (set_of side device) place.0 j) (found.places_before j less);
-  }
-
--- ---- results
-
-pub ok_follows : {A B : Type 0} {P Q : Type 0} (result : Result A B) → (P → Q) → OnOk result P → OnOk result Q
-ok_follows (Ok value) follows h = follows h
-ok_follows (Err error) follows h = h
-
-pub err_follows : {A B : Type 0} {P Q : B → Type 0} (result : Result A B) → ((error : B) → P error → Q error) → IfErr result P → IfErr result Q
-err_follows (Ok value) follows h = h
-err_follows (Err error) follows h = follows error h
+  pub last_then : 0 < here → page ≡ page_of_slot size (used + here - 1)
+  last_then some = elim (cases_lt used (page * (size.words - 4))) [
+    | inl less ↦ absurd (omega (arith, some, none (not_all less)))
+    | inr past ↦
+        let e : page * (size.words - 4) + (here - 1) ≡ used + here - 1 = omega (arith, most, past, some) in
+        sym (ap (page_of_slot size) (sym e) ∙ div-mul-add page (size.words - 4) (here - 1) (omega (arith, few, some)))
+  ]

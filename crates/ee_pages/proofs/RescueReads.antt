@@ -72,13 +72,15 @@ module _ {X : Type 0} (p : X → Bool) (d : X) where
   pub prefix_len_to : (xs : List X) (n : ℕ) → n < length xs → ((k : ℕ) → k < n → p (get_or xs k d) ≡ true) → p (get_or xs n d) ≡ false → prefix_len p xs ≡ n
   prefix_len_to xs n h each stops = elim (cases_order (prefix_len p xs) n) [
     | inl same ↦ same
-    | inr (inl less) ↦ let e = each (prefix_len p xs) less in let f = prefix_len_stops p xs d (omega arith) in cc
+    | inr (inl less) ↦ let e = each (prefix_len p xs) less in
+        let f = prefix_len_stops p xs d (omega arith) in cc
     | inr (inr more) ↦ let e = prefix_len_passes p xs n d more in cc
   ]
 
   -- all pass
   pub prefix_len_of_all : (xs : List X) → ((k : ℕ) → k < length xs → p (get_or xs k d) ≡ true) → prefix_len p xs ≡ length xs
   prefix_len_of_all xs each = elim (cases_lt (prefix_len p xs) (length xs)) [
-    | inl less ↦ let e = each (prefix_len p xs) less in let f = prefix_len_stops p xs d less in cc
+    | inl less ↦ let e = each (prefix_len p xs) less in
+        let f = prefix_len_stops p xs d less in cc
     | inr end ↦ let most = prefix_len-le-length p xs in omega arith
   ]

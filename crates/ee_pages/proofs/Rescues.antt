@@ -15,7 +15,7 @@ use Rattle.ee_pages.specs.Page.{is_torn, is_written, word_in}
 use Rattle.ee_pages.specs.Laws.{KeepsSide}
 use Rattle.ee_pages.specs.Rescue.{fails_to_commit, is_bad, has_begun, is_left_behind, map_of_side, named_generation, only, or_else, or_later, rescued_map, rescued_of, rescued_side}
 use Rattle.ee_pages.specs.RescueLaws.{IsHeld}
-use Rattle.ee_pages.specs.Sets.{committed_generation, greater, is_mark, live_of, set_of, slots_of, word_of}
+use Rattle.ee_pages.specs.Sets.{committed_generation, greater_set, is_mark, live_of, set_of, slots_of, word_of}
 use Rattle.ee_pages.specs.declared.side.Side.{Side}
 use Rattle.ee_pages.specs.declared.side.Side.TheVariants.{First, Second}
 use Rattle.ee_pages.proofs.Commits.{live_commits}
@@ -93,7 +93,11 @@ or_true false = refl
 
 first_rescued : (first second : List (List Word)) → has_begun first ≡ true → is_left_behind first ≡ false → is_some (committed_generation first) ≡ true → ((g : ℕ) → committed_generation second ≡ Some g → nat_lt (named_generation first) (named_generation second) ≡ false) → rescued_of first second ≡ Some First
 first_rescued first second begun left committed less =
-    let b2 = has_begun second in let l2 = is_left_behind second in let c2 = is_some (committed_generation second) in let n = named_generation first in let m = named_generation second in
+    let b2 = has_begun second in
+    let l2 = is_left_behind second in
+    let c2 = is_some (committed_generation second) in
+    let n = named_generation first in
+    let m = named_generation second in
     ap (λ (b : Bool). by_rules b b2 (is_left_behind first) l2 (is_some (committed_generation first)) c2 n m) begun
     ∙ ap (λ (l : Bool). by_rules true b2 l l2 (is_some (committed_generation first)) c2 n m) left
     ∙ ap (λ (c : Bool). by_rules true b2 false l2 c c2 n m) committed
@@ -101,7 +105,11 @@ first_rescued first second begun left committed less =
 
 second_rescued : (first second : List (List Word)) → has_begun second ≡ true → is_left_behind second ≡ false → is_some (committed_generation second) ≡ true → ((g : ℕ) → committed_generation first ≡ Some g → nat_lt (named_generation first) (named_generation second) ≡ true) → rescued_of first second ≡ Some Second
 second_rescued first second begun left committed less =
-    let b1 = has_begun first in let l1 = is_left_behind first in let c1 = is_some (committed_generation first) in let n = named_generation first in let m = named_generation second in
+    let b1 = has_begun first in
+    let l1 = is_left_behind first in
+    let c1 = is_some (committed_generation first) in
+    let n = named_generation first in
+    let m = named_generation second in
     ap (λ (b : Bool). by_rules b1 b l1 (is_left_behind second) c1 (is_some (committed_generation second)) n m) begun
     ∙ ap (λ (l : Bool). by_rules b1 true l1 l c1 (is_some (committed_generation second)) n m) left
     ∙ ap (λ (c : Bool). by_rules b1 true l1 false c1 c n m) committed
@@ -135,14 +143,18 @@ some_is (Some n) generation e = refl
 
 pub held_is_rescued_side : (device : Device) (side : Side) (generation : ℕ) → live_of device ≡ Some (side, generation) → is_left_behind (set_of side device) ≡ false → rescued_side device ≡ Some side
 held_is_rescued_side device First generation live left =
-    let mine = live_commits First device generation live in let first = set_of First device in let second = set_of Second device in
+    let mine = live_commits First device generation live in
+    let first = set_of First device in
+    let second = set_of Second device in
     first_rescued first second (begun first generation mine) left (some_is _ generation mine) (λ g theirs.
-    let tests : by_tests (nat_lt g generation) (nat_lt generation g) generation g ≡ Some (First, generation) = ap (λ said. greater said (Some g)) (sym mine) ∙ ap (greater (committed_generation first)) (sym theirs) ∙ live in
+    let tests : by_tests (nat_lt g generation) (nat_lt generation g) generation g ≡ Some (First, generation) = ap (λ said. greater_set said (Some g)) (sym mine) ∙ ap (greater_set (committed_generation first)) (sym theirs) ∙ live in
     ap (λ n. nat_lt n (named_generation second)) (names first generation mine) ∙ ap (nat_lt generation) (names second g theirs) ∙ turned generation g (first_less _ _ generation g generation tests))
 held_is_rescued_side device Second generation live left =
-    let mine = live_commits Second device generation live in let first = set_of First device in let second = set_of Second device in
+    let mine = live_commits Second device generation live in
+    let first = set_of First device in
+    let second = set_of Second device in
     second_rescued first second (begun second generation mine) left (some_is _ generation mine) (λ g theirs.
-    let tests : by_tests (nat_lt generation g) (nat_lt g generation) g generation ≡ Some (Second, generation) = ap (λ said. greater said (Some generation)) (sym theirs) ∙ ap (greater (committed_generation first)) (sym mine) ∙ live in
+    let tests : by_tests (nat_lt generation g) (nat_lt g generation) g generation ≡ Some (Second, generation) = ap (λ said. greater_set said (Some generation)) (sym theirs) ∙ ap (greater_set (committed_generation first)) (sym mine) ∙ live in
     ap (λ n. nat_lt n (named_generation second)) (names first g theirs) ∙ ap (nat_lt g) (names second generation mine) ∙ second_less _ _ g generation generation tests)
 
 pub live_is_rescued_side : (device : Device) (side : Side) (generation : ℕ) → IsLive device side generation → rescued_side device ≡ Some side
@@ -187,7 +199,8 @@ no_more torn true true e f = absurd (cc f)
 pub legal_is_bad_where_torn : (device : Device) (side : Side) (generation page at : ℕ) → IsLive device side generation → page < device.size.pages → at < device.size.words
     → is_bad device.size (set_of side device) page at ≡ is_torn (word_of (set_of side device) page at)
 legal_is_bad_where_torn device side generation page at live in_range within =
-    let pages = set_of side device in let commits = live_commits side device generation live.live in
+    let pages = set_of side device in
+    let commits = live_commits side device generation live.live in
     no_more (is_torn (word_of pages page at)) (is_allowed_at device.size (named_generation pages) pages page at) (fails_to_commit page at (word_of pages page at))
     (ap (λ n. is_allowed_at device.size n pages page at) (names pages generation commits) ∙ live.allowed page at in_range within)
     (commits_in_place pages generation page at commits)

@@ -1,5 +1,5 @@
 -- Runs of the slots of a set: what their numbers say is what the slots say.
-use Rattle.std.proofs.Common.{◌≡◌, ℕ, ◌+◌, ◌-◌, ◌*◌, ◌<◌, ◌≤◌, ◌%◌, ◌^◌, Option, None, List, [], ◌∷◌, ◌++◌, length, map, take, drop, get_or, refl, sym, subst, ap, ◌∙◌, arith}
+use Rattle.std.proofs.Common.{◌≡◌, ℕ, ◌+◌, ◌-◌, ◌*◌, ◌<◌, ◌≤◌, ◌/◌, ◌%◌, ◌^◌, Option, None, Some, List, [], ◌∷◌, ◌++◌, length, map, take, drop, get_or, refl, sym, subst, ap, ◌∙◌, arith}
 use Rattle.std.proofs.Math.Seq.{take-add}
 use Rattle.std.proofs.lemmas.List.{ext_get_or, get_or-drop, get_or-take, length-drop, length-take-le}
 use Rattle.std.proofs.lemmas.Grind.{common_steps}
@@ -33,6 +33,10 @@ says_by_number (Held number) address = refl
 pub says_other : (number address : ℕ) → number % 2 ^ 16 ≢ address → says (Held number) address ≡ None
 says_other number address other = grind (arith, common_steps)
 
+-- the value that a number says, whatever the address
+pub value_by_number : (number address value : ℕ) → says (Held number) address ≡ Some (Some value) → number / 2 ^ 32 ≡ value
+value_by_number number address value said = grind (arith, common_steps)
+
 names_by_number : (word : Word) → slot_names (slot_of (Held (number_of word))) ≡ slot_names (slot_of word)
 names_by_number Erased = refl
 names_by_number Torn = refl
@@ -55,7 +59,9 @@ module _ (device : Device) (side : Side) (page here : ℕ) (formed : IsFormed de
   words_here : (from count : ℕ) → from + count ≤ device.size.words - 4
       → take count (drop (page * (device.size.words - 4) + from) (slots_of (set_of side device))) ≡ take count (drop (4 + from) (page_at device here))
   words_here from count few =
-      let row = device.size.words - 4 in let slots = slots_of (set_of side device) in let words = page_at device here in
+      let row = device.size.words - 4 in
+      let slots = slots_of (set_of side device) in
+      let words = page_at device here in
       let long = length-page_at device here formed (in_device side device page here here_is inside) in
       let within = row_within side device page (from + count) formed inside few in
       let of_slots : length (take count (drop (page * row + from) slots)) ≡ count = length-take-le count (drop (page * row + from) slots) (simp length-drop (omega (arith, within))) in
@@ -87,14 +93,18 @@ module _ (device : Device) (side : Side) (page here : ℕ) (formed : IsFormed de
       ∙ sym (says_by_number (word_at device here (4 + from + j)) address)
       ∙ sym (ap (λ (n : ℕ). says (Held n) address) (number_at device here (4 + from) numbers formed (in_device side device page here here_is inside) (omega (arith, few)) run j h))
 
-  -- a run of them whose last numbers end in other addresses, before slots that say nothing of this one
+  -- a run of them whose last numbers end in other addresses, before slots that say
+  -- nothing of this one
   pub run_silent : (from ends used address : ℕ) (numbers : List ℕ) → from + length numbers ≤ used → used ≤ device.size.words - 4 → numbers ≡ run_of device here (4 + from) (length numbers) → ends ≤ length numbers
       → ((k : ℕ) → ends ≤ k → k < length numbers → get_or numbers k 0 % 2 ^ 16 ≢ address)
       → latest_in (drop (from + length numbers) (take used (drop (page * (device.size.words - 4)) (slots_of (set_of side device))))) address ≡ None
       → latest_in (drop (from + ends) (take used (drop (page * (device.size.words - 4)) (slots_of (set_of side device))))) address ≡ None
   run_silent from ends used address numbers low few run most behind silent =
-      let before = page * (device.size.words - 4) in let slots = slots_of (set_of side device) in let row = take used (drop before slots) in
-      let to = from + length numbers in let fewer = length numbers - ends in
+      let before = page * (device.size.words - 4) in
+      let slots = slots_of (set_of side device) in
+      let row = take used (drop before slots) in
+      let to = from + length numbers in
+      let fewer = length numbers - ends in
       let start : to - fewer ≡ from + ends = omega (arith, most) in
       let within = row_within side device page used formed inside few in
       subst (λ n. latest_in (drop n row) address ≡ None) start
@@ -111,7 +121,9 @@ module _ (device : Device) (side : Side) (page here : ℕ) (formed : IsFormed de
       → after ≡ take room (with_each_named above (map Held numbers) list)
       → after ≡ take room (with_each_named above (take (page * (device.size.words - 4) + from + count) (slots_of (set_of side device))) [])
   run_gathers room above from count numbers list after run few so_far more =
-      let start = page * (device.size.words - 4) + from in let slots = slots_of (set_of side device) in let words = take count (drop (4 + from) (page_at device here)) in
+      let start = page * (device.size.words - 4) + from in
+      let slots = slots_of (set_of side device) in
+      let words = take count (drop (4 + from) (page_at device here)) in
       let before = with_each_named above (take start slots) [] in
       more
       ∙ ap (λ (list' : List ℕ). take room (with_each_named above (map Held list') list)) run

@@ -56,7 +56,8 @@ written_by (Held number) h = refl
 
 pub length-run : (device : Device) (page at count : ℕ) (numbers : List ℕ) → IsFormed device → page < page_count device.size → at + count ≤ device.size.words → numbers ≡ run_of device page at count → length numbers ≡ count
 length-run device page at count numbers formed in_range within run =
-    let words = page_at device page in let long = length-page_at device page formed in_range in
+    let words = page_at device page in
+    let long = length-page_at device page formed in_range in
     ap (λ (list : List ℕ). length list) run
     ∙ length-map (take count (drop at words)) number_of
     ∙ length-take-le count (drop at words) (simp length-drop (omega (arith, long, within)))

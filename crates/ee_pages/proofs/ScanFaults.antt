@@ -10,7 +10,7 @@ use Rattle.ee_flash.specs.declared.word.Word.{Word}
 use Rattle.ee_pages.specs.Layout.{IsFirstForeign, IsScanFault}
 use Rattle.ee_pages.specs.Legal.{IsLegal, is_allowed_at}
 use Rattle.ee_pages.specs.Page.{is_blank}
-use Rattle.ee_pages.specs.Sets.{committed_generation, first_page, greater, live_of, set_of}
+use Rattle.ee_pages.specs.Sets.{committed_generation, first_page, greater_set, live_of, set_of}
 use Rattle.ee_pages.specs.declared.find.ScanFault.{ScanFault}
 use Rattle.ee_pages.specs.declared.find.ScanFault.TheVariants.{Unformatted, NoLiveSet, TwoLive, Foreign}
 use Rattle.ee_pages.specs.declared.side.Side.{Side}
@@ -22,13 +22,13 @@ use Rattle.ee_pages.proofs.BlankWords.{blank_set}
 uncommitted : (pages : List (List Word)) → All (λ page. is_blank page ≡ true) pages → committed_generation pages ≡ None
 uncommitted pages blank = rw (blank_set pages 0 1 blank) refl
 
-pub none_live : (first second : Option ℕ) → first ≡ None → second ≡ None → greater first second ≡ None
+pub none_live : (first second : Option ℕ) → first ≡ None → second ≡ None → greater_set first second ≡ None
 none_live first second e f = rw e (rw f refl)
 
 not_less : (n : ℕ) → nat_lt n n ≡ false
 not_less n = grind (arith, common_steps)
 
-two_live : (first second : Option ℕ) (generation : ℕ) → first ≡ Some generation → second ≡ Some generation → greater first second ≡ None
+two_live : (first second : Option ℕ) (generation : ℕ) → first ≡ Some generation → second ≡ Some generation → greater_set first second ≡ None
 two_live first second generation e f = rw e (rw f (rw (not_less generation) refl))
 
 -- but for a foreign word, what a scan finds wrong is that no set is live

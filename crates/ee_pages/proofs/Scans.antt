@@ -4,7 +4,7 @@ use Rattle.std.proofs.lemmas.Bool.{le-ltb, lt-ltb, true≢false}
 use Rattle.ee_flash.specs.Device.{Device, IsFormed}
 use Rattle.ee_pages.specs.Layout.{IsFirstForeign, IsLayout, IsScanFault, IsUnformatted}
 use Rattle.ee_pages.specs.Legal.{IsLegal, is_allowed_at}
-use Rattle.ee_pages.specs.Sets.{committed_generation, first_page, front, greater, live_of, page_of_slot, set_of, slots_of}
+use Rattle.ee_pages.specs.Sets.{committed_generation, first_page, front, greater_set, live_of, page_of_slot, set_of, slots_of}
 use Rattle.ee_pages.specs.declared.find.ScanFault.TheVariants.{Foreign}
 use Rattle.ee_pages.specs.declared.side.Side.{Side}
 use Rattle.ee_pages.specs.declared.side.Side.TheVariants.{First, Second}
@@ -36,14 +36,15 @@ allowed_in device page at (Some live) = is_allowed_at device.size live.1 (set_of
 -- an image with a foreign word is not legal
 pub foreign_not_legal : (device : Device) (side : Side) (generation page at : ℕ) → live_of device ≡ Some (side, generation) → IsFirstForeign device.size generation (set_of side device) page at → ¬ IsLegal device
 foreign_not_legal device side generation page at live foreign legal =
-    let same : Some (side, generation) ≡ Some (legal.0, legal.1) = sym live ∙ legal.2.live in let allowed = legal.2.allowed page at foreign.page_in_range foreign.place_in_range in
+    let same : Some (side, generation) ≡ Some (legal.0, legal.1) = sym live ∙ legal.2.live in
+    let allowed = legal.2.allowed page at foreign.page_in_range foreign.place_in_range in
     let here : is_allowed_at device.size generation (set_of side device) page at ≡ true = subst (λ (found : Option (Side × ℕ)). allowed_in device page at found ≡ true) (sym same) allowed in
     true≢false (sym here ∙ foreign.foreign)
 
 -- of two sets that are committed the one with the greater generation is live
 module _ (device : Device) (first second : ℕ) (first_is : Some first ≡ committed_generation (set_of First device)) (second_is : Some second ≡ committed_generation (set_of Second device)) where
-  live_is : live_of device ≡ greater (Some first) (Some second)
-  live_is = ap (λ found. greater found (committed_generation (set_of Second device))) (sym first_is) ∙ ap (greater (Some first)) (sym second_is)
+  live_is : live_of device ≡ greater_set (Some first) (Some second)
+  live_is = ap (λ found. greater_set found (committed_generation (set_of Second device))) (sym first_is) ∙ ap (greater_set (Some first)) (sym second_is)
 
   pub first_live : second < first → live_of device ≡ Some (First, first)
   first_live h = live_is ∙ rw (lt-ltb second first h) refl

@@ -9,7 +9,7 @@ use Rattle.ee_flash.specs.declared.word.Word.TheVariants.{Erased, Held, Torn}
 use Rattle.ee_codec.specs.Reading.{slot_of}
 use Rattle.ee_codec.proofs.Public.{slot_of-element, slot_of-forgetting}
 use Rattle.ee_pages.specs.Legal.{fits, is_element, place_of}
-use Rattle.ee_pages.specs.Meaning.{Change, Put, Forget, SpellsChange, map_after, later, latest_in, meaning, says, slot_says, value_said}
+use Rattle.ee_pages.specs.Meaning.{Change, Put, Forget, SpellsChange, map_after, later_of, latest_in, meaning, says, slot_says, value_said}
 use Rattle.ee_pages.specs.Page.{is_written}
 use Rattle.ee_pages.specs.Sets.{fill_of, front, page_of_slot, place_of_slot, set_of, slots_of, word_of}
 use Rattle.ee_pages.specs.declared.side.Side.{Side}
@@ -27,20 +27,26 @@ pub record IsSlotWritten (device : Device) (generation slot : ℕ) (word : Word)
   pub obeyed : IsObeyed device.size generation new
   pub one_more : fill_of (slots_of new) ≡ fill_of (slots_of old) + 1
   pub headers : (page place : ℕ) → place < 4 → word_of new page place ≡ word_of old page place
-  pub latest : (address : ℕ) → latest_in (slots_of new) address ≡ later (latest_in (slots_of old) address) (says word address)
+  pub latest : (address : ℕ) → latest_in (slots_of new) address ≡ later_of (latest_in (slots_of old) address) (says word address)
 
 module _ (side : Side) (device : Device) (generation : ℕ) (formed : IsFormed device) (obeyed : IsObeyed device.size generation (set_of side device)) where
   -- a word that is written and fits, put into the first free slot
   pub slot_written : (slot : ℕ) (word : Word) → fill_of (slots_of (set_of side device)) ≡ slot → slot < slot_count device.size → is_written word ≡ true → fits generation InSlot word ≡ true → IsSlotWritten device generation slot word (set_of side device) (with_word_in (set_of side device) (page_of_slot device.size slot) (place_of_slot device.size slot) word)
   slot_written slot word filled room written fit =
-      let pages = set_of side device in let k = slot / (device.size.words - 4) in let j = slot % (device.size.words - 4) in
-      let some : 0 < device.size.words - 4 = omega (arith, formed.within_limits.some_words) in let within : j < device.size.words - 4 = omega (arith, some) in
-      let count = length-set_of side device formed in let below = page_in_range device slot room in let in_range : k < length pages = subst (λ n. k < n) (sym count) below in
+      let pages = set_of side device in
+      let k = slot / (device.size.words - 4) in
+      let j = slot % (device.size.words - 4) in
+      let some : 0 < device.size.words - 4 = omega (arith, formed.within_limits.some_words) in
+      let within : j < device.size.words - 4 = omega (arith, some) in
+      let count = length-set_of side device formed in
+      let below = page_in_range device slot room in
+      let in_range : k < length pages = subst (λ n. k < n) (sym count) below in
       let long = All-get_or (λ page. length page ≡ device.size.words) pages k [] in_range (pages-set_of side device formed) in
       let inside : 4 + j < length (get_or pages k []) = subst (λ n. 4 + j < n) (sym long) (place_in_range device slot formed) in
       let slots = slots-slot device.size.words pages k j slot word (pages-set_of side device formed) in_range within (split_by slot (device.size.words - 4)) in
       let first : front (slots_of pages) ≡ slot = fill-front side device generation formed obeyed ∙ filled in
-      let behind = slots_behind side device generation formed obeyed in let free = behind slot (omega arith) in
+      let behind = slots_behind side device generation formed obeyed in
+      let free = behind slot (omega arith) in
       let there : slot < length (slots_of pages) = subst (λ n. slot < n) (sym (length-slots side device formed)) room in
       let grows : front (slots_of pages) ≤ front (slots_of (with_word_in pages k (4 + j) word)) = subst (λ slots. front (slots_of pages) ≤ front slots) (sym slots) (prefix_len-set is_written word written (slots_of pages) slot) in
       record {
@@ -59,18 +65,18 @@ spelled : (change : Change) (number : ℕ) → SpellsChange number change → is
 spelled (Put address value) number spells = ap (λ n. is_element (slot_of (Held n))) spells.2 ∙ ap is_element (slot_of-element address value spells.0 spells.1)
 spelled (Forget address) number spells = ap (λ n. is_element (slot_of (Held n))) spells.3 ∙ ap is_element (slot_of-forgetting address spells.0 spells.1 spells.2)
 
-said_after : (here : Bool) (new : Option ℕ) (old : Option (Option ℕ)) → value_said (later old (cond here (Some new) None)) ≡ cond here new (value_said old)
+said_after : (here : Bool) (new : Option ℕ) (old : Option (Option ℕ)) → value_said (later_of old (cond here (Some new) None)) ≡ cond here new (value_said old)
 said_after true new old = refl
 said_after false new old = refl
 
-pub changes : (change : Change) (number : ℕ) (slots : List Word) (address : ℕ) → SpellsChange number change → value_said (later (latest_in slots address) (says (Held number) address)) ≡ map_after change (meaning slots) address
+pub changes : (change : Change) (number : ℕ) (slots : List Word) (address : ℕ) → SpellsChange number change → value_said (later_of (latest_in slots address) (says (Held number) address)) ≡ map_after change (meaning slots) address
 changes (Put named value) number slots address spells =
-    ap (λ n. value_said (later (latest_in slots address) (says (Held n) address))) spells.2
-    ∙ ap (λ slot. value_said (later (latest_in slots address) (slot_says slot address))) (slot_of-element named value spells.0 spells.1)
+    ap (λ n. value_said (later_of (latest_in slots address) (says (Held n) address))) spells.2
+    ∙ ap (λ slot. value_said (later_of (latest_in slots address) (slot_says slot address))) (slot_of-element named value spells.0 spells.1)
     ∙ said_after (named == address) (Some value) (latest_in slots address)
 changes (Forget named) number slots address spells =
-    ap (λ n. value_said (later (latest_in slots address) (says (Held n) address))) spells.3
-    ∙ ap (λ slot. value_said (later (latest_in slots address) (slot_says slot address))) (slot_of-forgetting named spells.0 spells.1 spells.2)
+    ap (λ n. value_said (later_of (latest_in slots address) (says (Held n) address))) spells.3
+    ∙ ap (λ slot. value_said (later_of (latest_in slots address) (slot_says slot address))) (slot_of-forgetting named spells.0 spells.1 spells.2)
     ∙ said_after (named == address) None (latest_in slots address)
 
 module _ (side : Side) (device : Device) (generation : ℕ) (formed : IsFormed device) (obeyed : IsObeyed device.size generation (set_of side device)) (slot : ℕ) (filled : fill_of (slots_of (set_of side device)) ≡ slot) (room : slot < slot_count device.size) where

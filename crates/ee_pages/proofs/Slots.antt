@@ -61,8 +61,10 @@ place_in_range device slot formed = search rules
 -- a slot of a device's set, by its number
 pub slot_at : (side : Side) (device : Device) (slot : ℕ) → IsFormed device → slot < slot_count device.size → get_or (slots_of (set_of side device)) slot Erased ≡ word_of (set_of side device) (page_of_slot device.size slot) (place_of_slot device.size slot)
 slot_at side device slot formed h =
-    let pages = set_of side device in let count = length-set_of side device formed in
-    let some : 0 < device.size.words - 4 = omega (arith, formed.within_limits.some_words) in let below = page_in_range device slot h in
+    let pages = set_of side device in
+    let count = length-set_of side device formed in
+    let some : 0 < device.size.words - 4 = omega (arith, formed.within_limits.some_words) in
+    let below = page_in_range device slot h in
     let in_range : slot / (device.size.words - 4) < length pages = subst (λ n. slot / (device.size.words - 4) < n) (sym count) below in
     let within : slot % (device.size.words - 4) < device.size.words - 4 = omega (arith, some) in
     let split : slot ≡ slot / (device.size.words - 4) * (device.size.words - 4) + slot % (device.size.words - 4) = split_by slot (device.size.words - 4) in

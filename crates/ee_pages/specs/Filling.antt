@@ -1,5 +1,6 @@
--- The set that a transfer fills: what whole steps make of it until its commit, and every outcome of the commit. Until then
--- a cut leaves the live set, as any step in the other set does. Each law is proved by the function of its name.
+-- The set that a transfer fills: what whole steps make of it until its commit, and every outcome of
+-- the commit. Until then a cut leaves the live set, as any step in the other set does. Each law is
+-- proved by the function of its name.
 use Rattle.std.specs.Prelude.{◌≡◌, ◌<◌, ◌≤◌, ◌⊎◌, ℕ, ◌+◌, ◌-◌, ◌*◌, true, None, slice_set}
 use Rattle.std.specs.List.{All}
 use Rattle.ee_flash.specs.Device.{Device, IsFormed}
@@ -17,8 +18,8 @@ use Rattle.ee_pages.specs.Sets.{committed_generation, fill_of, first_page, other
 use Rattle.ee_pages.specs.declared.side.Side.{Side}
 use Rattle.ee_pages.specs.declared.state.Mark.TheVariants.{Active, Receive}
 
--- The set takes elements of this generation, and so many of its slots are written: each word may stand in its place, and
--- nothing but the mark that commits it is missing.
+-- The set takes elements of this generation, and so many of its slots are written: each word may
+-- stand in its place, and nothing but the mark that commits it is missing.
 pub record IsFilling (device : Device) (side : Side) (generation count : ℕ) : Type 0 where
   pub formed : IsFormed device
   pub receives : word_of (set_of side device) 0 0 ≡ Held (receive generation)
@@ -57,8 +58,8 @@ pub record IsCommitted (old new : Device) (side : Side) (generation : ℕ) : Typ
   pub same_size : new.size ≡ old.size
   pub same_slots : slots_of (set_of side new) ≡ slots_of (set_of side old)
 
--- Every outcome of the commit keeps the set that was live, or makes the other one live; and the pages of the set that was
--- live are as they were.
+-- Every outcome of the commit keeps the set that was live, or makes the other one live; and the
+-- pages of the set that was live are as they were.
 abbrev pub CommitCommits : Type 0
 CommitCommits =
     (old new : Device) (side : Side) (generation count : ℕ) → IsLive old side generation → IsFilling old (other side) (generation + 1) count
@@ -73,7 +74,8 @@ WholeCommitCommits =
     → IsGeneration (generation + 1) → let step = marking (first_page old.size (other side)) Active in IsStep step old new → new ≡ device_after step old
     → IsCommitted old new (other side) (generation + 1)
 
--- so it does where the other set is not committed, as in a device that was blank; and that set is as it was
+-- so it does where the other set is not committed, as in a device that was blank; and
+-- that set is as it was
 abbrev pub FirstCommitCommits : Type 0
 FirstCommitCommits =
     (old new : Device) (side : Side) (generation count : ℕ) → IsFilling old side generation count → IsGeneration generation

@@ -24,15 +24,16 @@ pub record KeepsLiveSet (old new : Device) (side : Side) (generation : ℕ) : Ty
   pub same_fill : fill_of (slots_of (set_of side new)) ≡ fill_of (slots_of (set_of side old))
   pub same_map : (address : ℕ) → meaning (slots_of (set_of side new)) address ≡ meaning (slots_of (set_of side old)) address
 
--- The step can't commit the set whose first page this is: it erases a page, or programs another word than that page's
--- receive word and active mark, or that receive word while the mark behind it is erased.
+-- The step can't commit the set whose first page this is: it erases a page, or programs another
+-- word than that page's receive word and active mark, or that receive word while the mark
+-- behind it is erased.
 abbrev pub CannotCommit : ℕ → Step → Device → Type 0
 CannotCommit first (Erase page) old = Unit {0}
 CannotCommit first (Program page at value) old =
     (page ≡ first → at ≢ 1) × (page ≡ first → at ≡ 0 → word_at old first 1 ≡ Erased)
 
--- every outcome of a step in the set that is not live keeps the live set, page for page, unless the step can commit that
--- other set
+-- every outcome of a step in the set that is not live keeps the live set, page for page, unless the
+-- step can commit that other set
 abbrev pub OtherSetKeepsLive : Type 0
 OtherSetKeepsLive =
     (step : Step) (old new : Device) (side : Side) (generation : ℕ) → IsLive old side generation → IsStep step old new
@@ -49,8 +50,8 @@ abbrev pub ProgramLeavesWritten : Type 0
 ProgramLeavesWritten =
     (page at value : ℕ) (old new : Device) → IsStep (Program page at value) old new → (new.image ≡ old.image) ⊎ (is_blank (page_at new page) ≡ false)
 
--- The set of this side is as before, page for page, and the other one commits as it did, or not at all. What stands in
--- either is not said.
+-- The set of this side is as before, page for page, and the other one commits as it did, or not at
+-- all. What stands in either is not said.
 pub record KeepsSide (old new : Device) (side : Side) : Type 0 where
   pub formed : IsFormed new
   pub same_size : new.size ≡ old.size
@@ -58,7 +59,8 @@ pub record KeepsSide (old new : Device) (side : Side) : Type 0 where
   pub same_slots : slots_of (set_of side new) ≡ slots_of (set_of side old)
   pub commits : (committed_generation (set_of (other side) new) ≡ committed_generation (set_of (other side) old)) ⊎ (committed_generation (set_of (other side) new) ≡ None)
 
--- every outcome of a step in the other set keeps this one, whatever stands in it, unless the step can commit the other
+-- every outcome of a step in the other set keeps this one, whatever stands in it, unless the step
+-- can commit the other
 abbrev pub OtherSetKeepsSide : Type 0
 OtherSetKeepsSide =
     (step : Step) (old new : Device) (side : Side) → IsStep step old new

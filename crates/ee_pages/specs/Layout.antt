@@ -2,19 +2,19 @@
 use Rattle.std.specs.Prelude.{◌≡◌, ◌<◌, ◌≤◌, ℕ, ◌+◌, ◌-◌, Some, None, true, false, List}
 use Rattle.std.specs.List.{All}
 use Rattle.ee_flash.specs.Device.{Device}
-use Rattle.ee_flash.specs.Size.{Size}
+use Rattle.ee_flash.specs.Size.{Size, header_words}
 use Rattle.ee_flash.specs.declared.word.Word.{Word}
-use Rattle.ee_pages.specs.Page.{is_blank, is_written}
+use Rattle.ee_pages.specs.Page.{is_blank}
 use Rattle.ee_pages.specs.Sets.{committed_generation, fill_of, first_page, live_of, page_of_slot, set_of, slots_of, word_of}
-use Rattle.ee_pages.specs.Legal.{IsLive, is_allowed_at}
+use Rattle.ee_pages.specs.Legal.{IsLive, fits, holds_slot, is_allowed_at, place_of}
 use Rattle.ee_pages.specs.declared.find.Layout.{Layout}
 use Rattle.ee_pages.specs.declared.find.ScanFault.{ScanFault}
 use Rattle.ee_pages.specs.declared.find.ScanFault.TheVariants.{Unformatted, NoLiveSet, TwoLive, Foreign}
 use Rattle.ee_pages.specs.declared.side.Side.{Side}
 use Rattle.ee_pages.specs.declared.side.Side.TheVariants.{First, Second}
 
--- The image is legal, and this is its live set, with its generation, its fill, and the page of the last written slot, by
--- its number in the device: the set's first page if no slot is written.
+-- The image is legal, and this is its live set, with its generation, its fill, and the page of the
+-- last written slot, by its number in the device: the set's first page if no slot is written.
 pub record IsLayout (device : Device) (layout : Layout) : Type 0 where
   pub live : IsLive device layout.side layout.generation
   pub fill : layout.fill ≡ fill_of (slots_of (set_of layout.side device))
@@ -45,11 +45,10 @@ IsScanFault device (Foreign page at) =
     × ((side : Side) × (generation : ℕ) × (live_of device ≡ Some (side, generation)) × (first_page device.size side ≤ page)
     × IsFirstForeign device.size generation (set_of side device) (page - first_page device.size side) at)
 
--- the first word, by page and then place, that is written in the pages of a set behind one of them
-pub record IsWrittenBehind (device : Device) (side : Side) (page : ℕ) (place : ℕ × ℕ) : Type 0 where
-  pub behind : page < place.0
-  pub page_in_range : place.0 < device.size.pages
-  pub place_in_range : place.1 < device.size.words
-  pub written : is_written (word_of (set_of side device) place.0 place.1) ≡ true
-  pub pages_before : (k j : ℕ) → page < k → k < place.0 → j < device.size.words → is_written (word_of (set_of side device) k j) ≡ false
-  pub places_before : (j : ℕ) → j < place.1 → is_written (word_of (set_of side device) place.0 j) ≡ false
+-- in a page of a set the header fits this generation, and the slots are used up to this place,
+-- where the next one isn't
+pub record IsUsedTo (device : Device) (generation : ℕ) (side : Side) (page end : ℕ) : Type 0 where
+  pub header : (j : ℕ) → j < header_words → fits generation (place_of page j) (word_of (set_of side device) page j) ≡ true
+  pub from : header_words ≤ end
+  pub before : (j : ℕ) → header_words ≤ j → j < end → holds_slot (word_of (set_of side device) page j) ≡ true
+  pub unused : end < device.size.words → holds_slot (word_of (set_of side device) page end) ≡ false

@@ -76,6 +76,7 @@ pub record IsLive (device : Device) (side : Side) (generation : ℕ) : Type 0 wh
   pub live : live_of device ≡ Some (side, generation)
   pub allowed : (page at : ℕ) → page < device.size.pages → at < device.size.words → is_allowed_at device.size generation (set_of side device) page at ≡ true
 
--- there is a live set, and each of its words may stand in its place; the other set may hold anything
+-- there is a live set, and each of its words may stand in its place; the other set may hold
+-- anything
 abbrev pub IsLegal : Device → Type 0
 IsLegal device = (side : Side) × (generation : ℕ) × IsLive device side generation

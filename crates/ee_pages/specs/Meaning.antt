@@ -10,7 +10,7 @@ use Rattle.ee_codec.specs.declared.slot.Slot.TheVariants.{Free, Spoiled, Element
 abbrev pub Map : Type 0
 Map = ℕ → Option ℕ
 
--- What a slot says of an address: nothing, or that it has a value from here on, or that it has none.
+-- What a slot says of an address: nothing, that it has a value from here on, or that it has none.
 abbrev pub slot_says : Slot → ℕ → Option (Option ℕ)
 slot_says (Element named value) address = if named == address then Some (Some value) else None
 slot_says (Forgotten named value) address = if named == address then Some None else None
@@ -22,14 +22,14 @@ abbrev pub says : Word → ℕ → Option (Option ℕ)
 says word address = slot_says (slot_of word) address
 
 -- of two slots, the later one that says something
-abbrev pub later : Option (Option ℕ) → Option (Option ℕ) → Option (Option ℕ)
-later old None = old
-later old (Some new) = Some new
+abbrev pub later_of : Option (Option ℕ) → Option (Option ℕ) → Option (Option ℕ)
+later_of old None = old
+later_of old (Some new) = Some new
 
 -- what the last slot that says something of the address says
 abbrev pub latest_in : List Word → ℕ → Option (Option ℕ)
 latest_in [] address = None
-latest_in (slot ∷ slots) address = later (says slot address) (latest_in slots address)
+latest_in (slot ∷ slots) address = later_of (says slot address) (latest_in slots address)
 
 -- an address of which nothing is said has no value
 abbrev pub value_said : Option (Option ℕ) → Option ℕ
@@ -64,8 +64,8 @@ abbrev pub changed_by : List Change → Map → Map
 changed_by [] map = map
 changed_by (change ∷ changes) map = changed_by changes (map_after change map)
 
--- The change, of a proper address and a value that fits, is spelled by this number; the value in a forgetting means
--- nothing.
+-- The change, of a proper address and a value that fits, is spelled by this number; the value in a
+-- forgetting means nothing.
 abbrev pub SpellsChange : ℕ → Change → Type 0
 SpellsChange number (Put address value) = IsAddress address × IsValue value × (number ≡ element address value)
 SpellsChange number (Forget address) = (value : ℕ) × IsAddress address × IsValue value × (number ≡ forgetting address value)

@@ -47,10 +47,10 @@ with_each_named above [] list = list
 with_each_named above (word ∷ words) list = with_each_named above words (noted_above above (slot_names (slot_of word)) list)
 
 -- those that have a value
-abbrev pub living : List Named → List (ℕ × ℕ)
-living [] = []
-living ((address, Some value) ∷ rest) = (address, value) ∷ living rest
-living ((address, None) ∷ rest) = living rest
+abbrev pub live_values : List Named → List (ℕ × ℕ)
+live_values [] = []
+live_values ((address, Some value) ∷ rest) = (address, value) ∷ live_values rest
+live_values ((address, None) ∷ rest) = live_values rest
 
 -- the last address of a list, or this one where there is none
 abbrev pub last_named : ℕ → List Named → ℕ
@@ -74,14 +74,15 @@ named_by number = (number % 2 ^ 16, if number / 2 ^ 16 % 2 ^ 16 == 0 then Some (
 abbrev pub item_by : ℕ → ℕ × ℕ
 item_by number = (number % 2 ^ 16, number / 2 ^ 32)
 
--- In a list that takes so many, so many addresses above one have a place: all, where it isn't full, and else those up to
--- its last.
+-- In a list that takes so many, so many addresses above one have a place: all, where it isn't full,
+-- and else those up to its last.
 pub record HasPlaces (room above span : ℕ) (list : List Named) : Type 0 where
   pub free : length list < room → above + span ≡ 65534
   pub full : length list ≡ room → above + span ≡ last_named above list
   pub proper : above + span < 65535
 
--- a batch as it is filled: its addresses with what is said of them, and with their values, if they all have one
+-- a batch as it is filled: its addresses with what is said of them, and with their values,
+-- if they all have one
 pub record Batch : Type 0 where
   pub named : List Named
   pub items : List (ℕ × ℕ)

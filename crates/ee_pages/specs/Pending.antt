@@ -1,5 +1,5 @@
--- How many pages of a set are not blank, after a step in it, and how much of a set its map can need. Each law is proved by
--- the function of its name.
+-- How many pages of a set are not blank, after a step in it, and how much of a set its map can
+-- need. Each law is proved by the function of its name.
 use Rattle.std.specs.Prelude.{◌≡◌, ◌≤◌, ◌⊎◌, ℕ, ◌+◌, false, true, if◌then◌else◌, is_some, List}
 use Rattle.ee_flash.specs.Device.{Device, page_at}
 use Rattle.ee_flash.specs.Laws.{IsStep}

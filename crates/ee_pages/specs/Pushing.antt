@@ -1,5 +1,5 @@
--- What a step in the live set leaves, in every outcome: a mark behind written slots, and a change in the first free slot.
--- Each law is proved by the function of its name.
+-- What a step in the live set leaves, in every outcome: a mark behind written slots, and a change
+-- in the first free slot. Each law is proved by the function of its name.
 use Rattle.std.specs.Prelude.{◌≡◌, ◌<◌, ◌≤◌, ◌⊎◌, ℕ, ◌+◌, ◌-◌, ◌*◌, slice_set}
 use Rattle.ee_flash.specs.Device.{Device}
 use Rattle.ee_flash.specs.Laws.{IsStep}
@@ -39,8 +39,9 @@ pub record TakesSlot (old new : Device) (side : Side) (generation : ℕ) (map : 
   pub one_more : fill_of (slots_of (set_of side new)) ≡ fill_of (slots_of (set_of side old)) + 1
   pub map_is : (address : ℕ) → meaning (slots_of (set_of side new)) address ≡ map address
 
--- Every outcome of programming a change into the first free slot leaves the live set as it was, or a slot more spoiled and
--- the map as it was, or the slot written and the map changed; and the other set as it was.
+-- Every outcome of programming a change into the first free slot leaves the live set as it was, or
+-- a slot more spoiled and the map as it was, or the slot written and the map changed; and the
+-- other set as it was.
 abbrev pub PushTakes : Type 0
 PushTakes =
     (change : Change) (number : ℕ) (old new : Device) (side : Side) (generation : ℕ) → IsLive old side generation

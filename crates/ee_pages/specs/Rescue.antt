@@ -1,5 +1,5 @@
--- Which set of a device with any words whatever is rescued, what it says, and which of its words are bad. RescueLaws has what
--- holds of it.
+-- Which set of a device with any words whatever is rescued, what it says, and which of its words
+-- are bad. RescueLaws has what holds of it.
 use Rattle.std.specs.Prelude.{ℕ, ◌+◌, Bool, true, false, not, ◌&&◌, ◌||◌, ◌==◌, nat_lt, is_some, if◌then◌else◌, Option, Some, None, List, [], ◌∷◌, zero, suc}
 use Rattle.std.specs.List.{list_any}
 use Rattle.ee_flash.specs.Device.{Device}
@@ -25,7 +25,8 @@ abbrev pub or_later : Option ℕ → ℕ → ℕ
 or_later None later = later
 or_later (Some generation) later = generation
 
--- the generation that the set names: that of its first receive word that can be read, by page, and 1 where none can
+-- the generation that the set names: that of its first receive word that can be read, by page,
+-- and 1 where none can
 abbrev pub named_generation : List (List Word) → ℕ
 named_generation [] = 1
 named_generation (words ∷ pages) = or_later (receive_of (word_in words 0)) (named_generation pages)
@@ -41,8 +42,9 @@ abbrev pub or_else : Option Side → Side → Side
 or_else None side = side
 or_else (Some found) side = found
 
--- Of two sets the one that is rescued, by the first of these rules that tells them apart: one alone is begun; one alone has
--- no mark that it may be erased; one alone is committed; the generation that it names is greater, and the first of equals.
+-- Of two sets the one that is rescued, by the first of these rules that tells them apart: one alone
+-- is begun; one alone has no mark that it may be erased; one alone is committed; the generation
+-- that it names is greater, and the first of equals.
 abbrev pub rescued_of : List (List Word) → List (List Word) → Option Side
 rescued_of first second =
     if not (has_begun first || has_begun second) then None

@@ -9,7 +9,7 @@ use Rattle.ee_pages.specs.Legal.{IsLive}
 use Rattle.ee_pages.specs.Meaning.{Map, latest_in, meaning, says}
 use Rattle.ee_pages.specs.Page.{is_torn, is_written}
 use Rattle.ee_pages.specs.Rescue.{is_bad, has_begun, is_left_behind, named_generation, rescued_map, rescued_of, rescued_side}
-use Rattle.ee_pages.specs.Sets.{committed_generation, greater, is_mark, live_of, other, set_of, slots_of, word_of}
+use Rattle.ee_pages.specs.Sets.{committed_generation, greater_set, is_mark, live_of, other, set_of, slots_of, word_of}
 use Rattle.ee_pages.specs.declared.side.Side.{Side}
 use Rattle.ee_pages.specs.declared.side.Side.TheVariants.{First, Second}
 
@@ -42,14 +42,15 @@ pub record PutsInSet (old new : Device) (side : Side) (page at : ℕ) (word : Wo
 abbrev pub IsSilent : Word → Type 0
 IsSilent word = (address : ℕ) → says word address ≡ None
 
--- The word went bad: in a header it isn't the mark, and in a slot it is no element and no forgetting. So is each word that
--- can't be read, and each that may not stand in its place but a mark.
+-- The word went bad: in a header it isn't the mark, and in a slot it is no element and
+-- no forgetting. So is each word that can't be read, and each that may not stand in
+-- its place but a mark.
 pub record WentBad (at : ℕ) (word : Word) : Type 0 where
   pub no_mark : at < 4 → is_mark (mark_of word) ≡ false
   pub silent : 3 < at → IsSilent word
 
--- Which set was live is told without the two words that commit it: the other set is not begun, or has a page with the whole
--- mark that it may be erased.
+-- Which set was live is told without the two words that commit it: the other set is not begun, or
+-- has a page with the whole mark that it may be erased.
 abbrev pub IsToldApart : Device → Side → Type 0
 IsToldApart device side = (has_begun (set_of (other side) device) ≡ false) ⊎ (is_left_behind (set_of (other side) device) ≡ true)
 
@@ -62,15 +63,16 @@ pub record IsNewest (slots : List Word) (slot address : ℕ) : Type 0 where
   pub says_nothing_later : latest_in (drop (slot + 1) slots) address ≡ None
   pub says_something : ¬ (says (slice_index_or slots slot Erased) address ≡ None)
 
--- The word that went bad was the newest element or forgetting of the address, and the address has what the other slots say.
+-- The word that went bad was the newest element or forgetting of the address, and the address has
+-- what the other slots say.
 pub record LosesNewest (old new : Device) (side : Side) (page at address : ℕ) : Type 0 where
   pub in_slot : 3 < at
   pub newest : IsNewest (slots_of (set_of side old)) (page * (old.size.words - 4) + (at - 4)) address
   pub map_is : rescued_map new address ≡ meaning_without (slots_of (set_of side old)) (page * (old.size.words - 4) + (at - 4)) address
 
--- One word of the live set that went bad costs its own value, and no more: the set is rescued, and each address has what it
--- had, but for the one of which that word was the newest. Of the two words that commit the set it takes that the set is told
--- apart without them.
+-- One word of the live set that went bad costs its own value, and no more: the set is rescued, and
+-- each address has what it had, but for the one of which that word was the newest. Of the two words
+-- that commit the set it takes that the set is told apart without them.
 abbrev pub OneWordCostsItsValue : Type 0
 OneWordCostsItsValue =
     (old new : Device) (side : Side) (generation page at : ℕ) (word : Word) → IsLive old side generation → PutsInSet old new side page at word → WentBad at word
@@ -85,20 +87,21 @@ WaitingWordCostsNothing =
     → (page ≡ 0 → at < 2 → IsToldApart old side)
     → (rescued_side new ≡ Some side) × ((address : ℕ) → rescued_map new address ≡ meaning (slots_of (set_of side old)) address)
 
--- Without that premise it does not hold: of these sets the second is live, and address 1 has 12. The first waits, and its mark
--- that it may be erased is torn. The second's active mark can't be read then, the first is rescued, and 1 has 11.
+-- Without that premise it does not hold: of these sets the second is live, and address 1 has 12.
+-- The first waits, and its mark that it may be erased is torn. The second's active mark can't be
+-- read then, the first is rescued, and 1 has 11.
 pub record LosesASet : Type 0 where
   pub waiting : List (List Word)
   pub alive : List (List Word)
-  pub is_live : greater (committed_generation waiting) (committed_generation alive) ≡ Some (Second, 2)
+  pub is_live : greater_set (committed_generation waiting) (committed_generation alive) ≡ Some (Second, 2)
   pub had : meaning (slots_of alive) 1 ≡ Some 12
   pub wrong : rescued_of waiting (slice_set alive 0 (slice_set (slice_index_or alive 0 []) 1 Torn)) ≡ Some First
   pub has : meaning (slots_of waiting) 1 ≡ Some 11
 
 -- ---- what is rescued stays so
 
--- The set of this side is live but for what stands behind its first words, and no page of it has the whole mark that it may
--- be erased.
+-- The set of this side is live but for what stands behind its first words, and no page of it has
+-- the whole mark that it may be erased.
 pub record IsHeld (device : Device) (side : Side) (generation : ℕ) : Type 0 where
   pub live : live_of device ≡ Some (side, generation)
   pub not_left : is_left_behind (set_of side device) ≡ false

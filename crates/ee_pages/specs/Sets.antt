@@ -36,22 +36,22 @@ is_mark Present = true
 is_mark Broken = false
 is_mark Foreign = false
 
--- The generation with which a set is committed: on its first page the receive word and the mark behind it can be read.
+-- The generation of a committed set: its first page has a receive word and a mark that can be read.
 abbrev pub committed_generation : List (List Word) → Option ℕ
 committed_generation pages = if is_mark (mark_of (word_of pages 0 1)) then receive_of (word_of pages 0 0) else None
 
 -- of two sets that are committed so, the one with the greater generation, and that generation
-abbrev pub greater : Option ℕ → Option ℕ → Option (Side × ℕ)
-greater None None = None
-greater (Some first) None = Some (First, first)
-greater None (Some second) = Some (Second, second)
-greater (Some first) (Some second) =
+abbrev pub greater_set : Option ℕ → Option ℕ → Option (Side × ℕ)
+greater_set None None = None
+greater_set (Some first) None = Some (First, first)
+greater_set None (Some second) = Some (Second, second)
+greater_set (Some first) (Some second) =
     if nat_lt second first then Some (First, first)
     else (if nat_lt first second then Some (Second, second) else None)
 
 -- the live set and its generation
 abbrev pub live_of : Device → Option (Side × ℕ)
-live_of device = greater (committed_generation (set_of First device)) (committed_generation (set_of Second device))
+live_of device = greater_set (committed_generation (set_of First device)) (committed_generation (set_of Second device))
 
 -- the slots of a set: the words behind the headers of its pages, in order
 abbrev pub slots_of : List (List Word) → List Word

@@ -1,8 +1,9 @@
-//! The room of a batch: up to `BATCH` addresses with their values, and while it is filled some with none.
+//! The room of a batch: up to `BATCH` addresses with their values, and while it is
+//! filled some with none.
 ghost use Rattle.std.specs.Prelude.{◌≡◌, ◌≢◌, ◌<◌, ◌≤◌, ◌+◌, ◌-◌, ◌*◌, ◌/◌, ◌%◌, ◌^◌, ◌==◌, ℕ, [], ◌∷◌, ◌++◌, IfNone, IfSome, None, false, insert, length, map, slice_index, slice_index_or, slice_set, take, true};
 ghost use Rattle.std.specs.List.{All};
 ghost use Rattle.ee_codec.specs.Words.{IsAddress};
-ghost use Rattle.ee_pages.specs.Nearest.{HasSameLast, IsOfAddress, IsRising, item_by, last_named, living, named_by, with_named};
+ghost use Rattle.ee_pages.specs.Nearest.{HasSameLast, IsOfAddress, IsRising, item_by, last_named, live_values, named_by, with_named};
 ghost use Rattle.ee_pages.specs.declared.batch_items.TheConstants.{BATCH};
 
 use crate::number::{address_in, gives_value, says_something};
@@ -12,8 +13,8 @@ use std::marker::Model;
 /// How many addresses a batch has room for.
 pub const BATCH: usize = 28;
 
-/// Addresses with their values, up to `BATCH`, in the value itself. While it is filled an address may
-/// stand in it that has no value.
+/// Addresses with their values, up to `BATCH`, in the value itself. While it is filled an address
+/// may stand in it that has no value.
 ///
 /// Source: ours.
 #[derive(Drop)]
@@ -108,32 +109,12 @@ impl Batch {
         self.len = 0;
     }
 
-    /// Notes what an element or a forgetting says of the last address, if it is of that. It is asked first,
-    /// since an address that changes often has most of the slots.
+    /// Notes what a number with an address says of it, over what was noted of it, if it is that of
+    /// an element or a forgetting. Where there is no room the last address falls out. Says whether
+    /// there may be another last address, or one more, than before. It stands in the loop over a
+    /// run, so that no number of an address that has a place takes a call.
     #[inline(always)]
-    pub(crate) fn note_last(&mut self, number: u64) -> bool
-        requires proper { IsOfAddress number }
-        requires rising { (above : ℕ) × IsRising above self.old.named }
-        requires few { length self.old.named ≤ BATCH }
-        ensures kind { result ≡ true → number / 2 ^ 16 % 2 ^ 16 < 2 }
-        ensures noted { result ≡ true
-            → self.new.named ≡ take BATCH (with_named (named_by number) self.old.named) }
-        ensures same { result ≡ true → HasSameLast self.old.named self.new.named }
-        ensures other { result ≡ false → self.new.named ≡ self.old.named }
-    {
-        let len = self.len;
-        if len == 0 || !says_something(number) || !self.has(len - 1, address_in(number)) {
-            return false;
-        }
-        self.set(len - 1, number);
-        true
-    }
-
-    /// Notes what a number with an address says of it, over what was noted of it, if it is that of an
-    /// element or a forgetting. Where there is no room the last address falls out. Says whether there may
-    /// be another last address, or one more, than before.
-    #[inline(never)]
-    pub(crate) fn note(&mut self, number: u64) -> bool
+    pub(crate) fn note_any(&mut self, number: u64) -> bool
         requires proper { IsOfAddress number }
         requires rising { (above : ℕ) × IsRising above self.old.named }
         requires few { length self.old.named ≤ BATCH }
@@ -221,7 +202,8 @@ impl Batch {
         Address::new(address_in(self.numbers[BATCH - 1]))
     }
 
-    /// The greatest address that has a place in it: the last one, where there is no room for one more.
+    /// The greatest address that has a place in it: the last one, where there is no room for one
+    /// more.
     pub(crate) fn greatest(&self) -> u16
         ensures room { length self.now.named < BATCH → result ≡ 65534 }
         ensures full { (above : ℕ) → length self.now.named ≡ BATCH
@@ -237,7 +219,7 @@ impl Batch {
 
     /// Keeps those that have a value.
     pub(crate) fn keep_living(&mut self)
-        ensures items { self.new.items ≡ living self.old.named }
+        ensures items { self.new.items ≡ live_values self.old.named }
         ensures proper { All (λ found. IsAddress found.0) self.new.items }
     {
         self.len = keep(&mut self.numbers, self.len);
@@ -255,8 +237,8 @@ fn one_more(count: usize) -> usize
     if count < BATCH { count + 1 } else { BATCH }
 }
 
-/// How many of these addresses, which rise, are no greater than this one. It looks from the last down,
-/// since most addresses are above all.
+/// How many of these addresses, which rise, are no greater than this one. It looks from the last
+/// down, since most addresses are above all.
 fn place_in(rising: &[u64], address: u16) -> usize
     ensures within { result ≤ length rising.now }
     ensures through { 0 < result → slice_index rising.now (result - 1) % 2 ^ 16 ≤ address }
@@ -270,8 +252,8 @@ fn place_in(rising: &[u64], address: u16) -> usize
     place
 }
 
-/// Puts a number in at this place of a list, and moves what stands from there on to before `end` one
-/// further; the last of these falls out.
+/// Puts a number in at this place of a list, and moves what stands from there on to before `end`
+/// one further; the last of these falls out.
 fn put_in(list: &mut [u64], place: usize, end: usize, number: u64)
     requires place { place ≤ end }
     requires end { end ≤ length list.old }
@@ -290,7 +272,7 @@ fn put_in(list: &mut [u64], place: usize, end: usize, number: u64)
 fn keep(numbers: &mut [u64], count: usize) -> usize
     requires { count ≤ length numbers.old }
     ensures living { map item_by (take result numbers.new)
-        ≡ living (map named_by (take count numbers.old)) }
+        ≡ live_values (map named_by (take count numbers.old)) }
     ensures few { result ≤ count }
     ensures proper { All IsOfAddress numbers.old → All IsOfAddress numbers.new }
 {

@@ -1,12 +1,13 @@
-//! The scan: where the live set of a legal image is and how far it is used, or why an image isn't legal.
+//! The scan: where the live set of a legal image is and how far it is used, or why
+//! an image isn't legal.
 ghost use Rattle.std.specs.Bool.{MatchBool};
-ghost use Rattle.std.specs.Prelude.{◌≡◌, ◌<◌, ◌≤◌, ◌↔◌, ℕ, ◌+◌, ◌*◌, ◌-◌, IfErr, IfNone, IfOk, IfSome, IsTrue, None, OnOk, Some, false, is_ok, length, slice_index, true};
+ghost use Rattle.std.specs.Prelude.{◌≡◌, ◌≢◌, ◌<◌, ◌≤◌, ◌↔◌, ℕ, ◌+◌, ◌*◌, ◌-◌, IfErr, IfNone, IfOk, IfSome, IsTrue, None, OnOk, Some, false, is_ok, length, slice_index, true};
 ghost use Rattle.ee_codec.specs.Reading.{slot_of};
 ghost use Rattle.ee_codec.specs.Words.{IsGeneration};
 ghost use Rattle.ee_flash.specs.Device.{word_at};
 ghost use Rattle.ee_flash.specs.Size.{header_words, page_count};
 ghost use Rattle.ee_flash.specs.declared.word.Word.TheVariants.{Held};
-ghost use Rattle.ee_pages.specs.Layout.{IsFirstForeign, IsLayout, IsScanFault, IsUnformatted, IsWrittenBehind};
+ghost use Rattle.ee_pages.specs.Layout.{IsFirstForeign, IsLayout, IsScanFault, IsUnformatted, IsUsedTo};
 ghost use Rattle.ee_pages.specs.Legal.{IsLegal, fits as may_stand, holds_slot, is_allowed_at, is_element, place_of as place};
 ghost use Rattle.ee_pages.specs.Page.{is_written as written};
 ghost use Rattle.ee_pages.specs.Sets.{front, live_of, page_of_slot, set_of, slots_of, word_of};
@@ -15,7 +16,7 @@ use crate::number::is_slot;
 use crate::runs::{RUN, run_from};
 use crate::side::{Side, committed, first_page, set_word};
 use crate::state::{blank_to, is_blank, is_torn};
-use crate::table::{fits, place_of};
+use crate::table::fits_header;
 use ee_flash::{Flash, HEADER_WORDS};
 
 /// Where the live set of a legal image is and how far it is used.
@@ -49,8 +50,8 @@ pub enum ScanFault {
     Foreign { page: usize, at: usize },
 }
 
-/// Finds the live set of a legal image. It reads each word of the live set at most twice, and behind
-/// each torn slot once more the words that stood in one run with it, up to 15.
+/// Finds the live set of a legal image. It reads each word of the live set at most twice, and
+/// behind each torn slot once more the words that stood in one run with it, up to 15.
 ///
 /// Source: one of two sets takes the writes, AN4894; the rest is ours.
 ///
@@ -121,9 +122,9 @@ fn live_set<F: Flash>(flash: &F) -> Result<(Side, u32), ScanFault>
     }
 }
 
-/// How many slots of a live set are used, and the page of the last of them, the first page where none
-/// is; or the first word, by page and then place, that may not stand there. Pages are counted from the
-/// set's first.
+/// How many slots of a live set are used, and the page of the last of them, the first page where
+/// none is; or the first word, by page and then place, that may not stand there. Pages are counted
+/// from the set's first.
 fn front_of<F: Flash>(
     flash: &F,
     side: Side,
@@ -142,86 +143,45 @@ fn front_of<F: Flash>(
         (λ place. IsFirstForeign device.size generation (set_of side device) place.0 place.1) }
 {
     let shape = flash.shape();
+    let slots = shape.words() - HEADER_WORDS;
+    let mut used = 0;
+    let mut last = 0;
     for page in 0..shape.pages() {
-        match front_of_page(flash, side, generation, page) {
+        match used_of_page(flash, side, generation, page, used == page * slots) {
             Err(at) => return Err((page, at)),
-            Ok(used) => {
-                if used < shape.words() - HEADER_WORDS {
-                    return front_in(flash, side, page, used);
+            Ok(here) => {
+                if here > 0 {
+                    last = page;
                 }
+                used += here;
             }
         }
     }
-    Ok((shape.slots(), shape.pages() - 1))
+    Ok((used, last))
 }
 
-/// The same, where the first slot that isn't used is this one of a page: behind it all has to be erased.
-fn front_in<F: Flash>(
-    flash: &F,
-    side: Side,
-    page: usize,
-    used: usize,
-) -> Result<(usize, usize), (usize, usize)>
-    requires page_in_range { page < (F.device flash.now).size.pages }
-    requires slot_in_range { used < (F.device flash.now).size.words - header_words }
-    ensures front { let size = (F.device flash.now).size in IfOk result
-        (λ front. front.0 ≡ page * (size.words - header_words) + used) }
-    ensures page { let size = (F.device flash.now).size in IfOk result
-        (λ front. front.1 ≡ page_of_slot size (front.0 - 1)) }
-    ensures within { IfOk result (λ front. front.1 < (F.device flash.now).size.pages) }
-    ensures blank { let device = F.device flash.now in OnOk result
-        ((k j : ℕ) → page < k → k < device.size.pages → j < device.size.words
-        → written (word_of (set_of side device) k j) ≡ false) }
-    ensures found { IfErr result (IsWrittenBehind (F.device flash.now) side page) }
-{
-    blank_behind(flash, side, page)?;
-    let slots = flash.shape().words() - HEADER_WORDS;
-    let last = if used == 0 {
-        page.saturating_sub(1)
-    } else {
-        page
-    };
-    Ok((page * slots + used, last))
-}
-
-/// That the pages of a set behind this one are blank, or their first word, by page and then place, that
-/// is written.
-fn blank_behind<F: Flash>(flash: &F, side: Side, page: usize) -> Result<(), (usize, usize)>
-    requires { page < (F.device flash.now).size.pages }
-    ensures blank { let device = F.device flash.now in OnOk result
-        ((k j : ℕ) → page < k → k < device.size.pages → j < device.size.words
-        → written (word_of (set_of side device) k j) ≡ false) }
-    ensures found { IfErr result (IsWrittenBehind (F.device flash.now) side page) }
-{
-    let shape = flash.shape();
-    let first = first_page(flash, side);
-    for behind in page + 1..shape.pages() {
-        let at = blank_to(flash, first + behind, 0);
-        if at < shape.words() {
-            return Err((behind, at));
-        }
-    }
-    Ok(())
-}
-
-/// How many slots of a page of a live set are used, where all before them are; or the first word of the
-/// page that may not stand there.
-fn front_of_page<F: Flash>(
+/// How many slots of a page of a live set are used, none where not all before them are; or the
+/// first word of the page that may not stand there.
+fn used_of_page<F: Flash>(
     flash: &F,
     side: Side,
     generation: u32,
     page: usize,
+    full: bool,
 ) -> Result<usize, usize>
     requires generation { IsGeneration generation }
     requires page_in_range { page < (F.device flash.now).size.pages }
-    requires before { let device = F.device flash.now in
-        page * (device.size.words - header_words) ≤ front (slots_of (set_of side device)) }
+    requires before { let device = F.device flash.now in full ≡ true
+        → page * (device.size.words - header_words) ≤ front (slots_of (set_of side device)) }
+    requires behind { let device = F.device flash.now in full ≡ false
+        → front (slots_of (set_of side device)) < page * (device.size.words - header_words) }
     ensures within { IfOk result (λ used. used ≤ (F.device flash.now).size.words - header_words) }
-    ensures used { let device = F.device flash.now in IfOk result
-        (λ used. page * (device.size.words - header_words) + used ≤ front (slots_of (set_of side device))) }
+    ensures used { let device = F.device flash.now in IfOk result (λ used. full ≡ true
+        → page * (device.size.words - header_words) + used ≤ front (slots_of (set_of side device))) }
     ensures front { let device = F.device flash.now in IfOk result
-        (λ used. used < device.size.words - header_words
+        (λ used. full ≡ true → used < device.size.words - header_words
         → front (slots_of (set_of side device)) ≡ page * (device.size.words - header_words) + used) }
+    ensures none { IfOk result (λ used. full ≡ false → used ≡ 0) }
     ensures allowed { let device = F.device flash.now in OnOk result ((j : ℕ) → j < device.size.words
         → is_allowed_at device.size generation (set_of side device) page j ≡ true) }
     ensures place_in_range { IfErr result (λ at. at < (F.device flash.now).size.words) }
@@ -230,17 +190,45 @@ fn front_of_page<F: Flash>(
     ensures before { let device = F.device flash.now in IfErr result (λ at. (j : ℕ) → j < at
         → is_allowed_at device.size generation (set_of side device) page j ≡ true) }
 {
-    if let Some(at) = foreign_in_header(flash, side, generation, page) {
-        return Err(at);
-    }
-    let here = first_page(flash, side) + page;
-    let end = used_to(flash, here);
-    // Behind the slots that are used all have to be erased, the next one first of all.
-    let written = blank_to(flash, here, end);
+    let from = unused_from(flash, side, generation, page, full)?;
+    // From there on all have to be erased, the next slot first of all.
+    let written = blank_to(flash, first_page(flash, side) + page, from);
     if written < flash.shape().words() {
         return Err(written);
     }
-    Ok(end - HEADER_WORDS)
+    Ok(from.saturating_sub(HEADER_WORDS))
+}
+
+/// The place in a page of a live set from which on all has to be erased: behind its used slots, or
+/// its first word where not all slots before it are used. Or the first word of its header that
+/// doesn't fit its place.
+fn unused_from<F: Flash>(
+    flash: &F,
+    side: Side,
+    generation: u32,
+    page: usize,
+    full: bool,
+) -> Result<usize, usize>
+    requires generation { IsGeneration generation }
+    requires page_in_range { page < (F.device flash.now).size.pages }
+    ensures used { IfOk result (λ from. full ≡ true
+        → IsUsedTo (F.device flash.now) generation side page from) }
+    ensures none { IfOk result (λ from. full ≡ false → from ≡ 0) }
+    ensures within { IfOk result (λ from. from ≤ (F.device flash.now).size.words) }
+    ensures full { IfErr result (λ at. full ≡ true) }
+    ensures header { IfErr result (λ at. at < header_words) }
+    ensures foreign { IfErr result (λ at. may_stand generation (place page at)
+        (word_of (set_of side (F.device flash.now)) page at) ≡ false) }
+    ensures before { IfErr result (λ at. (j : ℕ) → j < at → may_stand generation (place page j)
+        (word_of (set_of side (F.device flash.now)) page j) ≡ true) }
+{
+    if !full {
+        return Ok(0);
+    }
+    match foreign_in_header(flash, side, generation, page) {
+        Some(at) => Err(at),
+        None => Ok(used_to(flash, first_page(flash, side) + page)),
+    }
 }
 
 /// The first word of the header of a page of a live set that doesn't fit its place.
@@ -255,20 +243,26 @@ fn foreign_in_header<F: Flash>(flash: &F, side: Side, generation: u32, page: usi
     ensures none { IfNone result ((j : ℕ) → j < header_words → may_stand generation (place page j)
         (word_of (set_of side (F.device flash.now)) page j) ≡ true) }
 {
-    for at in 0..HEADER_WORDS {
-        if !fits(
-            generation,
-            place_of(page, at),
-            set_word(flash, side, page, at),
-        ) {
+    for at in first_told(page)..HEADER_WORDS {
+        if !fits_header(generation, at, set_word(flash, side, page, at)) {
             return Some(at);
         }
     }
     None
 }
 
-/// The place of a page's first slot that is neither torn nor has an element or a forgetting; as many as
-/// the page has words where each is or has. It stays out of the opening, whose stack is deep without it.
+/// The place from which on the words of a header have to fit: those that commit the
+/// set are told apart.
+fn first_told(page: usize) -> usize
+    ensures first { page ≡ 0 → result ≡ 2 }
+    ensures further { page ≢ 0 → result ≡ 0 }
+{
+    if page == 0 { 2 } else { 0 }
+}
+
+/// The place of a page's first slot that is neither torn nor has an element or a forgetting;
+/// as many as the page has words where each is or has. It stays out of the opening, whose
+/// stack is deep without it.
 #[inline(never)]
 fn used_to<F: Flash>(flash: &F, page: usize) -> usize
     requires { page < page_count (F.device flash.now).size }

@@ -1,4 +1,5 @@
-//! Laws that hold of every device and every step, each the contract of a function that does nothing.
+//! Laws that hold of every device and every step, each the contract of a function that does
+//! nothing.
 ghost use Rattle.ee_pages.specs.Elements.{LastElementCounts};
 ghost use Rattle.ee_pages.specs.Filling.{CommitCommits, FirstCommitCommits, OpensPage, OpensSet, StagesChange, WholeCommitCommits};
 ghost use Rattle.ee_pages.specs.Laws.{KeptSideIsLive, OtherSetKeepsLive, OtherSetKeepsSide, ProgramLeavesWritten, StepKeepsOtherPages};
@@ -12,8 +13,8 @@ pub fn other_set_keeps_live()
     ensures { OtherSetKeepsLive }
 {}
 
-/// Every outcome of a step in one set keeps the other, whatever stands in either, unless the step can
-/// commit the set that it is in.
+/// Every outcome of a step in one set keeps the other, whatever stands in either, unless the step
+/// can commit the set that it is in.
 pub fn other_set_keeps_side()
     ensures { OtherSetKeepsSide }
 {}
@@ -76,7 +77,8 @@ pub fn whole_commit_commits()
     ensures { WholeCommitCommits }
 {}
 
-/// Every outcome of erasing a page that is not blank leaves as many pages that are not, or one less.
+/// Every outcome of erasing a page that is not blank leaves as many pages that are not, or one
+/// less.
 pub fn erase_lowers_pending()
     ensures { EraseLowersPending }
 {}

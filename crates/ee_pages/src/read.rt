@@ -1,5 +1,6 @@
-//! What the slots of a live set say: values, the next live address, how many are live, how many torn.
-ghost use Rattle.std.specs.Prelude.{◌≡◌, ◌<◌, ◌≤◌, ◌+◌, ◌-◌, ◌*◌, ◌%◌, ◌^◌, ◌≢◌, ℕ, IfSome, drop, length, slice_index, slice_index_or, take};
+//! What the slots of a live set say: values, the next live address, how many are
+//! live, how many torn.
+ghost use Rattle.std.specs.Prelude.{◌≡◌, ◌<◌, ◌≤◌, ◌+◌, ◌-◌, ◌*◌, ◌%◌, ◌^◌, ◌≢◌, ℕ, IfSome, Some, drop, length, slice_index, slice_index_or, take};
 ghost use Rattle.ee_codec.specs.Words.{IsAddress};
 ghost use Rattle.ee_flash.specs.Size.{header_words, slot_count};
 ghost use Rattle.ee_pages.specs.Layout.{IsLayout};
@@ -11,7 +12,7 @@ use crate::batch::{LiveBatch, next_batch};
 use crate::find::Layout;
 use crate::number::{address_in, gives_value, says_something};
 use crate::runs::RUN;
-use crate::side::{Side, first_page, page_slot, set_slot};
+use crate::side::{Side, first_page, page_slot, set_number, set_slot};
 use crate::state::is_torn;
 use ee_codec::Address;
 use ee_flash::{Flash, HEADER_WORDS, Word};
@@ -28,8 +29,22 @@ pub fn slot_word<F: Flash>(flash: &F, layout: &Layout, slot: usize) -> Word
     set_slot(flash, layout.side, slot)
 }
 
-/// The value of an address, `None` if it has none. It reads the slots in runs from the newest down, each
-/// once, to the run with the first that says something of the address. The layout is the image's.
+/// The value that a slot of the live set says, by the slot's number, counted from 0 and below the
+/// capacity; any number where the slot says none. The layout is the image's.
+///
+/// Source: ours.
+pub fn slot_value<F: Flash>(flash: &F, layout: &Layout, slot: usize) -> u32
+    requires { slot < slot_count (F.device flash.now).size }
+    ensures { let slots = slots_of (set_of layout.now.side (F.device flash.now)) in
+        (address value : ℕ) → word_says (slice_index_or slots slot Word.Erased) address ≡ Some (Some value)
+        → result ≡ value }
+{
+    (set_number(flash, layout.side, slot) >> 32) as u32
+}
+
+/// The value of an address, `None` if it has none. It reads the slots in runs from the
+/// newest down, each once, to the run with the first that says something of the address. The
+/// layout is the image's.
 ///
 /// Source: the last element written for an address is its value, AN4894; a forgetting is ours.
 pub fn latest<F: Flash>(flash: &F, layout: &Layout, address: Address) -> Option<u32>
@@ -79,8 +94,8 @@ pub fn next_live<F: Flash>(
     }
 }
 
-/// How many addresses have a value, 0 to the capacity. It looks through the slots once for each batch
-/// of live addresses. The layout is the image's.
+/// How many addresses have a value, 0 to the capacity. It looks through the slots once for each
+/// batch of live addresses. The layout is the image's.
 ///
 /// Source: ours.
 pub fn live_count<F: Flash>(flash: &F, layout: &Layout) -> usize
@@ -100,8 +115,8 @@ pub fn live_count<F: Flash>(flash: &F, layout: &Layout) -> usize
     }
 }
 
-/// How many slots of the live set are torn, 0 to its fill. It reads each slot once. The layout is the
-/// image's.
+/// How many slots of the live set are torn, 0 to its fill. It reads each slot once. The
+/// layout is the image's.
 ///
 /// Source: ours.
 pub fn torn_slots<F: Flash>(flash: &F, layout: &Layout) -> usize
@@ -115,8 +130,8 @@ pub fn torn_slots<F: Flash>(flash: &F, layout: &Layout) -> usize
     torn
 }
 
-/// How many slots are torn up to the end of a page of a set, where this many are torn before it. Page
-/// by page, since finding a slot by its number takes a division.
+/// How many slots are torn up to the end of a page of a set, where this many are torn before it.
+/// Page by page, since finding a slot by its number takes a division.
 fn torn_through<F: Flash>(flash: &F, side: Side, page: usize, before: usize) -> usize
     requires page_in_range { page < (F.device flash.now).size.pages }
     requires before { let device = F.device flash.now in before
@@ -166,8 +181,8 @@ fn said_in_page<F: Flash>(
     None
 }
 
-/// How many of these numbers stand up to the last that ends in an address, 0 where none does. It does no
-/// more than that, since most numbers end in another one.
+/// How many of these numbers stand up to the last that ends in an address, 0 where none does. It
+/// does no more than that, since most numbers end in another one.
 #[inline(never)]
 fn ending_in(numbers: &[u64], address: Address) -> usize
     ensures within { result ≤ length numbers.now }
@@ -183,8 +198,8 @@ fn ending_in(numbers: &[u64], address: Address) -> usize
     left
 }
 
-/// What a number says of the address that it ends in: nothing, or that it has a value or none from here
-/// on.
+/// What a number says of the address that it ends in: nothing, or that it has a value
+/// or none from here on.
 fn said(number: u64) -> Option<Option<u32>>
     ensures { IsAddress (number % 2 ^ 16) → result ≡ word_says (Word.Held number) (number % 2 ^ 16) }
 {

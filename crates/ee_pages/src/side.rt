@@ -1,11 +1,15 @@
 //! The two sets of a device, and the places of their pages, words and slots.
-ghost use Rattle.std.specs.Prelude.{◌≡◌, ◌<◌, ◌+◌, ◌-◌, ◌*◌, IfSome, slice_index_or};
+ghost use Rattle.std.specs.Prelude.{◌≡◌, ◌<◌, ◌+◌, ◌-◌, ◌*◌, ℕ, IfSome, slice_index_or};
 ghost use Rattle.ee_codec.specs.Words.{IsGeneration};
 ghost use Rattle.ee_flash.specs.Size.{header_words, slot_count};
+ghost use Rattle.ee_pages.specs.Meaning.{says};
 ghost use Rattle.ee_pages.specs.Sets.{committed_generation as commits, first_page as first, other as other_of, set_of, slots_of, word_of};
 
-use ee_codec::{MarkRead, read_mark, read_receive};
+use ee_codec::{MARK, read_receive};
 use ee_flash::{Flash, HEADER_WORDS, Word};
+
+/// How many words commit a set: the first ones of its first page.
+const COMMITTING: usize = 2;
 
 /// One of the two sets of pages.
 ///
@@ -70,13 +74,45 @@ pub(crate) fn set_slot<F: Flash>(flash: &F, side: Side, slot: usize) -> Word
     page_slot(flash, side, slot / slots, slot % slots)
 }
 
+/// The number of the slot of this number of a page of a set, both counted from 0: it says
+/// what the slot says.
+fn page_number<F: Flash>(flash: &F, side: Side, page: usize, slot: usize) -> u64
+    requires page_in_range { page < (F.device flash.now).size.pages }
+    requires slot_in_range { slot < (F.device flash.now).size.words - header_words }
+    ensures { let slots = slots_of (set_of side (F.device flash.now)) in
+        let place = page * ((F.device flash.now).size.words - header_words) + slot in
+        (address : ℕ) → says (slice_index_or slots place Word.Erased) address ≡ says (Word.Held result) address }
+{
+    let mut room = [0; 1];
+    let run = flash.run(
+        first_page(flash, side) + page,
+        HEADER_WORDS + slot,
+        &mut room,
+    );
+    run[0]
+}
+
+/// The number of the slot of this number of a set, counted from 0: it says what the slot says.
+pub(crate) fn set_number<F: Flash>(flash: &F, side: Side, slot: usize) -> u64
+    requires { slot < slot_count (F.device flash.now).size }
+    ensures { let slots = slots_of (set_of side (F.device flash.now)) in
+        (address : ℕ) → says (slice_index_or slots slot Word.Erased) address ≡ says (Word.Held result) address }
+{
+    let slots = flash.shape().words() - HEADER_WORDS;
+    page_number(flash, side, slot / slots, slot % slots)
+}
+
 /// The generation with which a set is committed.
 pub(crate) fn committed<F: Flash>(flash: &F, side: Side) -> Option<u32>
     ensures generation { result ≡ commits (set_of side (F.device flash.now)) }
     ensures proper { IfSome result IsGeneration }
 {
-    match read_mark(set_word(flash, side, 0, 1)) {
-        MarkRead::Present => read_receive(set_word(flash, side, 0, 0)),
-        _ => None,
+    let mut room = [1; COMMITTING];
+    let numbers = flash.run(first_page(flash, side), 0, &mut room[..COMMITTING]);
+    // A torn word is 0 in a run, and an erased one all ones: neither is a mark or a receive word.
+    if numbers[1] == MARK {
+        read_receive(Word::Held(numbers[0]))
+    } else {
+        None
     }
 }

@@ -1,10 +1,11 @@
 //! Which word may stand in which place of a live set: what makes an image legal.
-ghost use Rattle.std.specs.Prelude.{◌≡◌};
+ghost use Rattle.std.specs.Prelude.{◌≡◌, ◌<◌, ◌≤◌, ◌⊎◌, ℕ};
 ghost use Rattle.ee_codec.specs.Words.{IsGeneration};
+ghost use Rattle.ee_flash.specs.Size.{header_words};
 ghost use Rattle.ee_pages.specs.Legal.{fits as may_stand, place_of as place};
 
 use crate::state::is_written;
-use ee_codec::{MarkRead, Slot, read_mark, read_slot, receive_word};
+use ee_codec::{MARK, MarkRead, Slot, read_mark, read_slot, receive_word};
 use ee_flash::Word;
 
 /// The places of a live set, by what may stand in them.
@@ -41,8 +42,9 @@ pub(crate) fn place_of(page: usize, at: usize) -> Place
     }
 }
 
-/// Whether the word may stand in the place of a live set of this generation. It stands in each of its
-/// callers, so that an opening has the same code in firmware whether bad words are counted or not.
+/// Whether the word may stand in the place of a live set of this generation. It stands in
+/// each of its callers, so that an opening has the same code in firmware whether bad words
+/// are counted or not.
 #[inline(always)]
 pub(crate) fn fits(generation: u32, place: Place, word: Word) -> bool
     requires { IsGeneration generation }
@@ -57,5 +59,24 @@ pub(crate) fn fits(generation: u32, place: Place, word: Word) -> bool
         Place::Marking => !matches!(read_mark(word), MarkRead::Foreign),
         Place::Erasing => !is_written(word),
         Place::InSlot => !matches!(read_slot(word), Slot::Foreign),
+    }
+}
+
+/// Whether the word may stand in this place of the header of a page of a live set of this
+/// generation, but for the two that commit the set. It does so exactly where `fits` does.
+pub(crate) fn fits_header(generation: u32, at: usize, word: Word) -> bool
+    requires generation { IsGeneration generation }
+    requires place_in_range { at < header_words }
+    ensures { (page : ℕ) → (0 < page) ⊎ (2 ≤ at) → result ≡ may_stand generation (place page at) word }
+{
+    let expected = if at == 0 {
+        receive_word(generation)
+    } else {
+        MARK
+    };
+    match word {
+        Word::Erased => true,
+        Word::Torn => at < 3,
+        Word::Held(number) => at < 3 && number == expected,
     }
 }

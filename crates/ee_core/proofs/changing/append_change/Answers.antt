@@ -1,5 +1,5 @@
 use Rattle.std.proofs.Common.{arith}
-use Rattle.ee_core.specs.Parts.{meant, number_written}
+use Rattle.ee_core.specs.CallSteps.{map_change, number_written}
 use Rattle.ee_core.specs.State.{state_of}
 use Rattle.ee_core.proofs.AfterCalls.{never_on_ok, not_both}
 use Rattle.ee_core.proofs.Making.{always_on_err, appends, cut_in_append, live_after_append, marked_store, number_is, off_store, shows_appended, shows_cut_append}
@@ -18,9 +18,9 @@ returns-in_err-append g c =
       appended = never_on_ok _ _ failed;
       written = never_on_ok _ _ failed;
       cut = always_on_err _
-          (cut_in_append old new layout.side layout.generation c.requires.layout.live (meant c.args.change) c.requires.proceeds cut
+          (cut_in_append old new layout.side layout.generation c.requires.layout.live (map_change c.args.change) c.requires.proceeds cut
           (omega (arith, c.requires.free, c.requires.layout.fill)) left.other left.cut left.wear
-          (shows_cut_append old new layout.side layout.generation c.requires.layout.live (meant c.args.change) layout.fill (number_written c.args.change) c.requires.layout.fill
+          (shows_cut_append old new layout.side layout.generation c.requires.layout.live (map_change c.args.change) layout.fill (number_written c.args.change) c.requires.layout.fill
           (number_is c.args.change (state_of old).map c.requires.forgets) cut.same_size left.begun left.other));
       store = off_store new layout.side layout.generation (live_after_append old new layout.side layout.generation _ left.cut) cut.is_off;
       layout = λ on. absurd (not_both new on cut.is_off);
@@ -35,9 +35,9 @@ returns g c =
     let done = ended.writes in
     let on = ended.power.ok in
     record {
-      appended = appends old new layout.side layout.generation c.requires.layout.live (meant c.args.change) c.requires.proceeds on
+      appended = appends old new layout.side layout.generation c.requires.layout.live (map_change c.args.change) c.requires.proceeds on
           (omega (arith, c.requires.free, c.requires.layout.fill)) done.takes done.other done.wear
-          (shows_appended old new layout.side layout.generation c.requires.layout.live (meant c.args.change) layout.fill (number_written c.args.change) c.requires.layout.fill
+          (shows_appended old new layout.side layout.generation c.requires.layout.live (map_change c.args.change) layout.fill (number_written c.args.change) c.requires.layout.fill
           (number_is c.args.change (state_of old).map c.requires.forgets) on.same_size done.drawn done.other);
       written = done;
       cut = tt;

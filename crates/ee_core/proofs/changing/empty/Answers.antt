@@ -4,7 +4,7 @@ use Rattle.ee_core.proofs.Emptying.{cut_clear, empties}
 use Rattle.ee_core.proofs.Making.{always_on_err, few_pending, store_after_move}
 use Rattle.ee_core.proofs.MovingFacts.{live_or_moved}
 use Rattle.ee_core.proofs.Nothing.{all_forgotten}
-use Rattle.ee_core.specs.Parts.{map_in}
+use Rattle.ee_core.specs.CallSteps.{map_in}
 use Rattle.ee_core.specs.Puts.{each_forgotten}
 use Rattle.ee_core.proofs.changing.empty.Goals as goal
 

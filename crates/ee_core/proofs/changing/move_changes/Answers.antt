@@ -1,6 +1,6 @@
 use Rattle.std.proofs.Common.{◌+◌, ap, arith}
 use Rattle.ee_pages.specs.Sets.{other}
-use Rattle.ee_core.specs.Puts.{carried}
+use Rattle.ee_core.specs.Puts.{changes_of_puts}
 use Rattle.ee_core.proofs.AfterCalls.{never_on_ok, not_both}
 use Rattle.ee_core.proofs.Making.{always_on_err, changes_fit, cut_in_move, few_pending, few_within, generation_left, marked_store, moves, shows_cut_move, shows_moved, store_after_move}
 use Rattle.ee_pages.proofs.Public.{older_live}
@@ -14,20 +14,20 @@ pub transfer-requires-clause-generation : goal.transfer-requires-clause-generati
 transfer-requires-clause-generation g c =
     let old = g.F.Flash.device c.args.flash.now in
     let layout = c.args.layout.now in
-    generation_left old layout.side layout.generation c.requires.layout.live (carried c.args.puts.now c.args.forgets) c.requires.needed c.requires.proceeds.accepted.not_spent
+    generation_left old layout.side layout.generation c.requires.layout.live (changes_of_puts c.args.puts.now c.args.forgets) c.requires.needed c.requires.proceeds.accepted.not_spent
 
 pub transfer-requires-clause-fits : goal.transfer-requires-clause-fits
 transfer-requires-clause-fits g c =
     let old = g.F.Flash.device c.args.flash.now in
     let layout = c.args.layout.now in
-    changes_fit old layout.side layout.generation c.requires.layout.live (few_within old layout.side (g.met.F.Flash.formed c.args.flash.now)) (carried c.args.puts.now c.args.forgets) c.requires.apart c.requires.proceeds.accepted
+    changes_fit old layout.side layout.generation c.requires.layout.live (few_within old layout.side (g.met.F.Flash.formed c.args.flash.now)) (changes_of_puts c.args.puts.now c.args.forgets) c.requires.apart c.requires.proceeds.accepted
 
 pub returns-in_err-transfer : goal.returns-in_err-transfer
 returns-in_err-transfer g c =
     let old = g.F.Flash.device c.args.flash.now in
     let new = g.F.Flash.device c.transfer.new.flash in
     let layout = c.args.layout.now in
-    let changes = carried c.args.puts.now c.args.forgets in
+    let changes = changes_of_puts c.args.puts.now c.args.forgets in
     let ended = c.in_err-transfer.ensures in
     let cut = ended.power.cut c.requires.proceeds.on in
     let few = few_pending new (other layout.side) (g.met.F.Flash.formed c.transfer.new.flash) in
@@ -48,7 +48,7 @@ returns g c =
     let old = g.F.Flash.device c.args.flash.now in
     let new = g.F.Flash.device c.transfer.new.flash in
     let layout = c.args.layout.now in
-    let changes = carried c.args.puts.now c.args.forgets in
+    let changes = changes_of_puts c.args.puts.now c.args.forgets in
     let ended = c.in_ok-transfer.ensures in
     let done = ended.moves in
     let on = ended.power.ok in

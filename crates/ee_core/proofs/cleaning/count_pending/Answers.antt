@@ -10,14 +10,18 @@ pages-init g c = record { few = omega arith; count = sym (none_yet c.args.side (
 
 pub overflow_add-count : goal.overflow_add-count
 overflow_add-count g c =
-    let device = g.F.Flash.device c.args.flash.now in let formed = g.met.F.Flash.formed c.args.flash.now in
+    let device = g.F.Flash.device c.args.flash.now in
+    let formed = g.met.F.Flash.formed c.args.flash.now in
     omega (arith, c.pages.invariant.few, first_below device.size c.args.side, c.first_page-first.ensures, c.pages-2.ensures.few, formed.within_limits.few_pages)
 
 pub pages-preserved : goal.pages-preserved
 pages-preserved g c =
-    let device = g.F.Flash.device c.args.flash.now in let formed = g.met.F.Flash.formed c.args.flash.now in let first = c.first_page-first.result in
+    let device = g.F.Flash.device c.args.flash.now in
+    let formed = g.met.F.Flash.formed c.args.flash.now in
+    let first = c.first_page-first.result in
     let pages : c.pages-2.result ≡ device.size.pages = c.pages-2.ensures.value ∙ ap (λ (size : Size). size.pages) c.shape.ensures in
-    let from : first ≤ c.pages.page = c.pages.auto.page in let below : c.pages.page < first + device.size.pages = omega (arith, pages) in
+    let from : first ≤ c.pages.page = c.pages.auto.page in
+    let below : c.pages.page < first + device.size.pages = omega (arith, pages) in
     elim c.if-not-is_blank.branch [
       | then-not-is_blank w ↦ record {
         few = omega (arith, w.count-is, c.pages.invariant.few);
@@ -31,7 +35,9 @@ pages-preserved g c =
 
 pub returns : goal.returns
 returns g c =
-    let device = g.F.Flash.device c.args.flash.now in let formed = g.met.F.Flash.formed c.args.flash.now in let first = c.first_page-first.result in
+    let device = g.F.Flash.device c.args.flash.now in
+    let formed = g.met.F.Flash.formed c.args.flash.now in
+    let first = c.first_page-first.result in
     let pages : c.pages-2.result ≡ device.size.pages = c.pages-2.ensures.value ∙ ap (λ (size : Size). size.pages) c.shape.ensures in
     let end : c.pages.page ≡ first + device.size.pages = search (arith, pages, c.pages.auto.page-end) in
     c.pages.invariant.count ∙ at_end c.args.side device formed first c.first_page-first.ensures c.pages.page end

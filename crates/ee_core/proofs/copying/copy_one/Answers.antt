@@ -4,15 +4,15 @@ use Rattle.ee_core.proofs.copying.copy_one.Goals as goal
 pub returns-clause-passed : goal.returns-clause-passed
 returns-clause-passed g c = search rules
 
-pub stage-requires-clause-free : goal.stage-requires-clause-free
-stage-requires-clause-free g c = search rules fits 100 parts 0
+pub stage_put-requires-clause-free : goal.stage_put-requires-clause-free
+stage_put-requires-clause-free g c = search rules fits 100 parts 0
 
 pub returns-clause-keeps : goal.returns-clause-keeps
 returns-clause-keeps g c = search rules fits 100 parts 0
 
 pub returns-clause-at : goal.returns-clause-at
 returns-clause-at g c =
-    let done = c.in_ok-stage.ensures in
+    let done = c.in_ok-stage_put.ensures in
     record { generation = c.requires.at.generation; filling = done.fills.filling; stands = done.stands }
 
 pub returns-clause-fills : goal.returns-clause-fills

@@ -19,15 +19,20 @@ live-init g c =
 
 pub copy_one-requires-clause-free : goal.copy_one-requires-clause-free
 copy_one-requires-clause-free g c apart =
-    let old = g.F.Flash.device c.args.flash.now in let filled = c.live.invariant.filled in let next = rw filled.keeps.same_slots at c.in-Some.ensures.next in
+    let old = g.F.Flash.device c.args.flash.now in
+    let filled = c.live.invariant.filled in
+    let next = rw filled.keeps.same_slots at c.in-Some.ensures.next in
     let carries_is = c.has_put-carries.ensures.found ∙ sym (names-puts c.args.puts.now _) in
     let free : c.live.place.slot < slot_count old.size = room old c.args.layout.now c.args.place (puts_of c.args.puts.now) (g.C.LiveCursor.behind c.live.cursor) _ _ (g.F.Flash.device c.live.flash) (g.F.Flash.device c.live.flash) c.live.place.slot next filled (sym carries_is ∙ apart) c.in-Some.ensures.proper.1 (slot_count old.size) c.requires.fits in
     omega (arith, ap slot_count filled.keeps.same_size)
 
 pub live-preserved : goal.live-preserved
 live-preserved g c =
-    let old = g.F.Flash.device c.args.flash.now in let filled = c.live.invariant.filled in let next = rw filled.keeps.same_slots at c.in-Some.ensures.next in
-    let carries_is = c.has_put-carries.ensures.found ∙ sym (names-puts c.args.puts.now _) in let one = c.in_ok-copy_one.ensures in
+    let old = g.F.Flash.device c.args.flash.now in
+    let filled = c.live.invariant.filled in
+    let next = rw filled.keeps.same_slots at c.in-Some.ensures.next in
+    let carries_is = c.has_put-carries.ensures.found ∙ sym (names-puts c.args.puts.now _) in
+    let one = c.in_ok-copy_one.ensures in
     rw c.in-Some.ensures.moved (record {
       at = one.at;
       filled = next_filled old c.args.layout.now c.args.place (puts_of c.args.puts.now) (g.C.LiveCursor.behind c.live.cursor) _ _ (g.F.Flash.device c.live.flash) (g.F.Flash.device c.copy_one.new.flash) c.live.place.slot next filled c.copy_one.new.place.slot
@@ -48,8 +53,10 @@ returns g c =
 
 pub returns-in_err-copy_one : goal.returns-in_err-copy_one
 returns-in_err-copy_one g c =
-    let failed = err_from_is_err_and c.from_residual.result c.from_residual.ensures.1 in let filled = c.live.invariant.filled in
-    let next = rw filled.keeps.same_slots at c.in-Some.ensures.next in let carries_is = c.has_put-carries.ensures.found ∙ sym (names-puts c.args.puts.now _) in
+    let failed = err_from_is_err_and c.from_residual.result c.from_residual.ensures.1 in
+    let filled = c.live.invariant.filled in
+    let next = rw filled.keeps.same_slots at c.in-Some.ensures.next in
+    let carries_is = c.has_put-carries.ensures.found ∙ sym (names-puts c.args.puts.now _) in
     let one = c.in_err-copy_one.ensures in
     let apart : c.has_put-carries.result ≡ false = elim (cases_Bool c.has_put-carries.result) [
       | inl same ↦ absurd (not_ok (one.passed same).0 refl)

@@ -8,7 +8,8 @@ use Rattle.ee_core.proofs.copying.copy_others.Given as goal
 
 abbrev pub invariant-live : goal.invariant-live
 invariant-live g l =
-    let old = g.F.Flash.device l.fn.flash in let now = g.F.Flash.device l.flash in
+    let old = g.F.Flash.device l.fn.flash in
+    let now = g.F.Flash.device l.flash in
     record {
       at : IsOpenAt now l.layout l.place;
       filled : FilledTo old l.layout l.fn.place (puts_of l.puts) (g.C.LiveCursor.behind l.cursor) now l.place.slot;

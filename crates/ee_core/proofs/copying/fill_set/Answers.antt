@@ -3,9 +3,9 @@ use Rattle.std.proofs.lemmas.Result.{IfOk-from_err, err_from_is_err_and}
 use Rattle.ee_flash.specs.Size.{slot_count}
 use Rattle.ee_pages.specs.Meaning.{Map}
 use Rattle.ee_pages.specs.Sets.{other as other_of}
-use Rattle.ee_core.specs.Parts.{map_in}
+use Rattle.ee_core.specs.CallSteps.{map_in}
 use Rattle.ee_core.specs.Picture.{elements_of}
-use Rattle.ee_core.specs.Puts.{carried}
+use Rattle.ee_core.specs.Puts.{changes_of_puts}
 use Rattle.ee_core.proofs.Fillings.{carried_first, carried_names, carried_partly, carried_without, first_partly, only_these, others_carried, others_carried_partly, others_filled, others_fit, others_partly, puts_fit}
 use Rattle.ee_core.proofs.ShownStates.{moved_words_are_live_lem}
 use Rattle.ee_core.proofs.AfterCalls.{ends_later, goes_on_both, goes_on_same}
@@ -29,21 +29,31 @@ copy_others-requires-clause-over g c = rw c.in_ok-first.ensures.fills.keeps.same
 
 pub copy_others-requires-clause-only : goal.copy_others-requires-clause-only
 copy_others-requires-clause-only g c =
-    let old = g.F.Flash.device c.args.flash.now in let mid = g.F.Flash.device c.put_all.new.flash in let layout = c.args.layout.now in let slot = c.in_ok-first.first.slot in
+    let old = g.F.Flash.device c.args.flash.now in
+    let mid = g.F.Flash.device c.put_all.new.flash in
+    let layout = c.args.layout.now in
+    let slot = c.in_ok-first.first.slot in
     let first = carried_first old mid layout c.args.puts.now c.args.forgets c.values_put.result.now slot c.values_put.ensures c.in_ok-first.ensures.fills in
-    λ address away. only_these (carried c.args.puts.now c.args.forgets) old mid mid layout slot first address (carried_names c.args.puts.now c.args.forgets address ∙ away)
+    λ address away. only_these (changes_of_puts c.args.puts.now c.args.forgets) old mid mid layout slot first address (carried_names c.args.puts.now c.args.forgets address ∙ away)
 
 pub copy_others-requires-clause-fits : goal.copy_others-requires-clause-fits
 copy_others-requires-clause-fits g c =
-    let old = g.F.Flash.device c.args.flash.now in let mid = g.F.Flash.device c.put_all.new.flash in let layout = c.args.layout.now in let slot = c.in_ok-first.first.slot in
+    let old = g.F.Flash.device c.args.flash.now in
+    let mid = g.F.Flash.device c.put_all.new.flash in
+    let layout = c.args.layout.now in
+    let slot = c.in_ok-first.first.slot in
     let first = carried_first old mid layout c.args.puts.now c.args.forgets c.values_put.result.now slot c.values_put.ensures c.in_ok-first.ensures.fills in
     subst (λ (left : Map). slot + length (elements_of left) ≤ slot_count mid.size) (carried_without c.args.puts.now c.args.forgets (map_in layout.side mid))
-    (others_fit (carried c.args.puts.now c.args.forgets) old mid mid layout slot first c.requires.apart c.requires.fits)
+    (others_fit (changes_of_puts c.args.puts.now c.args.forgets) old mid mid layout slot first c.requires.apart c.requires.fits)
 
 pub returns : goal.returns
 returns g c =
-    let old = g.F.Flash.device c.args.flash.now in let mid = g.F.Flash.device c.put_all.new.flash in let new = g.F.Flash.device c.copy_others.new.flash in
-    let layout = c.args.layout.now in let changes = carried c.args.puts.now c.args.forgets in let slot = c.in_ok-first.first.slot in
+    let old = g.F.Flash.device c.args.flash.now in
+    let mid = g.F.Flash.device c.put_all.new.flash in
+    let new = g.F.Flash.device c.copy_others.new.flash in
+    let layout = c.args.layout.now in
+    let changes = changes_of_puts c.args.puts.now c.args.forgets in
+    let slot = c.in_ok-first.first.slot in
     let first = carried_first old mid layout c.args.puts.now c.args.forgets c.values_put.result.now slot c.values_put.ensures c.in_ok-first.ensures.fills in
     let filled = others_filled changes old mid new layout slot first c.in_ok-count.count
     (others_carried mid new layout c.args.puts.now c.args.forgets slot c.in_ok-count.count (map_in (other_of layout.side) mid) (map_in layout.side mid) c.in_ok-count.ensures.fills) in
@@ -55,10 +65,11 @@ returns g c =
 
 pub returns-in_err-first : goal.returns-in_err-first
 returns-in_err-first g c =
-    let old = g.F.Flash.device c.args.flash.now in let new = g.F.Flash.device c.put_all.new.flash in
+    let old = g.F.Flash.device c.args.flash.now in
+    let new = g.F.Flash.device c.put_all.new.flash in
     let is = err_from_is_err_and c.from_residual.result c.from_residual.ensures.1 in
     record {
-      fills = rw is.1 (first_partly (carried c.args.puts.now c.args.forgets) old new c.args.layout.now (map_in c.args.layout.now.side old)
+      fills = rw is.1 (first_partly (changes_of_puts c.args.puts.now c.args.forgets) old new c.args.layout.now (map_in c.args.layout.now.side old)
           (carried_partly old new c.args.layout.now c.args.puts.now c.args.forgets c.values_put.result.now c.values_put.ensures c.in_err-first.ensures.fills));
       each_once = IfOk-from_err _ _ c.from_residual.ensures.0;
       power = ends_later _ c.from_residual.ensures.0 (goes_on_same old) c.in_err-first.ensures.power;
@@ -66,12 +77,15 @@ returns-in_err-first g c =
 
 pub returns-in_err-count : goal.returns-in_err-count
 returns-in_err-count g c =
-    let old = g.F.Flash.device c.args.flash.now in let mid = g.F.Flash.device c.put_all.new.flash in let new = g.F.Flash.device c.copy_others.new.flash in
-    let layout = c.args.layout.now in let slot = c.in_ok-first.first.slot in
+    let old = g.F.Flash.device c.args.flash.now in
+    let mid = g.F.Flash.device c.put_all.new.flash in
+    let new = g.F.Flash.device c.copy_others.new.flash in
+    let layout = c.args.layout.now in
+    let slot = c.in_ok-first.first.slot in
     let first = carried_first old mid layout c.args.puts.now c.args.forgets c.values_put.result.now slot c.values_put.ensures c.in_ok-first.ensures.fills in
     let is = err_from_is_err_and c.from_residual-in_err-count.result c.from_residual-in_err-count.ensures.1 in
     record {
-      fills = rw is.1 (others_partly (carried c.args.puts.now c.args.forgets) old mid new layout slot first
+      fills = rw is.1 (others_partly (changes_of_puts c.args.puts.now c.args.forgets) old mid new layout slot first
           (others_carried_partly mid new layout c.args.puts.now c.args.forgets slot (map_in layout.side mid) c.in_err-count.ensures.fills));
       each_once = IfOk-from_err _ _ c.from_residual-in_err-count.ensures.0;
       power = ends_later _ c.from_residual-in_err-count.ensures.0 c.in_ok-first.ensures.power.ok c.in_err-count.ensures.power;

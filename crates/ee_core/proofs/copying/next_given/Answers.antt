@@ -1,6 +1,6 @@
 use Rattle.std.proofs.Common.{refl}
+use Rattle.ee_core.specs.CallSteps.{map_in}
 use Rattle.ee_core.specs.Course.{last_given}
-use Rattle.ee_core.specs.Parts.{map_in}
 use Rattle.ee_core.proofs.Courses.{further, one_taken}
 use Rattle.ee_core.proofs.copying.next_given.Goals as goal
 

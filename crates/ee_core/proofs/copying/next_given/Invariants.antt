@@ -1,6 +1,6 @@
 use Rattle.std.proofs.Common.{ℕ, ◌-◌, Option, Some, None, drop}
+use Rattle.ee_core.specs.CallSteps.{map_in}
 use Rattle.ee_core.specs.Course.{GoesOver, last_given}
-use Rattle.ee_core.specs.Parts.{map_in}
 use Rattle.ee_core.proofs.copying.next_given.Given as goal
 
 -- it goes on where it was

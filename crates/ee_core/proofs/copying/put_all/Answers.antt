@@ -16,25 +16,29 @@ puts-init g c =
       goes = goes_on_same old;
     }
 
-pub stage-requires-clause-at : goal.stage-requires-clause-at
-stage-requires-clause-at g c =
+pub stage_put-requires-clause-at : goal.stage_put-requires-clause-at
+stage_put-requires-clause-at g c =
     let filled = c.puts.invariant.filled in
     record { generation = c.requires.opened.generation; filling = filled.filling; stands = c.puts.invariant.stands }
 
-pub stage-requires-clause-free : goal.stage-requires-clause-free
-stage-requires-clause-free g c =
-    let old = g.F.Flash.device c.args.flash.now in let mid = g.F.Flash.device c.puts.flash in let filled = c.puts.invariant.filled in
+pub stage_put-requires-clause-free : goal.stage_put-requires-clause-free
+stage_put-requires-clause-free g c =
+    let old = g.F.Flash.device c.args.flash.now in
+    let mid = g.F.Flash.device c.puts.flash in
+    let filled = c.puts.invariant.filled in
     let room : c.puts.place.slot < slot_count old.size =
     put_room old c.args.layout.now c.args.puts.now c.puts.put-index c.put-item.result mid mid c.puts.place.slot c.puts-test.true c.put-item.is filled (slot_count old.size) c.requires.fits in
     omega (arith, room, ap slot_count filled.keeps.same_size)
 
 pub puts-preserved : goal.puts-preserved
 puts-preserved g c =
-    let old = g.F.Flash.device c.args.flash.now in let mid = g.F.Flash.device c.puts.flash in let new = g.F.Flash.device c.stage.new.flash in
+    let old = g.F.Flash.device c.args.flash.now in
+    let mid = g.F.Flash.device c.puts.flash in
+    let new = g.F.Flash.device c.stage_put.new.flash in
     record {
-      filled = one_put old c.args.layout.now c.args.puts.now c.puts.put-index c.put-item.result mid new c.puts.place.slot c.puts-test.true c.put-item.is c.puts.invariant.filled c.stage.new.place.slot c.in_ok-stage.ensures.fills;
-      stands = c.in_ok-stage.ensures.stands;
-      goes = (calls_compose _ _ _ c.puts.invariant.goes).0 c.in_ok-stage.ensures.power.ok;
+      filled = one_put old c.args.layout.now c.args.puts.now c.puts.put-index c.put-item.result mid new c.puts.place.slot c.puts-test.true c.put-item.is c.puts.invariant.filled c.stage_put.new.place.slot c.in_ok-stage_put.ensures.fills;
+      stands = c.in_ok-stage_put.ensures.stands;
+      goes = (calls_compose _ _ _ c.puts.invariant.goes).0 c.in_ok-stage_put.ensures.power.ok;
     }
 
 pub returns : goal.returns
@@ -46,12 +50,14 @@ returns g c =
       power = record { ok = held.goes; cut = tt; off = tt };
     }
 
-pub returns-in_err-stage : goal.returns-in_err-stage
-returns-in_err-stage g c =
-    let old = g.F.Flash.device c.args.flash.now in let mid = g.F.Flash.device c.puts.flash in let new = g.F.Flash.device c.stage.new.flash in
+pub returns-in_err-stage_put : goal.returns-in_err-stage_put
+returns-in_err-stage_put g c =
+    let old = g.F.Flash.device c.args.flash.now in
+    let mid = g.F.Flash.device c.puts.flash in
+    let new = g.F.Flash.device c.stage_put.new.flash in
     let is = err_from_is_err_and c.from_residual.result c.from_residual.ensures.1 in
     record {
-      fills = rw is.1 (one_put_partly old c.args.layout.now c.args.puts.now c.puts.put-index c.put-item.result mid new c.puts.place.slot c.puts-test.true c.put-item.is c.puts.invariant.filled c.in_err-stage.ensures.fills);
+      fills = rw is.1 (one_put_partly old c.args.layout.now c.args.puts.now c.puts.put-index c.put-item.result mid new c.puts.place.slot c.puts-test.true c.put-item.is c.puts.invariant.filled c.in_err-stage_put.ensures.fills);
       stands = IfOk-from_err _ _ c.from_residual.ensures.0;
-      power = ends_later _ c.from_residual.ensures.0 c.puts.invariant.goes c.in_err-stage.ensures.power;
+      power = ends_later _ c.from_residual.ensures.0 c.puts.invariant.goes c.in_err-stage_put.ensures.power;
     }

@@ -3,7 +3,7 @@ use Rattle.std.proofs.lemmas.Result.{err_from_is_err_and}
 use Rattle.ee_flash.specs.Device.{word_at}
 use Rattle.ee_pages.specs.Sets.{first_page, other as other_of, page_of_slot, place_of_slot}
 use Rattle.ee_pages.proofs.Public.{page_in_range, place_in_range}
-use Rattle.ee_core.specs.Parts.{meant}
+use Rattle.ee_core.specs.CallSteps.{map_change}
 use Rattle.ee_core.proofs.Drawings.{put_there, same_size_of}
 use Rattle.ee_core.proofs.FilledSets.{slot_holds}
 use Rattle.ee_core.proofs.SetPages.{page_in_device}
@@ -57,7 +57,7 @@ returns g c =
     let on = c.in_ok-program.ensures.on in
     let done = c.in_ok-program.ensures.done in
     let sizes = same_size_of _ _ _ old new done in
-    let all = put_done old new layout.side layout.generation slot _ c.requires.at.filling c.requires.free c.word.ensures.below_all_ones (meant c.args.change) _ _
+    let all = put_done old new layout.side layout.generation slot _ c.requires.at.filling c.requires.free c.word.ensures.below_all_ones (map_change c.args.change) _ _
     c.requires.at.stands.page c.requires.at.stands.at c.word.ensures.spells on done in
     let puts = put_there _ _ _ old new (first_page old.size side + page_of_slot old.size slot) (place_of_slot old.size slot) _ formed
     (page_in_device old.size side (page_of_slot old.size slot) in_range) (place_in_range old slot formed) c.requires.at.stands.page c.requires.at.stands.at c.word.ensures.number done in

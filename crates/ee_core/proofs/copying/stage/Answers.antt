@@ -7,7 +7,7 @@ use Rattle.ee_pages.specs.Filling.{IsFilling}
 use Rattle.ee_flash.specs.declared.word.Word.TheVariants.{Held}
 use Rattle.ee_pages.specs.Meaning.{map_after, meaning}
 use Rattle.ee_flash.specs.declared.word.Word.{Word}
-use Rattle.ee_core.specs.Parts.{meant, number_written}
+use Rattle.ee_core.specs.CallSteps.{map_change, number_written}
 use Rattle.ee_core.proofs.FilledSets.{open_already, stages}
 use Rattle.ee_core.specs.Transfers.{OpensForSlot}
 use Rattle.ee_core.proofs.copying.stage.Goals.{then-place-eq-HEADER_WORDS+in_ok-receive, else-place-eq-HEADER_WORDS}
@@ -55,7 +55,7 @@ returns g c =
       fills = record {
         keeps = keeps_side_both old mid new layout.side first.0.keeps puts.keeps;
         filling = subst (λ n. IsFilling new (other_of layout.side) (layout.generation + 1) n) (sym c.step.ensures.next) puts.filling;
-        map_is = λ address. puts.map_is address ∙ ap (λ (slots : List Word). map_after (meant c.args.change) (meaning slots) address) first.0.same_slots;
+        map_is = λ address. puts.map_is address ∙ ap (λ (slots : List Word). map_after (map_change c.args.change) (meaning slots) address) first.0.same_slots;
         adds = stages old mid new layout slot c.args.change first.0 puts;
         as_many = c.step.ensures.next;
         wear = puts.wear ∙ first.0.wear;

@@ -8,7 +8,9 @@ use Rattle.ee_core.proofs.first_start.holds_none.Goals as goal
 
 pub loop-page-preserved : goal.loop-page-preserved
 loop-page-preserved g c =
-    let device = g.F.Flash.device c.args.flash.now in let page = c.loop-page.page in let formed = g.met.F.Flash.formed c.args.flash.now in
+    let device = g.F.Flash.device c.args.flash.now in
+    let page = c.loop-page.page in
+    let formed = g.met.F.Flash.formed c.args.flash.now in
     let in_range : page < page_count device.size = omega (arith, c.pages-page-end.ensures.value, ap (λ size. size.pages) c.shape.ensures, c.loop-page-test.true) in
     let none : (at number : ℕ) → 4 ≤ at → word_at device page at ≢ Held number = λ at number behind. elim (cases_lt at device.size.words) [
       | inl within ↦ c.if-page_holds.ensures.no refl at number behind within

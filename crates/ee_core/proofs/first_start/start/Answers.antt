@@ -13,18 +13,21 @@ returns-in_default g c = record { started = tt; failed = rw c.in_default.is (inr
 
 pub is_startable-requires : goal.is_startable-requires
 is_startable-requires g c =
-    let old = g.F.Flash.device c.args.flash in let now = g.F.Flash.device c.in-Err.failed.0 in
+    let old = g.F.Flash.device c.args.flash in
+    let now = g.F.Flash.device c.in-Err.failed.0 in
     let left = scan_fails old now c.in-Err.failed.1 c.in-Scan.scan c.in-Scan.is c.in-Err.ensures.failed in
     subst (λ (device : Device). IsScanFault device c.in-Scan.scan) (sym left.1) left.0
 
 pub returns-then-not-is_startable-clause-failed : goal.returns-then-not-is_startable-clause-failed
 returns-then-not-is_startable-clause-failed g c =
-    let old = g.F.Flash.device c.args.flash in let now = g.F.Flash.device c.in-Err.failed.0 in
+    let old = g.F.Flash.device c.args.flash in
+    let now = g.F.Flash.device c.in-Err.failed.0 in
     let left = scan_fails old now c.in-Err.failed.1 c.in-Scan.scan c.in-Scan.is c.in-Err.ensures.failed in
     (λ startable. c.if-not-is_startable.ensures.no refl (subst IsStartable (sym left.1) startable), left.0, left.1)
 
 pub returns-clause-started : goal.returns-clause-started
 returns-clause-started g c =
-    let old = g.F.Flash.device c.args.flash in let now = g.F.Flash.device c.in-Err.failed.0 in
+    let old = g.F.Flash.device c.args.flash in
+    let now = g.F.Flash.device c.in-Err.failed.0 in
     let left = scan_fails old now c.in-Err.failed.1 c.in-Scan.scan c.in-Scan.is c.in-Err.ensures.failed in
     starts_anew old now c.start_anew.result left.1 (c.if-not-is_startable.ensures.yes refl) c.start_anew.ensures.formatted

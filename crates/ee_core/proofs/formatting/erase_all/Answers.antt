@@ -11,8 +11,8 @@ use Rattle.ee_core.proofs.ErasedPages.{all_wear, wears_next, wears_to}
 use Rattle.ee_core.proofs.Cuts.{erase_partly, erases_partly}
 use Rattle.ee_pages.proofs.Public.{step_keeps_other_pages}
 use Rattle.ee_flash.specs.Step.{Erase}
+use Rattle.ee_core.specs.CallSteps.{IsSameBut}
 use Rattle.ee_core.specs.Cuts.{ErasesPartly}
-use Rattle.ee_core.specs.Parts.{IsSameBut}
 use Rattle.ee_core.proofs.Wears.{cut_page_wears}
 use Rattle.ee_core.proofs.formatting.erase_all.Goals.{then-not-is_blank+in_ok-erase, else-not-is_blank}
 use Rattle.ee_core.proofs.formatting.erase_all.Goals as goal

@@ -8,7 +8,8 @@ use Rattle.ee_core.proofs.formatting.erase_all.Given as goal
 
 abbrev pub invariant-pages : goal.invariant-pages
 invariant-pages g l =
-    let old = g.F.Flash.device l.fn.flash in let now = g.F.Flash.device l.flash in
+    let old = g.F.Flash.device l.fn.flash in
+    let now = g.F.Flash.device l.flash in
     record {
       blank : (k : ℕ) → k < l.page → is_blank (page_at now k) ≡ true;
       rest : (k : ℕ) → l.page ≤ k → page_at now k ≡ page_at old k;

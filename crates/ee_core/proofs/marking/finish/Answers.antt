@@ -13,7 +13,9 @@ mark_old_set-requires g c = layout_stays c.args.layout.now (g.F.Flash.device c.a
 
 pub returns-in_err-mark_live_set : goal.returns-in_err-mark_live_set
 returns-in_err-mark_live_set g c =
-    let old = g.F.Flash.device c.args.flash.now in let new = g.F.Flash.device c.mark_live_set.new.flash in let failed = c.from_residual.ensures.0 in
+    let old = g.F.Flash.device c.args.flash.now in
+    let new = g.F.Flash.device c.mark_live_set.new.flash in
+    let failed = c.from_residual.ensures.0 in
     record {
       stays = c.mark_live_set.ensures.stays;
       finished = never_on_ok _ _ failed;
@@ -26,8 +28,11 @@ returns-in_err-mark_live_set g c =
 
 pub returns-in_err-mark_old_set : goal.returns-in_err-mark_old_set
 returns-in_err-mark_old_set g c =
-    let old = g.F.Flash.device c.args.flash.now in let mid = g.F.Flash.device c.mark_live_set.new.flash in
-    let new = g.F.Flash.device c.mark_old_set.new.flash in let side = c.args.layout.now.side in let failed = c.from_residual-in_err-mark_old_set.ensures.0 in
+    let old = g.F.Flash.device c.args.flash.now in
+    let mid = g.F.Flash.device c.mark_live_set.new.flash in
+    let new = g.F.Flash.device c.mark_old_set.new.flash in
+    let side = c.args.layout.now.side in
+    let failed = c.from_residual-in_err-mark_old_set.ensures.0 in
     record {
       stays = stays_both _ _ _ _ _ c.mark_live_set.ensures.stays c.mark_old_set.ensures.stays;
       finished = never_on_ok _ _ failed;
@@ -43,8 +48,12 @@ returns-in_err-mark_old_set g c =
 
 pub returns : goal.returns
 returns g c =
-    let old = g.F.Flash.device c.args.flash.now in let mid = g.F.Flash.device c.mark_live_set.new.flash in
-    let new = g.F.Flash.device c.mark_old_set.new.flash in let layout = c.args.layout.now in let first = c.in_ok-mark_live_set.ensures in let then = c.in_ok-mark_old_set.ensures in
+    let old = g.F.Flash.device c.args.flash.now in
+    let mid = g.F.Flash.device c.mark_live_set.new.flash in
+    let new = g.F.Flash.device c.mark_old_set.new.flash in
+    let layout = c.args.layout.now in
+    let first = c.in_ok-mark_live_set.ensures in
+    let then = c.in_ok-mark_old_set.ensures in
     let both = shows layout.side old mid new (last_used old layout.side) first.stays.keeps.same_size then.stays.keeps.same_size first.live_pages first.old_pages then.live_pages then.old_pages in
     record {
       stays = stays_both _ _ _ _ _ first.stays then.stays;

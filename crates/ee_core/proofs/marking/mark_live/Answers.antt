@@ -10,7 +10,9 @@ use Rattle.ee_core.proofs.marking.mark_live.Goals as goal
 
 pub returns-in_err-mark : goal.returns-in_err-mark
 returns-in_err-mark g c =
-    let old = g.F.Flash.device c.args.flash.now in let new = g.F.Flash.device c.mark.new.flash in let layout = c.args.layout.now in
+    let old = g.F.Flash.device c.args.flash.now in
+    let new = g.F.Flash.device c.mark.new.flash in
+    let layout = c.args.layout.now in
     let formed = g.met.F.Flash.formed c.args.flash.now in
     let h : c.args.page < page_count old.size = page_in_device old layout.side c.args.page c.requires.from c.requires.behind.in_range in
     let proper = proper_live c.args.kind c.requires.behind.active_or_valid in
@@ -29,7 +31,9 @@ returns-in_err-mark g c =
 
 pub returns : goal.returns
 returns g c =
-    let old = g.F.Flash.device c.args.flash.now in let new = g.F.Flash.device c.mark.new.flash in let layout = c.args.layout.now in
+    let old = g.F.Flash.device c.args.flash.now in
+    let new = g.F.Flash.device c.mark.new.flash in
+    let layout = c.args.layout.now in
     let formed = g.met.F.Flash.formed c.args.flash.now in
     let h : c.args.page < page_count old.size = page_in_device old layout.side c.args.page c.requires.from c.requires.behind.in_range in
     let proper = proper_live c.args.kind c.requires.behind.active_or_valid in

@@ -17,13 +17,18 @@ use Rattle.ee_core.proofs.marking.mark_live_set.Goals as goal
 
 pub mark_live-requires-clause-behind : goal.mark_live-requires-clause-behind
 mark_live-requires-clause-behind g c =
-    let old = g.F.Flash.device c.args.flash.now in let mid = g.F.Flash.device c.pages.flash in let layout = c.args.layout.now in
+    let old = g.F.Flash.device c.args.flash.now in
+    let mid = g.F.Flash.device c.pages.flash in
+    let layout = c.args.layout.now in
     let first : first_page mid.size layout.side ≡ first_page old.size layout.side = ap (λ size. first_page size layout.side) c.pages.invariant.stays.keeps.same_size in
     valid_behind layout mid c.pages.page (layout_stays layout old mid c.requires c.pages.invariant.stays) (omega (arith, first, c.first_page-first.ensures, c.pages.auto.page)) c.pages-test.true
 
 pub pages-preserved : goal.pages-preserved
 pages-preserved g c =
-    let old = g.F.Flash.device c.args.flash.now in let mid = g.F.Flash.device c.pages.flash in let new = g.F.Flash.device c.mark_live.new.flash in let layout = c.args.layout.now in
+    let old = g.F.Flash.device c.args.flash.now in
+    let mid = g.F.Flash.device c.pages.flash in
+    let new = g.F.Flash.device c.mark_live.new.flash in
+    let layout = c.args.layout.now in
     let from : first_page old.size layout.side ≤ c.pages.page = omega (arith, c.first_page-first.ensures, c.pages.auto.page) in
     let sizes = ap (λ (size : Size). size.pages) c.pages.invariant.stays.keeps.same_size in
     let behind : c.pages.page - c.first_page-first.result < mid.size.pages =
@@ -44,7 +49,8 @@ pages-preserved g c =
 
 pub mark_live-requires-2-clause-behind : goal.mark_live-requires-2-clause-behind
 mark_live-requires-2-clause-behind g c =
-    let old = g.F.Flash.device c.args.flash.now in let mid = g.F.Flash.device c.pages.flash in
+    let old = g.F.Flash.device c.args.flash.now in
+    let mid = g.F.Flash.device c.pages.flash in
     last_behind c.args.layout.now mid Active (layout_stays c.args.layout.now old mid c.requires c.pages.invariant.stays) (inl refl)
 
 pub mark_live-requires-clause-layout : goal.mark_live-requires-clause-layout
@@ -55,7 +61,8 @@ mark_live-requires-2-clause-layout g c = layout_stays c.args.layout.now (g.F.Fla
 
 pub pages-init : goal.pages-init
 pages-init g c =
-    let old = g.F.Flash.device c.args.flash.now in let layout = c.args.layout.now in
+    let old = g.F.Flash.device c.args.flash.now in
+    let layout = c.args.layout.now in
     record {
       stays = same_stays old old layout.side layout.generation c.requires.live refl;
       valid = λ k below. absurd (omega (arith, c.first_page-first.ensures, below));
@@ -67,9 +74,15 @@ pages-init g c =
 
 pub returns-in_err-mark_live : goal.returns-in_err-mark_live
 returns-in_err-mark_live g c =
-    let old = g.F.Flash.device c.args.flash.now in let mid = g.F.Flash.device c.pages.flash in let new = g.F.Flash.device c.mark_live.new.flash in
-    let layout = c.args.layout.now in let failed = c.from_residual.ensures.0 in let sizes = c.pages.invariant.stays.keeps.same_size in
-    let counted = ap (λ (size : Size). size.pages) sizes in let last = last_is layout old c.requires in let k = c.pages.page - c.first_page-first.result in
+    let old = g.F.Flash.device c.args.flash.now in
+    let mid = g.F.Flash.device c.pages.flash in
+    let new = g.F.Flash.device c.mark_live.new.flash in
+    let layout = c.args.layout.now in
+    let failed = c.from_residual.ensures.0 in
+    let sizes = c.pages.invariant.stays.keeps.same_size in
+    let counted = ap (λ (size : Size). size.pages) sizes in
+    let last = last_is layout old c.requires in
+    let k = c.pages.page - c.first_page-first.result in
     let from : first_page old.size layout.side ≤ c.pages.page = omega (arith, c.first_page-first.ensures, c.pages.auto.page) in
     let at : c.pages.page ≡ first_page mid.size layout.side + k = omega (arith, c.first_page-first.ensures, c.pages.auto.page, ap (λ (size : Size). first_page size layout.side) sizes) in
     let before : k < last_used old layout.side = omega (arith, last, c.first_page-first.ensures, c.pages.auto.page, c.pages-test.true) in
@@ -94,9 +107,14 @@ returns-in_err-mark_live g c =
 
 pub returns-in_err-mark_live-2 : goal.returns-in_err-mark_live-2
 returns-in_err-mark_live-2 g c =
-    let old = g.F.Flash.device c.args.flash.now in let mid = g.F.Flash.device c.pages.flash in let new = g.F.Flash.device c.mark_live-2.new.flash in
-    let layout = c.args.layout.now in let failed = c.from_residual-in_err-mark_live-2.ensures.0 in let sizes = c.pages.invariant.stays.keeps.same_size in
-    let last = last_is layout old c.requires in let from : c.first_page-first.result ≤ layout.current = omega (arith, last, c.first_page-first.ensures) in
+    let old = g.F.Flash.device c.args.flash.now in
+    let mid = g.F.Flash.device c.pages.flash in
+    let new = g.F.Flash.device c.mark_live-2.new.flash in
+    let layout = c.args.layout.now in
+    let failed = c.from_residual-in_err-mark_live-2.ensures.0 in
+    let sizes = c.pages.invariant.stays.keeps.same_size in
+    let last = last_is layout old c.requires in
+    let from : c.first_page-first.result ≤ layout.current = omega (arith, last, c.first_page-first.ensures) in
     let reached : c.pages.page - c.first_page-first.result ≡ last_used old layout.side = omega (arith, last, c.first_page-first.ensures, c.pages-test.false, c.pages.auto.page-end) in
     let below : last_used old layout.side < mid.size.pages = omega (arith, last_in_range layout old c.requires, ap (λ (size : Size). size.pages) sizes) in
     let behind : layout.current - c.first_page-first.result < mid.size.pages = omega (arith, below, last, c.first_page-first.ensures) in
@@ -114,7 +132,8 @@ returns-in_err-mark_live-2 g c =
           (other_stays layout.side old c.first_page-first.result c.first_page-first.ensures mid new layout.current (g.met.F.Flash.formed c.pages.flash) (g.met.F.Flash.formed c.mark_live-2.new.flash)
           sizes c.mark_live-2.ensures.stays.keeps.same_size from behind c.mark_live-2.ensures.others c.pages.invariant.other);
       no_step = λ marked.
-          let same = c.pages.invariant.no_step marked in let set : is_marked old layout.current Active ≡ true = ap (λ n. is_marked old n Active) last ∙ marked.active in
+          let same = c.pages.invariant.no_step marked in
+          let set : is_marked old layout.current Active ≡ true = ap (λ n. is_marked old n Active) last ∙ marked.active in
           let none = c.mark_live-2.ensures.no_step (ap (λ device. is_marked device layout.current Active) same ∙ set) in
           absurd (not_ok none.0 c.in_err-mark_live-2.was);
       power = ends_later _ failed c.pages.invariant.power c.in_err-mark_live-2.ensures.power;
@@ -122,9 +141,14 @@ returns-in_err-mark_live-2 g c =
 
 pub returns : goal.returns
 returns g c =
-    let old = g.F.Flash.device c.args.flash.now in let mid = g.F.Flash.device c.pages.flash in let new = g.F.Flash.device c.mark_live-2.new.flash in
-    let layout = c.args.layout.now in let done = c.in_ok-mark_live-2.ensures in let sizes = c.pages.invariant.stays.keeps.same_size in
-    let formed = g.met.F.Flash.formed c.pages.flash in let last = last_is layout old c.requires in
+    let old = g.F.Flash.device c.args.flash.now in
+    let mid = g.F.Flash.device c.pages.flash in
+    let new = g.F.Flash.device c.mark_live-2.new.flash in
+    let layout = c.args.layout.now in
+    let done = c.in_ok-mark_live-2.ensures in
+    let sizes = c.pages.invariant.stays.keeps.same_size in
+    let formed = g.met.F.Flash.formed c.pages.flash in
+    let last = last_is layout old c.requires in
     let from : c.first_page-first.result ≤ layout.current = omega (arith, last, c.first_page-first.ensures) in
     let reached : c.pages.page - c.first_page-first.result ≡ last_used old layout.side = omega (arith, last, c.first_page-first.ensures, c.pages-test.false, c.pages.auto.page-end) in
     let below : last_used old layout.side < mid.size.pages = omega (arith, last_in_range layout old c.requires, ap (λ (size : Size). size.pages) sizes) in
@@ -141,7 +165,8 @@ returns g c =
       begun = tt;
       old_pages_stay = tt;
       no_step = λ marked.
-          let same = c.pages.invariant.no_step marked in let set : is_marked old layout.current Active ≡ true = ap (λ n. is_marked old n Active) last ∙ marked.active in
+          let same = c.pages.invariant.no_step marked in
+          let set : is_marked old layout.current Active ≡ true = ap (λ n. is_marked old n Active) last ∙ marked.active in
           (refl, (done.no_step (ap (λ device. is_marked device layout.current Active) same ∙ set)).1 ∙ same);
       power = record { ok = goes_on_both old mid new c.pages.invariant.power done.power.ok; cut = tt; off = tt };
     }

@@ -3,15 +3,16 @@ use Rattle.ee_flash.specs.Power.{GoesOn}
 use Rattle.ee_pages.specs.Page.{is_marked}
 use Rattle.ee_pages.specs.Sets.{first_page, other}
 use Rattle.ee_pages.specs.declared.state.Mark.TheVariants.{Valid}
+use Rattle.ee_core.specs.CallSteps.{IsSameSet, Stays}
 use Rattle.ee_core.specs.Finished.{IsLiveMarked}
-use Rattle.ee_core.specs.Parts.{IsSameSet, Stays}
 use Rattle.ee_core.specs.Picture.{IsDrawn, picture_of}
 use Rattle.ee_core.proofs.Drawings.{valid_to}
 use Rattle.ee_core.proofs.marking.mark_live_set.Given as goal
 
 abbrev pub invariant-pages : goal.invariant-pages
 invariant-pages g l =
-    let old = g.F.Flash.device l.fn.flash in let now = g.F.Flash.device l.flash in
+    let old = g.F.Flash.device l.fn.flash in
+    let now = g.F.Flash.device l.flash in
     record {
       stays : Stays old now l.layout.side l.layout.generation;
       valid : (k : ℕ) → k < l.page - first_page old.size l.layout.side → is_marked now (first_page old.size l.layout.side + k) Valid ≡ true;

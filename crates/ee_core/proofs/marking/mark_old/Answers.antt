@@ -12,7 +12,9 @@ use Rattle.ee_core.proofs.marking.mark_old.Goals as goal
 
 pub returns-in_err-mark : goal.returns-in_err-mark
 returns-in_err-mark g c =
-    let old = g.F.Flash.device c.args.flash.now in let new = g.F.Flash.device c.mark.new.flash in let layout = c.args.layout.now in
+    let old = g.F.Flash.device c.args.flash.now in
+    let new = g.F.Flash.device c.mark.new.flash in
+    let layout = c.args.layout.now in
     let formed = g.met.F.Flash.formed c.args.flash.now in
     let h : c.args.page < page_count old.size = page_in_device old (other layout.side) c.args.page c.requires.page.from (omega (arith, c.requires.page.from, c.requires.page.below)) in
     let left = marks c.args.page Erasing old new c.mark.result formed h proper_old c.mark.ensures.present c.mark.ensures.on c.mark.ensures.done c.mark.ensures.cut in
@@ -30,7 +32,9 @@ returns-in_err-mark g c =
 
 pub returns : goal.returns
 returns g c =
-    let old = g.F.Flash.device c.args.flash.now in let new = g.F.Flash.device c.mark.new.flash in let layout = c.args.layout.now in
+    let old = g.F.Flash.device c.args.flash.now in
+    let new = g.F.Flash.device c.mark.new.flash in
+    let layout = c.args.layout.now in
     let formed = g.met.F.Flash.formed c.args.flash.now in
     let h : c.args.page < page_count old.size = page_in_device old (other layout.side) c.args.page c.requires.page.from (omega (arith, c.requires.page.from, c.requires.page.below)) in
     let left = marks c.args.page Erasing old new c.mark.result formed h proper_old c.mark.ensures.present c.mark.ensures.on c.mark.ensures.done c.mark.ensures.cut in

@@ -14,15 +14,20 @@ use Rattle.ee_core.proofs.marking.mark_old_set.Goals as goal
 
 pub pages-init : goal.pages-init
 pages-init g c =
-    let old = g.F.Flash.device c.args.flash.now in let side = c.args.layout.now.side in let generation = c.args.layout.now.generation in
+    let old = g.F.Flash.device c.args.flash.now in
+    let side = c.args.layout.now.side in
+    let generation = c.args.layout.now.generation in
     let first : c.first_page-first.result ≡ first_page old.size (other side) = c.first_page-first.ensures ∙ ap (first_page old.size) c.other.ensures in
     let pages : c.pages-2.result ≡ old.size.pages = c.pages-2.ensures.value ∙ ap (λ (size : Size). size.pages) c.shape.ensures in
     marked_start side generation old _ _ first pages c.requires.live
 
 pub pages-preserved : goal.pages-preserved
 pages-preserved g c =
-    let old = g.F.Flash.device c.args.flash.now in let side = c.args.layout.now.side in let generation = c.args.layout.now.generation in
-    let mid = g.F.Flash.device c.pages.flash in let new = g.F.Flash.device c.if-not-is_blank.flash in
+    let old = g.F.Flash.device c.args.flash.now in
+    let side = c.args.layout.now.side in
+    let generation = c.args.layout.now.generation in
+    let mid = g.F.Flash.device c.pages.flash in
+    let new = g.F.Flash.device c.if-not-is_blank.flash in
     let first : c.first_page-first.result ≡ first_page old.size (other side) = c.first_page-first.ensures ∙ ap (first_page old.size) c.other.ensures in
     let pages : c.pages-2.result ≡ old.size.pages = c.pages-2.ensures.value ∙ ap (λ (size : Size). size.pages) c.shape.ensures in
     let step : MarksPage mid new side generation c.pages.page = elim c.if-not-is_blank.branch [
@@ -35,14 +40,16 @@ pages-preserved g c =
 
 pub is_blank-requires : goal.is_blank-requires
 is_blank-requires g c =
-    let old = g.F.Flash.device c.args.flash.now in let side = c.args.layout.now.side in
+    let old = g.F.Flash.device c.args.flash.now in
+    let side = c.args.layout.now.side in
     let first : c.first_page-first.result ≡ first_page old.size (other side) = c.first_page-first.ensures ∙ ap (first_page old.size) c.other.ensures in
     let pages : c.pages-2.result ≡ old.size.pages = c.pages-2.ensures.value ∙ ap (λ (size : Size). size.pages) c.shape.ensures in
     page_of_device _ (other side) c.pages.page (page_reached (other side) old (g.F.Flash.device c.pages.flash) _ _ c.pages.page first pages c.pages.invariant.stays.keeps.same_size c.pages.auto.page c.pages-test.true)
 
 pub mark_old-requires : goal.mark_old-requires
 mark_old-requires g c =
-    let old = g.F.Flash.device c.args.flash.now in let side = c.args.layout.now.side in
+    let old = g.F.Flash.device c.args.flash.now in
+    let side = c.args.layout.now.side in
     let first : c.first_page-first.result ≡ first_page old.size (other side) = c.first_page-first.ensures ∙ ap (first_page old.size) c.other.ensures in
     let pages : c.pages-2.result ≡ old.size.pages = c.pages-2.ensures.value ∙ ap (λ (size : Size). size.pages) c.shape.ensures in
     record {
@@ -53,11 +60,17 @@ mark_old-requires g c =
 
 pub returns-in_err-mark_old : goal.returns-in_err-mark_old
 returns-in_err-mark_old g c =
-    let old = g.F.Flash.device c.args.flash.now in let side = c.args.layout.now.side in let generation = c.args.layout.now.generation in
-    let mid = g.F.Flash.device c.pages.flash in let new = g.F.Flash.device c.mark_old.new.flash in let failed = c.from_residual.ensures.0 in
+    let old = g.F.Flash.device c.args.flash.now in
+    let side = c.args.layout.now.side in
+    let generation = c.args.layout.now.generation in
+    let mid = g.F.Flash.device c.pages.flash in
+    let new = g.F.Flash.device c.mark_old.new.flash in
+    let failed = c.from_residual.ensures.0 in
     let first : c.first_page-first.result ≡ first_page old.size (other side) = c.first_page-first.ensures ∙ ap (first_page old.size) c.other.ensures in
-    let pages : c.pages-2.result ≡ old.size.pages = c.pages-2.ensures.value ∙ ap (λ (size : Size). size.pages) c.shape.ensures in let formed = g.met.F.Flash.formed c.pages.flash in
-    let written : is_blank (page_at mid c.pages.page) ≡ false = sym c.is_blank.ensures ∙ c.if-not-is_blank.true in let left = c.mark_old.ensures in
+    let pages : c.pages-2.result ≡ old.size.pages = c.pages-2.ensures.value ∙ ap (λ (size : Size). size.pages) c.shape.ensures in
+    let formed = g.met.F.Flash.formed c.pages.flash in
+    let written : is_blank (page_at mid c.pages.page) ≡ false = sym c.is_blank.ensures ∙ c.if-not-is_blank.true in
+    let left = c.mark_old.ensures in
     let cut = marked_cut side generation old _ _ first pages mid c.pages.page formed c.pages.auto.page c.pages-test.true c.pages.invariant new (g.met.F.Flash.formed c.mark_old.new.flash) written left.stays left.others c.in_err-mark_old.ensures.begun in
     record {
       stays = stays_both old mid new side generation c.pages.invariant.stays left.stays;
@@ -75,8 +88,11 @@ returns-in_err-mark_old g c =
 
 pub returns : goal.returns
 returns g c =
-    let old = g.F.Flash.device c.args.flash.now in let side = c.args.layout.now.side in let generation = c.args.layout.now.generation in
-    let new = g.F.Flash.device c.pages.flash in let all = c.pages.invariant in
+    let old = g.F.Flash.device c.args.flash.now in
+    let side = c.args.layout.now.side in
+    let generation = c.args.layout.now.generation in
+    let new = g.F.Flash.device c.pages.flash in
+    let all = c.pages.invariant in
     let first : c.first_page-first.result ≡ first_page old.size (other side) = c.first_page-first.ensures ∙ ap (first_page old.size) c.other.ensures in
     let pages : c.pages-2.result ≡ old.size.pages = c.pages-2.ensures.value ∙ ap (λ (size : Size). size.pages) c.shape.ensures in
     record {

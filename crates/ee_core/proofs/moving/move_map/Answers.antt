@@ -6,8 +6,8 @@ use Rattle.ee_pages.specs.Sets.{committed_generation}
 use Rattle.ee_core.proofs.AfterCalls.{ends_later, goes_on_both, goes_on_same}
 use Rattle.ee_core.proofs.MapMoves.{commit_cut, fill_cut, is_filled, is_moved, is_opened, open_cut}
 use Rattle.ee_core.proofs.MovingFacts.{side_map}
-use Rattle.ee_core.specs.Parts.{map_in}
-use Rattle.ee_core.specs.Puts.{carried}
+use Rattle.ee_core.specs.CallSteps.{map_in}
+use Rattle.ee_core.specs.Puts.{changes_of_puts}
 use Rattle.ee_core.proofs.moving.move_map.Goals as goal
 
 pub open_set-requires : goal.open_set-requires
@@ -54,7 +54,7 @@ returns-in_err-count g c =
     let failed = c.from_residual-in_err-count in
     record {
       moves = rw (err_from_is_err_and failed.result failed.ensures.1).1
-          (fill_cut old opened layout (is_opened old cleared opened layout clears.clears opens.opens) (g.F.Flash.device c.fill_set.new.flash) (carried c.args.puts.now c.args.forgets) cut.fills);
+          (fill_cut old opened layout (is_opened old cleared opened layout clears.clears opens.opens) (g.F.Flash.device c.fill_set.new.flash) (changes_of_puts c.args.puts.now c.args.forgets) cut.fills);
       power = ends_later _ failed.ensures.0 (goes_on_both old cleared opened clears.power.ok opens.power.ok) cut.power;
     }
 
@@ -70,7 +70,7 @@ returns-in_err-commit g c =
     let fills = c.in_ok-count.ensures in
     let cut = c.in_err-commit.ensures in
     let failed = c.from_residual-in_err-commit in
-    let holds = is_filled old opened layout (is_opened old cleared opened layout clears.clears opens.opens) filled (carried c.args.puts.now c.args.forgets) _ fills.fills fills.each_once in
+    let holds = is_filled old opened layout (is_opened old cleared opened layout clears.clears opens.opens) filled (changes_of_puts c.args.puts.now c.args.forgets) _ fills.fills fills.each_once in
     record {
       moves = rw (err_from_is_err_and failed.result failed.ensures.1).1
           (commit_cut old filled (g.F.Flash.device c.commit.new.flash) layout _ _ _ holds cut.commits);
@@ -89,7 +89,7 @@ returns g c =
     let opens = c.in_ok-open_set.ensures in
     let fills = c.in_ok-count.ensures in
     let done = c.in_ok-commit.ensures in
-    let holds = is_filled old opened layout (is_opened old cleared opened layout clears.clears opens.opens) filled (carried c.args.puts.now c.args.forgets) _ fills.fills fills.each_once in
+    let holds = is_filled old opened layout (is_opened old cleared opened layout clears.clears opens.opens) filled (changes_of_puts c.args.puts.now c.args.forgets) _ fills.fills fills.each_once in
     record {
       moves = is_moved old filled new layout _ _ _ holds done.commits;
       power = record { ok = goes_on_both old filled new (goes_on_both old opened filled (goes_on_both old cleared opened clears.power.ok opens.power.ok) fills.power.ok) done.power.ok; cut = tt; off = tt };

@@ -2,7 +2,7 @@ use Rattle.std.proofs.Common.{◌≡◌, ap, ◌∙◌}
 use Rattle.std.proofs.lemmas.Result.{err_from_is_err_and}
 use Rattle.ee_flash.specs.Size.{Size}
 use Rattle.ee_pages.specs.Sets.{first_page}
-use Rattle.ee_core.specs.Puts.{carried}
+use Rattle.ee_core.specs.Puts.{changes_of_puts}
 use Rattle.ee_core.proofs.AfterCalls.{ends_later, goes_on_both, goes_on_same}
 use Rattle.ee_core.proofs.MapMoves.{map_cut, mark_cut, set_moved}
 use Rattle.ee_core.proofs.MovingFacts.{layout_moved}
@@ -13,7 +13,7 @@ finish-requires g c =
     let mid = g.F.Flash.device c.move_map.new.flash in
     let moves = c.in_ok-count.ensures.moves in
     let words : c.words-slots.result ≡ mid.size.words = c.words-slots.ensures.value ∙ ap (λ (size : Size). size.words) c.shape.ensures in
-    layout_moved (g.F.Flash.device c.args.flash.now) mid c.args.layout.now (carried c.args.puts.now c.args.forgets) _ _ _ _ _ moves.moved c.other.ensures moves.each_once
+    layout_moved (g.F.Flash.device c.args.flash.now) mid c.args.layout.now (changes_of_puts c.args.puts.now c.args.forgets) _ _ _ _ _ moves.moved c.other.ensures moves.each_once
     (c.first_page.ensures ∙ ap (first_page mid.size) c.other-2.ensures) words c.saturating_sub.ensures
 
 pub returns-in_err-count : goal.returns-in_err-count
@@ -45,7 +45,7 @@ returns g c =
     let map = c.in_ok-count.ensures in
     let done = c.in_ok-finish.ensures in
     let words : c.words-slots.result ≡ mid.size.words = c.words-slots.ensures.value ∙ ap (λ (size : Size). size.words) c.shape.ensures in
-    let found = layout_moved old mid layout (carried c.args.puts.now c.args.forgets) _ _ _ _ _ map.moves.moved c.other.ensures map.moves.each_once
+    let found = layout_moved old mid layout (changes_of_puts c.args.puts.now c.args.forgets) _ _ _ _ _ map.moves.moved c.other.ensures map.moves.each_once
     (c.first_page.ensures ∙ ap (first_page mid.size) c.other-2.ensures) words c.saturating_sub.ensures in
     record {
       moves = set_moved old mid new layout c.other.result _ _ _ (g.met.F.Flash.formed c.args.flash.now) map.moves c.other.ensures done.stays _ found done.shows done.finished;

@@ -9,7 +9,7 @@ use Rattle.ee_core.proofs.Appending.{cut_after, cut_size, taken_after}
 use Rattle.ee_core.proofs.MarkedSets.{appends_word}
 use Rattle.ee_core.proofs.LiveMarks.{layout_stays}
 use Rattle.ee_core.proofs.MovingFacts.{few_slots}
-use Rattle.ee_core.specs.Parts.{meant, number_written}
+use Rattle.ee_core.specs.CallSteps.{map_change, number_written}
 use Rattle.ee_core.proofs.KeptMarks.{appended_marked}
 use Rattle.ee_core.proofs.CutMarks.{cut_marks, cut_word}
 use Rattle.ee_pages.proofs.Public.{page_in_range, place_in_range}
@@ -30,7 +30,7 @@ returns g c =
     let grown = takes.one_more ∙ ap (λ n. n + 1) (keeps.same_fill ∙ sym c.requires.layout.fill) in
     record {
       writes = record {
-        takes = taken_after old mid new layout.side layout.generation _ _ keeps (ap (map_after (meant c.args.change)) (fun_ext keeps.same_map)) takes;
+        takes = taken_after old mid new layout.side layout.generation _ _ keeps (ap (map_after (map_change c.args.change)) (fun_ext keeps.same_map)) takes;
         spells = pushed.spells;
         drawn = appends_word layout.side old mid new layout.fill (number_written c.args.change) keeps.same_size takes.same_size opened.drawn pushed.puts;
         layout_is = record { live = takes.live; fill = sym grown; current = rw takes.same_size (simp unary_clauses (rw (sym keeps.same_size) at c.free_slot-page.ensures.page)) };
@@ -70,7 +70,7 @@ returns-in_err-push g c =
     let failed = c.from_residual-in_err-push in
     record {
       writes = rw (err_from_is_err_and failed.result failed.ensures.1).1 (record {
-        cut = cut_after old mid new layout.side layout.generation (meant c.args.change) keeps (fun_ext keeps.same_map) pushed.cut;
+        cut = cut_after old mid new layout.side layout.generation (map_change c.args.change) keeps (fun_ext keeps.same_map) pushed.cut;
         begun = cut_word layout.side old mid new layout.fill (number_written c.args.change) keeps.same_size (cut_size _ pushed.cut)
             (page_in_range old layout.fill c.requires.free) (place_in_range old layout.fill c.requires.layout.live.formed) opened.drawn pushed.begun;
         other = pushed.other ∙ opened.other;

@@ -8,7 +8,7 @@ use Rattle.ee_core.proofs.Drawings.{marks_drawn}
 use Rattle.ee_core.proofs.LiveMarks.{current_below, last_behind, layout_stays, stays_both}
 use Rattle.ee_core.proofs.Marks.{same_stays}
 use Rattle.ee_core.proofs.MarkedSets.{opens_next}
-use Rattle.ee_core.specs.Parts.{IsReady, SetsMark}
+use Rattle.ee_core.specs.CallSteps.{IsReady, SetsMark}
 use Rattle.ee_core.specs.Picture.{IsDrawn, marked_to, picture_of}
 use Rattle.ee_core.proofs.OpenedPages.{first_other, further, last_is, next_behind, ready_already, ready_now, second_other, stays_in, turns}
 use Rattle.ee_core.proofs.CutMarks.{opens_partly, opens_partly_then}
@@ -18,7 +18,8 @@ use Rattle.ee_core.proofs.writing.open_page.Goals as goal
 
 pub returns-then-page-layout : goal.returns-then-page-layout
 returns-then-page-layout g c =
-    let old = g.F.Flash.device c.args.flash.now in let layout = c.args.layout.now in
+    let old = g.F.Flash.device c.args.flash.now in
+    let layout = c.args.layout.now in
     let within = stays_in old layout c.requires.layout c.requires.free old.size.words refl c.args.page c.requires.page c.if-page-layout.true in
     let ready : IsReady old layout.side layout.fill = ready_already old layout c.requires.layout c.requires.free old.size.words refl within c.requires.marked.live in
     record {
@@ -37,12 +38,16 @@ mark_live-requires-2-clause-behind g c =
 
 pub returns-in_err-mark_live : goal.returns-in_err-mark_live
 returns-in_err-mark_live g c =
-    let old = g.F.Flash.device c.args.flash.now in let new = g.F.Flash.device c.mark_live.new.flash in let layout = c.args.layout.now in
+    let old = g.F.Flash.device c.args.flash.now in
+    let new = g.F.Flash.device c.mark_live.new.flash in
+    let layout = c.args.layout.now in
     let turned = turns (g.F.Flash.device c.args.flash.now) c.args.layout.now c.requires.layout c.requires.free (g.F.Flash.device c.args.flash.now).size.words refl c.args.page c.requires.page c.if-page-layout.false in
     let k = page_of_slot old.size (layout.fill - 1) in
     let next : page_of_slot old.size layout.fill ≡ k + 1 = further old layout c.requires.layout c.requires.free _ refl turned.0 turned.1 in
     let last = last_is old layout c.requires.layout c.requires.free _ refl in
-    let here : layout.current ≡ first_page old.size layout.side + k = c.requires.layout.current in let first = c.mark_live.ensures in let failed = c.from_residual.ensures.0 in
+    let here : layout.current ≡ first_page old.size layout.side + k = c.requires.layout.current in
+    let first = c.mark_live.ensures in
+    let failed = c.from_residual.ensures.0 in
     record {
       stays = first.stays;
       other = first_other old layout c.requires.layout c.requires.free _ refl _ first.stays first.others;
@@ -58,13 +63,19 @@ returns-in_err-mark_live g c =
 
 pub returns-in_err-mark_live-2 : goal.returns-in_err-mark_live-2
 returns-in_err-mark_live-2 g c =
-    let old = g.F.Flash.device c.args.flash.now in let mid = g.F.Flash.device c.mark_live.new.flash in let new = g.F.Flash.device c.mark_live-2.new.flash in
-    let layout = c.args.layout.now in let turned = turns (g.F.Flash.device c.args.flash.now) c.args.layout.now c.requires.layout c.requires.free (g.F.Flash.device c.args.flash.now).size.words refl c.args.page c.requires.page c.if-page-layout.false in
+    let old = g.F.Flash.device c.args.flash.now in
+    let mid = g.F.Flash.device c.mark_live.new.flash in
+    let new = g.F.Flash.device c.mark_live-2.new.flash in
+    let layout = c.args.layout.now in
+    let turned = turns (g.F.Flash.device c.args.flash.now) c.args.layout.now c.requires.layout c.requires.free (g.F.Flash.device c.args.flash.now).size.words refl c.args.page c.requires.page c.if-page-layout.false in
     let k = page_of_slot old.size (layout.fill - 1) in
     let next : page_of_slot old.size layout.fill ≡ k + 1 = further old layout c.requires.layout c.requires.free _ refl turned.0 turned.1 in
-    let last = last_is old layout c.requires.layout c.requires.free _ refl in let here : layout.current ≡ first_page old.size layout.side + k = c.requires.layout.current in
-    let there : layout.current + 1 ≡ first_page old.size layout.side + (k + 1) = omega (arith, here) in let first = c.mark_live.ensures in
-    let second = c.mark_live-2.ensures in let same = first_other old layout c.requires.layout c.requires.free _ refl _ first.stays first.others in
+    let last = last_is old layout c.requires.layout c.requires.free _ refl in
+    let here : layout.current ≡ first_page old.size layout.side + k = c.requires.layout.current in
+    let there : layout.current + 1 ≡ first_page old.size layout.side + (k + 1) = omega (arith, here) in
+    let first = c.mark_live.ensures in
+    let second = c.mark_live-2.ensures in
+    let same = first_other old layout c.requires.layout c.requires.free _ refl _ first.stays first.others in
     let failed = c.from_residual-in_err-mark_live-2.ensures.0 in
     record {
       stays = stays_both _ _ _ _ _ first.stays second.stays;
@@ -83,13 +94,19 @@ returns-in_err-mark_live-2 g c =
 
 pub returns : goal.returns
 returns g c =
-    let old = g.F.Flash.device c.args.flash.now in let mid = g.F.Flash.device c.mark_live.new.flash in let new = g.F.Flash.device c.mark_live-2.new.flash in
-    let layout = c.args.layout.now in let turned = turns (g.F.Flash.device c.args.flash.now) c.args.layout.now c.requires.layout c.requires.free (g.F.Flash.device c.args.flash.now).size.words refl c.args.page c.requires.page c.if-page-layout.false in
+    let old = g.F.Flash.device c.args.flash.now in
+    let mid = g.F.Flash.device c.mark_live.new.flash in
+    let new = g.F.Flash.device c.mark_live-2.new.flash in
+    let layout = c.args.layout.now in
+    let turned = turns (g.F.Flash.device c.args.flash.now) c.args.layout.now c.requires.layout c.requires.free (g.F.Flash.device c.args.flash.now).size.words refl c.args.page c.requires.page c.if-page-layout.false in
     let k = page_of_slot old.size (layout.fill - 1) in
     let next : page_of_slot old.size layout.fill ≡ k + 1 = further old layout c.requires.layout c.requires.free _ refl turned.0 turned.1 in
-    let last = last_is old layout c.requires.layout c.requires.free _ refl in let here : layout.current ≡ first_page old.size layout.side + k = c.requires.layout.current in
-    let there : layout.current + 1 ≡ first_page old.size layout.side + (k + 1) = omega (arith, here) in let first = c.mark_live.ensures in
-    let second = c.mark_live-2.ensures in let same = first_other old layout c.requires.layout c.requires.free _ refl _ first.stays first.others in
+    let last = last_is old layout c.requires.layout c.requires.free _ refl in
+    let here : layout.current ≡ first_page old.size layout.side + k = c.requires.layout.current in
+    let there : layout.current + 1 ≡ first_page old.size layout.side + (k + 1) = omega (arith, here) in
+    let first = c.mark_live.ensures in
+    let second = c.mark_live-2.ensures in
+    let same = first_other old layout c.requires.layout c.requires.free _ refl _ first.stays first.others in
     record {
       stays = stays_both _ _ _ _ _ first.stays second.stays;
       other = second_other old layout c.requires.layout c.requires.free _ refl turned.0 turned.1 _ _ second.stays.keeps.live.formed first.stays second.stays.keeps.same_size same second.others;

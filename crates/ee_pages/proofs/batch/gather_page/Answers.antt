@@ -25,9 +25,14 @@ note_all-span-requires-clause-few g c =
 
 pub runs-preserved : goal.runs-preserved
 runs-preserved g c =
-    let device = g.F.Flash.device c.args.flash.now in let slots = slots_of (set_of c.args.side device) in
-    let row = device.size.words - 4 in let here = c.first_page.result + c.args.page in
-    let from = c.runs.at - 4 in let count = length c.run_from-run.result.now in let so_far = c.runs.invariant in let run = c.run_from-run.ensures in
+    let device = g.F.Flash.device c.args.flash.now in
+    let slots = slots_of (set_of c.args.side device) in
+    let row = device.size.words - 4 in
+    let here = c.first_page.result + c.args.page in
+    let from = c.runs.at - 4 in
+    let count = length c.run_from-run.result.now in
+    let so_far = c.runs.invariant in
+    let run = c.run_from-run.ensures in
     let words : c.words-words.result ≡ device.size.words = c.words-words.ensures.value ∙ ap (λ (size : Size). size.words) c.shape.ensures in
     let ends : c.runs.at + count ≤ device.size.words = omega (arith, run.within, words) in
     let at : c.runs.at ≡ 4 + from = omega (arith, so_far.from) in

@@ -9,8 +9,12 @@ use Rattle.ee_pages.proofs.batch_items.keep.Goals as goal
 
 pub loop-place-preserved : goal.loop-place-preserved
 loop-place-preserved c =
-    let old = c.args.numbers.now in let now = c.loop-place.numbers in let place = c.loop-place.place in let kept = c.loop-place.kept in
-    let so_far = c.loop-place.invariant in let number = get_or now place 0 in
+    let old = c.args.numbers.now in
+    let now = c.loop-place.numbers in
+    let place = c.loop-place.place in
+    let kept = c.loop-place.kept in
+    let so_far = c.loop-place.invariant in
+    let number = get_or now place 0 in
     let few : place < length old = omega (arith, c.loop-place-test.true, c.requires) in
     elim c.if-gives_value.branch [
       | then-gives_value w ↦ rw (w.numbers-is, w.kept-is) (record {

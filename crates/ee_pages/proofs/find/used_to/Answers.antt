@@ -6,14 +6,18 @@ use Rattle.ee_pages.proofs.find.used_to.Goals as goal
 
 pub returns-then-not-is_torn-clause-before : goal.returns-then-not-is_torn-clause-before
 returns-then-not-is_torn-clause-before g c =
-    let device = g.F.Flash.device c.args.flash.now in let run = c.run_from-run.ensures in let slots = c.slots_in-slots.ensures in
+    let device = g.F.Flash.device c.args.flash.now in
+    let run = c.run_from-run.ensures in
+    let slots = c.slots_in-slots.ensures in
     let words : c.words-words.result ≡ device.size.words = c.words-words.ensures.value ∙ ap (λ (size : Size). size.words) c.shape.ensures in
     slots_on device c.args.page c.runs.at c.run_from-run.result.now (g.met.F.Flash.formed c.args.flash.now) c.requires (omega (arith, run.within, words)) run.numbers
     4 c.slots_in-slots.result c.runs.invariant.before slots.within slots.before
 
 pub returns-then-not-is_torn-clause-end : goal.returns-then-not-is_torn-clause-end
 returns-then-not-is_torn-clause-end g c = λ h.
-    let device = g.F.Flash.device c.args.flash.now in let run = c.run_from-run.ensures in let slots = c.slots_in-slots.ensures in
+    let device = g.F.Flash.device c.args.flash.now in
+    let run = c.run_from-run.ensures in
+    let slots = c.slots_in-slots.ensures in
     let words : c.words-words.result ≡ device.size.words = c.words-words.ensures.value ∙ ap (λ (size : Size). size.words) c.shape.ensures in
     let inside : c.slots_in-slots.result < length c.run_from-run.result.now = omega (arith, c.if-not-all.true, slots.within) in
     slots_end device c.args.page c.runs.at c.run_from-run.result.now (g.met.F.Flash.formed c.args.flash.now) c.requires (omega (arith, run.within, words)) run.numbers
@@ -21,7 +25,9 @@ returns-then-not-is_torn-clause-end g c = λ h.
 
 pub runs-preserved-then-not-all : goal.runs-preserved-then-not-all
 runs-preserved-then-not-all g c =
-    let device = g.F.Flash.device c.args.flash.now in let run = c.run_from-run.ensures in let slots = c.slots_in-slots.ensures in
+    let device = g.F.Flash.device c.args.flash.now in
+    let run = c.run_from-run.ensures in
+    let slots = c.slots_in-slots.ensures in
     let words : c.words-words.result ≡ device.size.words = c.words-words.ensures.value ∙ ap (λ (size : Size). size.words) c.shape.ensures in
     let inside : c.slots_in-slots.result < length c.run_from-run.result.now = omega (arith, c.if-not-all.true, slots.within) in
     let before = slots_on device c.args.page c.runs.at c.run_from-run.result.now (g.met.F.Flash.formed c.args.flash.now) c.requires (omega (arith, run.within, words)) run.numbers
@@ -34,7 +40,9 @@ runs-preserved-then-not-all g c =
 
 pub runs-preserved : goal.runs-preserved
 runs-preserved g c =
-    let device = g.F.Flash.device c.args.flash.now in let run = c.run_from-run.ensures in let slots = c.slots_in-slots.ensures in
+    let device = g.F.Flash.device c.args.flash.now in
+    let run = c.run_from-run.ensures in
+    let slots = c.slots_in-slots.ensures in
     let words : c.words-words.result ≡ device.size.words = c.words-words.ensures.value ∙ ap (λ (size : Size). size.words) c.shape.ensures in
     record {
       from = omega (arith, c.runs.invariant.from);

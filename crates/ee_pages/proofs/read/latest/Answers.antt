@@ -13,7 +13,9 @@ said_in_page-requires-clause-page_in_range g c = search (rules, last_page, last_
 
 pub returns-in-Some : goal.returns-in-Some
 returns-in-Some g c =
-    let device = g.F.Flash.device c.args.flash.now in let slots = slots_of (set_of c.args.layout.now.side device) in let page = c.loop-page.page - 1 in
+    let device = g.F.Flash.device c.args.flash.now in
+    let slots = slots_of (set_of c.args.layout.now.side device) in
+    let page = c.loop-page.page - 1 in
     let before = page * (device.size.words - 4) in
     let same : page * (c.words-slots.result - 4) ≡ before = ap (λ n. page * (n - 4)) (c.words-slots.ensures.value ∙ ap (λ size. size.words) c.shape.ensures) in
     let said : latest_in (take (c.loop-page.left - before) (drop before slots)) c.args.address ≡ Some c.in-Some.said = search (rules, same, c.said_in_page.ensures) in
@@ -22,7 +24,9 @@ returns-in-Some g c =
 
 pub loop-page-preserved : goal.loop-page-preserved
 loop-page-preserved g c =
-    let device = g.F.Flash.device c.args.flash.now in let slots = slots_of (set_of c.args.layout.now.side device) in let page = c.loop-page.page - 1 in
+    let device = g.F.Flash.device c.args.flash.now in
+    let slots = slots_of (set_of c.args.layout.now.side device) in
+    let page = c.loop-page.page - 1 in
     let before = page * (device.size.words - 4) in
     let same : page * (c.words-slots.result - 4) ≡ before = ap (λ n. page * (n - 4)) (c.words-slots.ensures.value ∙ ap (λ size. size.words) c.shape.ensures) in
     let said : latest_in (take (c.loop-page.left - before) (drop before slots)) c.args.address ≡ None = search (rules, same, c.said_in_page.ensures) in

@@ -5,7 +5,8 @@ use Rattle.ee_pages.proofs.read.latest.Given as goal
 
 abbrev pub invariant-loop-page : goal.invariant-loop-page
 invariant-loop-page g l =
-    let device = g.F.Flash.device l.flash in let slots = device.size.words - 4 in
+    let device = g.F.Flash.device l.flash in
+    let slots = device.size.words - 4 in
     record {
       from : (l.page - 1) * slots ≤ l.left;
       to : l.left ≤ l.page * slots;

@@ -15,11 +15,18 @@ said_of number address said proper ends is = sym (is (subst IsAddress (sym ends)
 
 pub returns-in-Some : goal.returns-in-Some
 returns-in-Some g c =
-    let device = g.F.Flash.device c.args.flash.now in let slots = slots_of (set_of c.args.side device) in
-    let here = c.first_page.result + c.args.page in let before = c.args.page * (device.size.words - 4) in let row = take c.args.used (drop before slots) in
-    let formed = g.met.F.Flash.formed c.args.flash.now in let at = ap (λ n. n + c.args.page) c.first_page.ensures in
-    let numbers = c.run-run.result.now in let ends = c.ending_in-ends.result in let found = c.ending_in-ends.ensures in
-    let count = c.min-count.result in let from = c.runs.left - count in
+    let device = g.F.Flash.device c.args.flash.now in
+    let slots = slots_of (set_of c.args.side device) in
+    let here = c.first_page.result + c.args.page in
+    let before = c.args.page * (device.size.words - 4) in
+    let row = take c.args.used (drop before slots) in
+    let formed = g.met.F.Flash.formed c.args.flash.now in
+    let at = ap (λ n. n + c.args.page) c.first_page.ensures in
+    let numbers = c.run-run.result.now in
+    let ends = c.ending_in-ends.result in
+    let found = c.ending_in-ends.ensures in
+    let count = c.min-count.result in
+    let from = c.runs.left - count in
     let few : count ≤ c.runs.left = omega (arith, c.min-count.ensures) in
     let all : length (take count c.runs.room) ≡ count = length-take-le count c.runs.room (omega (arith, c.min-count.ensures, c.min-count.array_long)) in
     let run = whole_run device c.args.side c.args.page here formed c.requires.page_in_range at from count (length (take count c.runs.room)) numbers (omega (arith, few, c.runs.invariant.within, c.requires.used_in_range)) all c.run-run.ensures in
@@ -37,11 +44,18 @@ returns-in-Some g c =
 
 pub runs-preserved-then-ends-gt0 : goal.runs-preserved-then-ends-gt0
 runs-preserved-then-ends-gt0 g c =
-    let device = g.F.Flash.device c.args.flash.now in let slots = slots_of (set_of c.args.side device) in
-    let here = c.first_page.result + c.args.page in let before = c.args.page * (device.size.words - 4) in let row = take c.args.used (drop before slots) in
-    let formed = g.met.F.Flash.formed c.args.flash.now in let at = ap (λ n. n + c.args.page) c.first_page.ensures in
-    let numbers = c.run-run.result.now in let ends = c.ending_in-ends.result in let found = c.ending_in-ends.ensures in
-    let count = c.min-count.result in let from = c.runs.left - count in
+    let device = g.F.Flash.device c.args.flash.now in
+    let slots = slots_of (set_of c.args.side device) in
+    let here = c.first_page.result + c.args.page in
+    let before = c.args.page * (device.size.words - 4) in
+    let row = take c.args.used (drop before slots) in
+    let formed = g.met.F.Flash.formed c.args.flash.now in
+    let at = ap (λ n. n + c.args.page) c.first_page.ensures in
+    let numbers = c.run-run.result.now in
+    let ends = c.ending_in-ends.result in
+    let found = c.ending_in-ends.ensures in
+    let count = c.min-count.result in
+    let from = c.runs.left - count in
     let few : count ≤ c.runs.left = omega (arith, c.min-count.ensures) in
     let all : length (take count c.runs.room) ≡ count = length-take-le count c.runs.room (omega (arith, c.min-count.ensures, c.min-count.array_long)) in
     let run = whole_run device c.args.side c.args.page here formed c.requires.page_in_range at from count (length (take count c.runs.room)) numbers (omega (arith, few, c.runs.invariant.within, c.requires.used_in_range)) all c.run-run.ensures in
@@ -63,11 +77,18 @@ runs-preserved-then-ends-gt0 g c =
 
 pub runs-preserved : goal.runs-preserved
 runs-preserved g c =
-    let device = g.F.Flash.device c.args.flash.now in let slots = slots_of (set_of c.args.side device) in
-    let here = c.first_page.result + c.args.page in let before = c.args.page * (device.size.words - 4) in let row = take c.args.used (drop before slots) in
-    let formed = g.met.F.Flash.formed c.args.flash.now in let at = ap (λ n. n + c.args.page) c.first_page.ensures in
-    let numbers = c.run-run.result.now in let ends = c.ending_in-ends.result in let found = c.ending_in-ends.ensures in
-    let count = c.min-count.result in let from = c.runs.left - count in
+    let device = g.F.Flash.device c.args.flash.now in
+    let slots = slots_of (set_of c.args.side device) in
+    let here = c.first_page.result + c.args.page in
+    let before = c.args.page * (device.size.words - 4) in
+    let row = take c.args.used (drop before slots) in
+    let formed = g.met.F.Flash.formed c.args.flash.now in
+    let at = ap (λ n. n + c.args.page) c.first_page.ensures in
+    let numbers = c.run-run.result.now in
+    let ends = c.ending_in-ends.result in
+    let found = c.ending_in-ends.ensures in
+    let count = c.min-count.result in
+    let from = c.runs.left - count in
     let few : count ≤ c.runs.left = omega (arith, c.min-count.ensures) in
     let all : length (take count c.runs.room) ≡ count = length-take-le count c.runs.room (omega (arith, c.min-count.ensures, c.min-count.array_long)) in
     let run = whole_run device c.args.side c.args.page here formed c.requires.page_in_range at from count (length (take count c.runs.room)) numbers (omega (arith, few, c.runs.invariant.within, c.requires.used_in_range)) all c.run-run.ensures in

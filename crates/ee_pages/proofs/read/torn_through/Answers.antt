@@ -14,12 +14,15 @@ use Rattle.ee_pages.proofs.read.torn_through.Goals as goal
 
 pub loop-slot-preserved : goal.loop-slot-preserved
 loop-slot-preserved g c =
-    let device = g.F.Flash.device c.args.flash.now in let slots = slots_of (set_of c.args.side device) in let formed = g.met.F.Flash.formed c.args.flash.now in
+    let device = g.F.Flash.device c.args.flash.now in
+    let slots = slots_of (set_of c.args.side device) in
+    let formed = g.met.F.Flash.formed c.args.flash.now in
     let place = c.args.page * (device.size.words - 4) + c.loop-slot.slot in
     let next : place + 1 ≡ c.args.page * (device.size.words - 4) + (c.loop-slot.slot + 1) = omega arith in
     let few : c.loop-slot.slot < device.size.words - 4 = omega (arith, c.loop-slot-test.true, c.words-slot-end.ensures.value, ap (λ (size : Size). size.words) c.shape.ensures) in
     let within : place < length slots = omega (arith, length-slots c.args.side device formed, in_set c.args.page device.size.pages (device.size.words - 4) c.loop-slot.slot c.requires.page_in_range few) in
-    let more = length-filter_more is_torn slots place Erased within in let is = c.is_torn.ensures ∙ ap is_torn c.page_slot.ensures in
+    let more = length-filter_more is_torn slots place Erased within in
+    let is = c.is_torn.ensures ∙ ap is_torn c.page_slot.ensures in
     elim c.if-is_torn.branch [
       | then-is_torn w ↦
           let yes = ap {B = ℕ} (λ b. cond b 1 0) (sym is ∙ w.if-is_torn.true) in
@@ -34,7 +37,9 @@ loop-slot-preserved g c =
 
 pub overflow_add-torn : goal.overflow_add-torn
 overflow_add-torn g c =
-    let device = g.F.Flash.device c.args.flash.now in let slots = slots_of (set_of c.args.side device) in let formed = g.met.F.Flash.formed c.args.flash.now in
+    let device = g.F.Flash.device c.args.flash.now in
+    let slots = slots_of (set_of c.args.side device) in
+    let formed = g.met.F.Flash.formed c.args.flash.now in
     let place = c.args.page * (device.size.words - 4) + c.loop-slot.slot in
     let few : c.loop-slot.slot < device.size.words - 4 = omega (arith, c.loop-slot-test.true, c.words-slot-end.ensures.value, ap (λ (size : Size). size.words) c.shape.ensures) in
     let all = length-slots c.args.side device formed in

@@ -12,5 +12,6 @@ returns-in-Some-clause-generation g c =
 
 pub returns-clause-generation : goal.returns-clause-generation
 returns-clause-generation g c =
-    let device = g.F.Flash.device c.args.flash.now in let formed = g.met.F.Flash.formed c.args.flash.now in
+    let device = g.F.Flash.device c.args.flash.now in
+    let formed = g.met.F.Flash.formed c.args.flash.now in
     sym (named_none (set_of c.args.side device) (λ k h. c.loop-page.invariant k (omega (arith, h, length-set_of c.args.side device formed, c.loop-page-test.false, c.pages-page-end.ensures.value, ap (λ size. size.pages) c.shape.ensures))))

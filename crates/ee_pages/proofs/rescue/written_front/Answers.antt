@@ -10,7 +10,9 @@ use Rattle.ee_pages.proofs.rescue.written_front.Goals as goal
 
 pub returns-then-front-slots : goal.returns-then-front-slots
 returns-then-front-slots g c =
-    let device = g.F.Flash.device c.args.flash.now in let slots = slots_of (set_of c.args.side device) in let front_is = c.front_in_page-front.ensures in
+    let device = g.F.Flash.device c.args.flash.now in
+    let slots = slots_of (set_of c.args.side device) in
+    let front_is = c.front_in_page-front.ensures in
     let before = c.loop-page.page * (device.size.words - 4) in
     let words : c.words-slots.result ≡ device.size.words = c.words-slots.ensures.value ∙ ap (λ (size : Size). size.words) c.shape-shape.ensures in
     let few : c.front_in_page-front.result < device.size.words - 4 = omega (arith, c.if-front-slots.true, words) in
@@ -21,7 +23,9 @@ returns-then-front-slots g c =
 
 pub loop-page-preserved : goal.loop-page-preserved
 loop-page-preserved g c =
-    let device = g.F.Flash.device c.args.flash.now in let slots = slots_of (set_of c.args.side device) in let row = device.size.words - 4 in
+    let device = g.F.Flash.device c.args.flash.now in
+    let slots = slots_of (set_of c.args.side device) in
+    let row = device.size.words - 4 in
     let front_is = c.front_in_page-front.ensures in
     let words : c.words-slots.result ≡ device.size.words = c.words-slots.ensures.value ∙ ap (λ (size : Size). size.words) c.shape-shape.ensures in
     let all : c.front_in_page-front.result ≡ row = omega (arith, c.if-front-slots.false, words, front_is.within) in
@@ -29,7 +33,8 @@ loop-page-preserved g c =
 
 pub returns : goal.returns
 returns g c =
-    let device = g.F.Flash.device c.args.flash.now in let slots = slots_of (set_of c.args.side device) in
+    let device = g.F.Flash.device c.args.flash.now in
+    let slots = slots_of (set_of c.args.side device) in
     let count = length-slots c.args.side device (g.met.F.Flash.formed c.args.flash.now) in
     let end : c.loop-page.page ≡ device.size.pages = omega (arith, c.loop-page-test.false, c.loop-page.auto.page-end, c.pages-page-end.ensures.value, ap (λ (size : Size). size.pages) c.shape-shape.ensures) in
     let all : c.loop-page.page * (device.size.words - 4) ≡ slot_count device.size = ap (λ n. n * (device.size.words - 4)) end in

@@ -9,7 +9,8 @@ put_in-requires-clause-place c = search (rules, length_named)
 
 pub returns : goal.returns
 returns c =
-    let i = c.self.inside in let few : i.len ≤ length i.numbers = omega (arith, c.self.invariant.0, c.self.invariant.1) in
+    let i = c.self.inside in
+    let few : i.len ≤ length i.numbers = omega (arith, c.self.invariant.0, c.self.invariant.1) in
     let long = length_named i.len i.numbers few in
     let same = ap (λ (b : Batch). length b.named) c.self.view_is in
     rw (sym (ap (λ (b : Batch). b.named) c.self.view_is)) (put_among BATCH i.len c.args.place c.one_more-end.result c.args.number i.numbers _

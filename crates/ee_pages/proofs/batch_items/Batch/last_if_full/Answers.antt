@@ -14,7 +14,8 @@ returns-then-self-lt-BATCH-clause-none c = search (rules, length_named)
 
 pub returns-clause-last : goal.returns-clause-last
 returns-clause-last c = λ above.
-    let i = c.self.inside in let few : i.len ≤ length i.numbers = omega (arith, c.self.invariant.0, c.self.invariant.1) in
+    let i = c.self.inside in
+    let few : i.len ≤ length i.numbers = omega (arith, c.self.invariant.0, c.self.invariant.1) in
     let same = ap (λ (b : Batch). b.named) c.self.view_is in
     let full : i.len ≡ BATCH = omega (arith, c.self.invariant.0, c.if-self-lt-BATCH.false) in
     some_is c.new.result c.address_in.result (last_named above c.args.self.now.named) c.new.ensures.number

@@ -10,7 +10,8 @@ use Rattle.ee_pages.proofs.batch_items.Batch.put.Goals as goal
 
 pub returns-then-has-clause-noted : goal.returns-then-has-clause-noted
 returns-then-has-clause-noted c =
-    let list = c.args.self.now.named in let through = c.place_through-through.ensures in
+    let list = c.args.self.now.named in
+    let through = c.place_through-through.ensures in
     c.set.ensures
     ∙ noted_anew BATCH c.requires.rising.0 list (named_by c.args.number) c.place_through-through.result c.requires.rising.1 c.requires.few through.within
     (λ some. omega (arith, through.through some, c.address_in-address.ensures)) (λ h. omega (arith, through.behind h, c.address_in-address.ensures))
@@ -18,7 +19,9 @@ returns-then-has-clause-noted c =
 
 pub returns-then-has-clause-same : goal.returns-then-has-clause-same
 returns-then-has-clause-same c = λ isnt.
-    let list = c.args.self.now.named in let place = c.place_through-through.result - 1 in let has = c.has.ensures.yes c.if-has.true in
+    let list = c.args.self.now.named in
+    let place = c.place_through-through.result - 1 in
+    let has = c.has.ensures.yes c.if-has.true in
     record {
       same_length = rw c.set.ensures (length-set list place (named_by c.args.number));
       same_last = λ above. ap (last_named above) c.set.ensures ∙ last-same list above place (named_by c.args.number) (0, None) has.0 (has.1 ∙ c.address_in-address.ensures);
@@ -26,7 +29,9 @@ returns-then-has-clause-same c = λ isnt.
 
 pub returns-then-through-lt-BATCH-clause-noted : goal.returns-then-through-lt-BATCH-clause-noted
 returns-then-through-lt-BATCH-clause-noted c =
-    let list = c.args.self.now.named in let place = c.place_through-through.result in let through = c.place_through-through.ensures in
+    let list = c.args.self.now.named in
+    let place = c.place_through-through.result in
+    let through = c.place_through-through.ensures in
     let other : 0 < place → (get_or list (place - 1) (0, None)).0 ≢ c.args.number % 2 ^ 16 = elim c.else-through-gt0.branch [
       | else-through-gt0-via-then-through-gt0+else-has w ↦ λ some same. w.has.ensures.no w.if-has.false (omega (arith, some, through.within)) (same ∙ sym c.address_in-address.ensures)
       | else-through-gt0-via-else-through-gt0 w ↦ λ some same. absurd (omega (arith, some, w.if-through-gt0.false))
@@ -37,7 +42,9 @@ returns-then-through-lt-BATCH-clause-noted c =
 
 pub returns-else-through-lt-BATCH-clause-noted : goal.returns-else-through-lt-BATCH-clause-noted
 returns-else-through-lt-BATCH-clause-noted c =
-    let list = c.args.self.now.named in let place = c.place_through-through.result in let through = c.place_through-through.ensures in
+    let list = c.args.self.now.named in
+    let place = c.place_through-through.result in
+    let through = c.place_through-through.ensures in
     let other : 0 < place → (get_or list (place - 1) (0, None)).0 ≢ c.args.number % 2 ^ 16 = elim c.else-through-gt0.branch [
       | else-through-gt0-via-then-through-gt0+else-has w ↦ λ some same. w.has.ensures.no w.if-has.false (omega (arith, some, through.within)) (same ∙ sym c.address_in-address.ensures)
       | else-through-gt0-via-else-through-gt0 w ↦ λ some same. absurd (omega (arith, some, w.if-through-gt0.false))

@@ -21,9 +21,9 @@ use Rattle.ee_core.specs.declared.change.Change.TheVariants as kinds
 use Rattle.ee_core.specs.declared.copying.Place.{Place}
 
 -- what a change of the program means; the value that is forgotten means nothing
-abbrev pub meant : declared.Change → Change
-meant (kinds.Put address value) = Put address value
-meant (kinds.Forget address value) = Forget address
+abbrev pub map_change : declared.Change → Change
+map_change (kinds.Put address value) = Put address value
+map_change (kinds.Forget address value) = Forget address
 
 -- the number of its word
 abbrev pub number_written : declared.Change → ℕ
@@ -69,7 +69,8 @@ pub record PageErased (old new : Device) (side : Side) (page : ℕ) : Type 0 whe
   pub one_less : pending_of (set_of (other side) new) + 1 ≡ pending_of (set_of (other side) old)
   pub wear : Wears (page ∷ []) old new
 
--- or power was cut in it: each of its words is as before, erased or torn, and so the page waits still, or doesn't
+-- or power was cut in it: each of its words is as before, erased or torn, and so the page
+-- waits still, or doesn't
 pub record PageErasedPartly (old new : Device) (side : Side) (page : ℕ) : Type 0 where
   pub keeps : KeepsSide old new side
   pub others : IsSameBut page old new
@@ -96,8 +97,8 @@ replaced_map start named map address = if named address then start address else 
 abbrev pub map_to : Map → ℕ → Map
 map_to map last address = if nat_le address last then map address else None
 
--- The map moved to the other set with changes: each address with a value takes a slot there, the set's generation is one
--- more, and as many pages of the set that was live are not blank as before.
+-- The map moved to the other set with changes: each address with a value takes a slot there, the
+-- set's generation is one more, and as many pages of the set that was live are not blank as before.
 pub record HasMoved (old new : Device) (side : Side) (generation : ℕ) (changes : List Change) : Type 0 where
   pub live : IsLive new (other side) (generation + 1)
   pub same_size : new.size ≡ old.size
@@ -114,13 +115,14 @@ pub record PutsWord (page at : ℕ) (word : Word) (old new : Device) : Type 0 wh
 abbrev pub SetsMark : ℕ → Mark → Device → Device → Type 0
 SetsMark page mark old new = PutsWord page (place_of_mark mark) (marked_word mark (word_at old page (place_of_mark mark))) old new
 
--- The page and the place in it are those of the slot with this number, in this set. Behind the last slot the page is none
--- of the set's.
+-- The page and the place in it are those of the slot with this number, in this set. Behind the last
+-- slot the page is none of the set's.
 pub record Stands (size : Size) (side : Side) (place : Place) : Type 0 where
   pub page : place.page ≡ first_page size side + page_of_slot size place.slot
   pub at : place.at ≡ place_of_slot size place.slot
 
--- a set that a transfer fills: receive words on the pages up to this one, the words in its slots, and all else erased
+-- a set that a transfer fills: receive words on the pages up to this one, the words in its slots,
+-- and all else erased
 abbrev pub opened_set : Size → ℕ → ℕ → List Word → Picture
 opened_set size generation last words page at =
     if nat_lt 3 at then slice_index_or words (slots_before size page at) Erased
