@@ -1,4 +1,5 @@
--- What an append makes of an index: its slot is the first free one, and each other slot is as before.
+-- What an append makes of an index: its slot is the first free one, and each other slot is as
+-- before.
 use Rattle.std.proofs.Common.{◌≡◌, ◌≢◌, ◌⊎◌, inl, inr, ℕ, ◌<◌, Option, Some, None, List, get_or, refl, sym, ap, ◌∙◌, arith, rules}
 use Rattle.std.proofs.lemmas.Bool.{cases_eq, cases_lt, ne_eqb}
 use Rattle.std.proofs.lemmas.Grind.{common_steps}
@@ -13,7 +14,7 @@ use Rattle.ee_pages.specs.Meaning.{Change, Forget, Map, Put, SpellsChange, map_a
 use Rattle.ee_pages.specs.Sets.{fill_of, page_of_slot, place_of_slot, set_of, slots_of}
 use Rattle.ee_pages.specs.declared.side.Side.{Side}
 use Rattle.ee_pages.proofs.Public.{length-slots, page_in_range, place_in_range, slot_at, split_by}
-use Rattle.ee_core.specs.Parts.{meant, number_written}
+use Rattle.ee_core.specs.CallSteps.{map_change, number_written}
 use Rattle.ee_core.specs.Picture.{IsDrawn, Picture, marked_to, picture_of, with_change}
 use Rattle.ee_core.specs.declared.change.Change as declared
 use Rattle.ee_core.specs.declared.change.Change.TheVariants as kinds
@@ -65,7 +66,7 @@ SaysChange word (Put address value) = says word address ≡ Some (Some value)
 SaysChange word (Forget address) = Unit {0}
 
 -- the word that spells it does
-pub says_spelled : (change : declared.Change) (word : Word) → word ≡ Held (number_written change) → SpellsChange (number_written change) (meant change) → SaysChange word (meant change)
+pub says_spelled : (change : declared.Change) (word : Word) → word ≡ Held (number_written change) → SpellsChange (number_written change) (map_change change) → SaysChange word (map_change change)
 says_spelled (kinds.Put address value) word e spells = search (rules, common_steps, slot_of-element)
 says_spelled (kinds.Forget address value) word e spells = tt
 

@@ -24,7 +24,7 @@ use Rattle.ee_pages.specs.Sets.{place_of_slot, set_of, slots_of}
 use Rattle.ee_pages.specs.declared.side.Side.{Side}
 use Rattle.ee_pages.proofs.Public.{slots_before_slot}
 use Rattle.ee_core.specs.Picture.{IsDrawn, elements_of, elements_to, filled_set, map_without, moved_words, put_words}
-use Rattle.ee_core.specs.Puts.{AreApart, carried, forgets_of, is_put, names, puts_of}
+use Rattle.ee_core.specs.Puts.{AreApart, changes_of_puts, forgets_of, is_put, names, puts_of}
 use Rattle.ee_core.specs.declared.change.Put as listed
 use Rattle.ee_core.proofs.Public.{changed_by-other, elements_front, forget-other, length-put_words, live_few, moved_words_are_live_lem, names-puts, next_element, no_words, none_between, put-at, put-other, puts_within, without-at, without-other}
 use Rattle.ee_index.specs.Index.{HasAddresses, IsIndex, IsRoomFor, is_filled, numbered_slots, listed_place, said_at, says_value, shown_index, slot_for}
@@ -292,16 +292,16 @@ moved_forgets puts map slots there now proper =
 abbrev pub values : List listed.Put → Bool → List listed.Put
 values puts forgets = cond forgets [] puts
 
-moved_to : (puts : List listed.Put) (forgets : Bool) (map : Map) (slots : List Word) → AreApart (carried puts forgets) → IsFilledWith slots (moved_words (carried puts forgets) map) → ((address : ℕ) → meaning slots address ≡ changed_by (carried puts forgets) map address)
-    → ((address : ℕ) → is_some (meaning slots address) ≡ true → IsAddress address) → IsMovedTo (values puts forgets) (map_without (carried puts forgets) map) slots
+moved_to : (puts : List listed.Put) (forgets : Bool) (map : Map) (slots : List Word) → AreApart (changes_of_puts puts forgets) → IsFilledWith slots (moved_words (changes_of_puts puts forgets) map) → ((address : ℕ) → meaning slots address ≡ changed_by (changes_of_puts puts forgets) map address)
+    → ((address : ℕ) → is_some (meaning slots address) ≡ true → IsAddress address) → IsMovedTo (values puts forgets) (map_without (changes_of_puts puts forgets) map) slots
 moved_to puts true map slots each there now proper = moved_forgets puts map slots there now proper
 moved_to puts false map slots each there now proper = moved_puts puts map slots each there now proper
 
-values_apart : (puts : List listed.Put) (forgets : Bool) → AreApart (carried puts forgets) → AreApart (puts_of (values puts forgets))
+values_apart : (puts : List listed.Put) (forgets : Bool) → AreApart (changes_of_puts puts forgets) → AreApart (puts_of (values puts forgets))
 values_apart puts true each = tt
 values_apart puts false each = each
 
-module _ (before : List Word) (puts : List listed.Put) (forgets : Bool) (held : List (ℕ × ℕ)) (each : AreApart (carried puts forgets)) (room : IsRoomFor before (values puts forgets) (slot_for held)) where
+module _ (before : List Word) (puts : List listed.Put) (forgets : Bool) (held : List (ℕ × ℕ)) (each : AreApart (changes_of_puts puts forgets)) (room : IsRoomFor before (values puts forgets) (slot_for held)) where
   -- whatever has a value is of a proper address
   before_proper : (address : ℕ) → is_some (meaning before address) ≡ true → IsAddress address
   before_proper = live_proper before (shown_index (is_filled before) (slot_for held)) room.indexes
@@ -310,24 +310,24 @@ module _ (before : List Word) (puts : List listed.Put) (forgets : Bool) (held : 
   held_proper address some = changed_proper (puts_of (values puts forgets)) (meaning before) (values_apart puts forgets each) before_proper address (sym (room.addresses address) ∙ some)
 
   module _ (slots : List Word) (left : List (ℕ × ℕ)) (left_is : (address : ℕ) → slot_for left address ≡ changed_by (forgets_of (cond forgets puts [])) (slot_for held) address)
-      (now : (address : ℕ) → meaning slots address ≡ changed_by (carried puts forgets) (meaning before) address) where
+      (now : (address : ℕ) → meaning slots address ≡ changed_by (changes_of_puts puts forgets) (meaning before) address) where
     left_addresses : HasAddresses (slot_for left) (meaning slots)
     left_addresses address = ap is_some (left_is address) ∙ by forgets room.addresses address ∙ ap is_some (sym (now address))
       where
-        by : (forgets : Bool) → HasAddresses (slot_for held) (changed_by (puts_of (values puts forgets)) (meaning before)) → HasAddresses (changed_by (forgets_of (cond forgets puts [])) (slot_for held)) (changed_by (carried puts forgets) (meaning before))
+        by : (forgets : Bool) → HasAddresses (slot_for held) (changed_by (puts_of (values puts forgets)) (meaning before)) → HasAddresses (changed_by (forgets_of (cond forgets puts [])) (slot_for held)) (changed_by (changes_of_puts puts forgets) (meaning before))
         by true same = changed_alike (forgets_of puts) (slot_for held) (meaning before) same
         by false same = same
 
     proper_now : (address : ℕ) → is_some (meaning slots address) ≡ true → IsAddress address
-    proper_now address live = changed_proper (carried puts forgets) (meaning before) each before_proper address (sym (ap is_some (now address)) ∙ live)
+    proper_now address live = changed_proper (changes_of_puts puts forgets) (meaning before) each before_proper address (sym (ap is_some (now address)) ∙ live)
 
-    pub moved_index : IsStrictlySortedBy nat_cmp (keys_of left) → IsFilledWith slots (moved_words (carried puts forgets) (meaning before))
+    pub moved_index : IsStrictlySortedBy nat_cmp (keys_of left) → IsFilledWith slots (moved_words (changes_of_puts puts forgets) (meaning before))
         → IsIndex slots (slot_for (numbered_slots (values puts forgets) (length (values puts forgets)) left))
     moved_index sorted there address =
         let put = values puts forgets in
-        let others = map_without (carried puts forgets) (meaning before) in
+        let others = map_without (changes_of_puts puts forgets) (meaning before) in
         let moved = moved_to puts forgets (meaning before) slots each there now proper_now in
-        let counted : length put ≡ length put + length (elements_to others 0) = omega (arith, ap length (no_words (meaning before) (carried puts forgets))) in
+        let counted : length put ≡ length put + length (elements_to others 0) = omega (arith, ap length (no_words (meaning before) (changes_of_puts puts forgets))) in
         let all = numbered_behind put others slots moved 0 (length put) left counted record { sorted = sorted; behind = λ address some. (proper_now address (sym (left_addresses address) ∙ some)).0; same = λ address high. left_addresses address } in
         elim (cases_lt 0 address) [
           | inl high ↦ all address high
@@ -340,8 +340,8 @@ module _ (before : List Word) (puts : List listed.Put) (forgets : Bool) (held : 
         ]
 
 -- two bytes hold the numbers that a transfer gives
-pub few_numbered : (before : List Word) (puts : List listed.Put) (forgets : Bool) (held : List (ℕ × ℕ)) → AreApart (carried puts forgets) → IsRoomFor before (values puts forgets) (slot_for held) → IsStrictlySortedBy nat_cmp (keys_of held)
-    → (fill : ℕ) → fill ≡ length (moved_words (carried puts forgets) (meaning before)) → fill ≤ 32512 → length (values puts forgets) + length held < 65536
+pub few_numbered : (before : List Word) (puts : List listed.Put) (forgets : Bool) (held : List (ℕ × ℕ)) → AreApart (changes_of_puts puts forgets) → IsRoomFor before (values puts forgets) (slot_for held) → IsStrictlySortedBy nat_cmp (keys_of held)
+    → (fill : ℕ) → fill ≡ length (moved_words (changes_of_puts puts forgets) (meaning before)) → fill ≤ 32512 → length (values puts forgets) + length held < 65536
 few_numbered before puts true held each room ordered fill is few =
     omega (arith, count_of held ordered (held_proper before puts true held each room), live_few (slot_for held) 65534)
 few_numbered before puts false held each room ordered fill is few =

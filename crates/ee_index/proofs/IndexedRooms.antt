@@ -1,4 +1,5 @@
--- How room is made in an index for values that are put, and how addresses that are forgotten leave it.
+-- How room is made in an index for values that are put, and how addresses that are
+-- forgotten leave it.
 use Rattle.std.proofs.Common.{◌≡◌, inl, inr, ℕ, ◌+◌, ◌<◌, ◌≤◌, Bool, cond, true, false, Option, Some, None, nat_lt, is_some, not, List, [], ◌∷◌, ◌++◌, length, get_or, take, refl, sym, ap, ◌∙◌, arith, suc, zero}
 use mir.Val.{bool_byte}
 use Rattle.std.proofs.lemmas.Bool.{cases_eq, cases_lt, lt-ltb}
@@ -20,7 +21,7 @@ use Rattle.ee_core.specs.Puts.{AreApart, HasNew, forgets_of, puts_of}
 use Rattle.ee_core.specs.State.{state_of}
 use Rattle.ee_core.specs.declared.change.Put as listed
 use Rattle.ee_core.proofs.Public.{changed_by-append, forget-at, forget-other, map_with_more, one_counted, put-at, put-other}
-use Rattle.ee_index.specs.Index.{HasAddresses, IsKept, IsRoomFor, IsShownSame, said_at, shown_index, shown_slot, slot_for}
+use Rattle.ee_index.specs.Index.{HasAddresses, HasIndex, IsRoomFor, IsShownSame, said_at, shown_index, shown_slot, slot_for}
 use Rattle.ee_index.proofs.IndexReaders.{absent_to, none_unless, put_elsewhere, put_there, shown_here, shown_hidden}
 use Rattle.ee_index.proofs.IndexedStores.{alike_held, no_value}
 use Rattle.ee_index.proofs.Indexing.{stands}
@@ -142,7 +143,7 @@ silent Erased address said none e = absurd (cc e)
 silent Torn address said none e = absurd (cc e)
 silent (Held number) address said none e = absurd (cc none)
 
-module _ (device : Device) (layout : Layout) (entries : List (ℕ × ℕ)) (kept : IsKept device layout entries) where
+module _ (device : Device) (layout : Layout) (entries : List (ℕ × ℕ)) (kept : HasIndex device layout entries) where
   abbrev live_slots : List Word
   live_slots = slots_of (set_of layout.side device)
 
@@ -180,7 +181,7 @@ module _ (device : Device) (layout : Layout) (entries : List (ℕ × ℕ)) (kept
   room_as_it_is = room_made [] entries (λ address. refl) (λ address. refl)
 
   -- there was none, and the index is as it was seen
-  pub no_room : (new : List (ℕ × ℕ)) → ((address : ℕ) → slot_for new address ≡ shown_index (λ number. nat_lt number layout.fill) (slot_for entries) address) → IsKept device layout new
+  pub no_room : (new : List (ℕ × ℕ)) → ((address : ℕ) → slot_for new address ≡ shown_index (λ number. nat_lt number layout.fill) (slot_for entries) address) → HasIndex device layout new
   no_room new is = record { found = kept.found; indexes = λ address. ap (λ slot. said_at live_slots slot address) (is address ∙ all_shown address) ∙ kept.indexes address }
 
   pub new_in_map : (puts : List listed.Put) → HasNew puts (slot_for entries) → HasNew puts (state_of device).map

@@ -20,7 +20,7 @@ use Rattle.ee_pages.specs.declared.find.Layout.{Layout}
 use Rattle.ee_pages.proofs.Public.{live_to-suc, live_to-zero, change_counts, length-slots}
 use Rattle.ee_core.specs.State.{state_of}
 use Rattle.ee_core.proofs.Public.{live_in-nothing, same_counts, map_was}
-use Rattle.ee_index.specs.Index.{IsKept, said_at, says_value, slot_for}
+use Rattle.ee_index.specs.Index.{HasIndex, said_at, says_value, slot_for}
 use Rattle.ee_index.proofs.Indexing.{stands}
 
 -- ---- as many entries as live addresses
@@ -71,7 +71,7 @@ pub some_is : (slot : Option ℕ) → is_some slot ≡ true → (number : ℕ) �
 some_is None e = absurd (cc e)
 some_is (Some number) e = (number, refl)
 
-module _ (device : Device) (layout : Layout) (entries : List (ℕ × ℕ)) (kept : IsKept device layout entries) where
+module _ (device : Device) (layout : Layout) (entries : List (ℕ × ℕ)) (kept : HasIndex device layout entries) where
   map_is : (address : ℕ) → (state_of device).map address ≡ meaning (slots_of (set_of layout.side device)) address
   map_is address = map_was device device layout.side layout.generation kept.found.live address
 

@@ -12,7 +12,7 @@ use Rattle.ee_codec.specs.Reading.{slot_of}
 use Rattle.ee_codec.specs.declared.slot.Slot.{Slot}
 use Rattle.ee_codec.specs.declared.slot.Slot.TheVariants.{Free, Spoiled, Element, Forgotten, Foreign}
 use Rattle.ee_pages.specs.Layout.{IsLayout}
-use Rattle.ee_pages.specs.Meaning.{Map, later, latest_in, meaning, says, slot_says, value_said}
+use Rattle.ee_pages.specs.Meaning.{Map, later_of, latest_in, meaning, says, slot_says, value_said}
 use Rattle.ee_pages.specs.LiveOrder.{IsNextLive}
 use Rattle.ee_pages.specs.Sets.{set_of, slots_of}
 use Rattle.ee_pages.specs.declared.find.Layout.{Layout}
@@ -26,18 +26,18 @@ use Rattle.ee_index.specs.Index.{IsIndex, index_with_slot, said_at, says_value, 
 abbrev pub IndexesTo : List Word → ℕ → Map → Type 0
 IndexesTo slots count index = (address : ℕ) → said_at slots (index address) address ≡ says_value (meaning (take count slots) address)
 
-latest_further : (slots : List Word) (count address : ℕ) → count < length slots → latest_in (take (count + 1) slots) address ≡ later (latest_in (take count slots) address) (says (get_or slots count Erased) address)
+latest_further : (slots : List Word) (count address : ℕ) → count < length slots → latest_in (take (count + 1) slots) address ≡ later_of (latest_in (take count slots) address) (says (get_or slots count Erased) address)
 latest_further slots count address h =
     let e : count + 1 ≡ suc count = omega arith in
-    rw (e, take-suc slots count Erased h) (latest_in-append (take count slots) (get_or slots count Erased ∷ []) address ∙ ap (later (latest_in (take count slots) address)) (last_alone (says (get_or slots count Erased) address)))
+    rw (e, take-suc slots count Erased h) (latest_in-append (take count slots) (get_or slots count Erased ∷ []) address ∙ ap (later_of (latest_in (take count slots) address)) (last_alone (says (get_or slots count Erased) address)))
   where
-    last_alone : (said : Option (Option ℕ)) → later said None ≡ said
+    last_alone : (said : Option (Option ℕ)) → later_of said None ≡ said
     last_alone said = refl
 
 module _ (slots : List Word) (count address : ℕ) (index : Map) (before : Option (Option ℕ)) (kept : said_at slots (index address) address ≡ says_value (value_said before)) where
   -- one more slot is entered
   one_entered : (slot : Slot) → says (get_or slots count Erased) address ≡ slot_says slot address
-      → said_at slots (index_with_slot slot count index address) address ≡ says_value (value_said (later before (slot_says slot address)))
+      → said_at slots (index_with_slot slot count index address) address ≡ says_value (value_said (later_of before (slot_says slot address)))
   one_entered (Element named value) e = search (rules, cases_eq, common_steps)
   one_entered (Forgotten named value) e = search (rules, cases_eq, common_steps)
   one_entered Free e = kept
@@ -71,7 +71,7 @@ module _ (device : Device) (layout : Layout) (found : IsLayout device layout) wh
       let slots = slots_of (set_of layout.side device) in
       sym (ap (λ (words : List Word). meaning words address) (sym (take-append-drop layout.fill slots))
       ∙ ap value_said (latest_in-append (take layout.fill slots) (drop layout.fill slots) address)
-      ∙ ap (λ said. value_said (later (latest_in (take layout.fill slots) address) said)) (silent_behind device layout found address))
+      ∙ ap (λ said. value_said (later_of (latest_in (take layout.fill slots) address) said)) (silent_behind device layout found address))
 
 -- an index of the used slots is one of all
 pub indexes_all : (device : Device) (layout : Layout) (index : Map) (count : ℕ) → IsLayout device layout → count ≡ layout.fill

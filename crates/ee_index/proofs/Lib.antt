@@ -3,8 +3,11 @@ mod InOrder
 mod Indexing
 mod IndexedStores
 mod IndexReaders
+mod Gathered
 mod IndexedAppends
 mod IndexedRooms
 mod IndexedMoves
 mod IndexedBatches
-mod Kept
+mod IndexedLookups
+mod LentLists
+mod Followed

@@ -6,6 +6,7 @@ use Rattle.std.specs.List.Sorted.{IsStrictlySortedBy}
 use Rattle.std.specs.Map.{keys_of, lookup}
 use Rattle.std.specs.Option.{option_map}
 use Rattle.std.specs.Ordering.{nat_cmp}
+use Rattle.ee_codec.specs.Words.{IsAddress}
 use Rattle.ee_flash.specs.Device.{Device}
 use Rattle.ee_flash.specs.declared.word.Word.{Word}
 use Rattle.ee_flash.specs.declared.word.Word.TheVariants.{Erased}
@@ -35,8 +36,8 @@ said_at slots slot address = option_map (λ number. says (slice_index_or slots n
 abbrev pub says_value : Option ℕ → Option (Option (Option ℕ))
 says_value value = option_map (λ value. Some (Some value)) value
 
--- It is an index of these slots: for each address that has a value it has a slot, which says that value, and it has no
--- other address.
+-- It is an index of these slots: for each address that has a value it has a slot, which says that
+-- value, and it has no other address.
 abbrev pub IsIndex : List Word → Map → Type 0
 IsIndex slots index = (address : ℕ) → said_at slots (index address) address ≡ says_value (meaning slots address)
 
@@ -50,7 +51,8 @@ index_with_slot Free number index = index
 index_with_slot Spoiled number index = index
 index_with_slot Foreign number index = index
 
--- what it has while a change is made in the slot of this number: an address that is put stands there already
+-- what it has while a change is made in the slot of this number: an address that is put
+-- stands there already
 abbrev pub index_for_change : Change → ℕ → Map → Map
 index_for_change (Put address value) number index = map_after (Put address number) index
 index_for_change (Forget address) number index = index
@@ -94,11 +96,17 @@ abbrev pub AddsAddresses : List listed.Put → Map → ℕ → Type 0
 AddsAddresses puts index count =
     (map : Map) → HasAddresses index map → AreApart (puts_of puts) → live_in (changed_by (puts_of puts) map) ≡ live_in map + count
 
--- An index of these slots in which there is room for values that are about to be put: an address that has no value yet has
--- a number in it that is no used slot's, and is hidden.
+-- An index of these slots in which there is room for values that are about to be put: an address
+-- that has no value yet has a number in it that is no used slot's, and is hidden.
 pub record IsRoomFor (slots : List Word) (puts : List listed.Put) (index : Map) : Type 0 where
   pub indexes : IsIndex slots (shown_index (is_filled slots) index)
   pub addresses : HasAddresses index (changed_by (puts_of puts) (meaning slots))
+
+-- An index of these slots beside which hidden addresses may stand, and whatever it has
+-- is a proper address.
+pub record IsIndexBesideHidden (slots : List Word) (index : Map) : Type 0 where
+  pub indexes : IsIndex slots (shown_index (is_filled slots) index)
+  pub proper : (address : ℕ) → is_some (index address) ≡ true → IsAddress address
 
 -- ---- how a transfer numbers it
 
@@ -107,7 +115,8 @@ abbrev pub listed_place : List listed.Put → ℕ → ℕ
 listed_place [] address = 0
 listed_place (put ∷ puts) address = if put.address == address then 0 else listed_place puts address + 1
 
--- the values that are put have their places in the list for slots, and the others have the slots from this one on
+-- the values that are put have their places in the list for slots, and the others have the
+-- slots from this one on
 abbrev pub numbered_slots : List listed.Put → ℕ → List (ℕ × ℕ) → List (ℕ × ℕ)
 numbered_slots puts number [] = []
 numbered_slots puts number (entry ∷ more) =
@@ -153,12 +162,14 @@ abbrev pub IsNextShown : (ℕ → Bool) → List (ℕ × ℕ) → Option (ℕ ×
 IsNextShown shown entries None left = AreHidden shown entries
 IsNextShown shown entries (Some found) left = (shown found.1 ≡ true) × PassesHidden shown entries (found ∷ left)
 
--- what a store with an index keeps beside its device, which is on: where the live set is, and its index
-pub record IsKept (device : Device) (layout : Layout) (entries : List (ℕ × ℕ)) : Type 0 where
+-- what a store with an index keeps beside its device, which is on: where the live
+-- set is, and its index
+pub record HasIndex (device : Device) (layout : Layout) (entries : List (ℕ × ℕ)) : Type 0 where
   pub found : IsLayout device layout
   pub indexes : IsIndex (slots_of (set_of layout.side device)) (slot_for entries)
 
--- Why there is no store with an index: as without one, or memory was refused for it, which comes before the first step.
+-- Why there is no store with an index: as without one, or memory was refused for it, which comes
+-- before the first step.
 abbrev pub IndexedOpenFails : Device → IndexedFault → Device → Type 0
 IndexedOpenFails old (indexed.Scan fault) new = IsScanFault old fault × (new ≡ old)
 IndexedOpenFails old indexed.Memory new = IsLegal old × (new ≡ old)

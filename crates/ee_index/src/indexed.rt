@@ -6,7 +6,7 @@ ghost use Rattle.ee_index.specs.Index.{IndexedOpenFails};
 
 use crate::slot_index::{SlotIndex, index_of};
 use ee_core::Store;
-use ee_core::inner::{finish, store_of};
+use ee_core::inner::{Known, finish, store_of};
 use ee_flash::{Cut, Flash};
 use ee_pages::{ScanFault, scan};
 use std::alloc::{Allocator, Global};
@@ -24,8 +24,8 @@ pub enum IndexedFault {
     Cut,
 }
 
-/// Variables in a flash device, with an index in memory: the slot in which each live address stands.
-/// A read is one look in the index and one word of the flash.
+/// Variables in a flash device, with an index in memory: the slot in which each live address
+/// stands. A read is one look in the index and one word of the flash.
 ///
 /// Source: two sets, of which one takes the writes, AN4894; the rest is ours.
 pub type IndexedStore<F, A = Global> = Store<F, SlotIndex<A>>;
@@ -53,12 +53,12 @@ pub fn open_indexed<F: Flash + Drop, A: Allocator + Copy>(
         Err(fault) => return Err((flash, IndexedFault::Scan(fault))),
     };
     // The index is made before the first step, so want of memory leaves the device as it was.
-    let index = match index_of(alloc, &flash, &layout) {
+    let lookup = match index_of(alloc, &flash, &layout) {
         Ok(index) => index,
         Err(_) => return Err((flash, IndexedFault::Memory)),
     };
     match finish(&mut flash, &layout) {
-        Ok(()) => Ok(store_of(flash, layout, index)),
+        Ok(()) => Ok(store_of(flash, Known { layout, lookup })),
         Err(Cut) => Err((flash, IndexedFault::Cut)),
     }
 }

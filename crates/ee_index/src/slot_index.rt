@@ -1,11 +1,16 @@
 //! Values are found by an index, which follows each change.
-ghost use Rattle.std.specs.Prelude.{◌≡◌, ◌-◌, IfOk, MatchOption, length};
+ghost use Rattle.std.specs.Prelude.{◌≡◌, ◌<◌, ◌-◌, ℕ, IfOk, MatchOption, OnErr, OnOk, length, nat_lt};
 ghost use Rattle.ee_pages.specs.Layout.{IsLayout};
+ghost use Rattle.ee_pages.specs.Meaning.{changed_by};
 ghost use Rattle.ee_core.specs.Lookups.{slots_by};
-ghost use Rattle.ee_index.specs.Index.{IsIndex, slot_for};
+ghost use Rattle.ee_core.specs.Puts.{HasNew, puts_of};
+ghost use Rattle.ee_index.specs.Index.{HasAddresses, IsIndex, IsShownSame, shown_index, slot_for};
 
-use crate::index::{Index, batch_indexed, count_new, next_indexed, read_index, value_in};
-use crate::index_changing::{append_indexed, enter_slot, make_room, move_indexed};
+use crate::gathering::read_index;
+use crate::index::Index;
+use crate::index_changing::{append_indexed, enter_hidden, move_indexed};
+use crate::listing::Listing;
+use crate::reading::{batch_indexed, count_new, next_indexed, slot_in, value_indexed};
 use ee_codec::Address;
 use ee_core::inner::Change;
 use ee_core::{Lookup, NoMemory, Put};
@@ -36,13 +41,13 @@ pub fn index_of<F: Flash, A: Allocator + Copy>(
 }
 
 impl<A: Allocator> SlotIndex<A> {
-    /// How many used slots, of so many, a look for the value of an address would go through, from the newest back to the
-    /// one that has it: all, if none has.
-    pub fn looks_for(&self, fill: usize, address: Address) -> usize
+    /// How many used slots, of so many, a look for the value of an address would go through, from
+    /// the newest back to the one that has it: all, if none has.
+    pub fn look_count(&self, fill: usize, address: Address) -> usize
         ensures { MatchOption (slot_for self.now.index address)
             (result ≡ fill) (λ slot. result ≡ fill - slot) }
     {
-        match self.index.get(address) {
+        match slot_in(&self.index, address) {
             None => fill,
             Some(slot) => fill.saturating_sub(slot),
         }
@@ -52,7 +57,7 @@ impl<A: Allocator> SlotIndex<A> {
     pub fn count(&self) -> usize
         ensures { result ≡ length self.now.index }
     {
-        self.index.len()
+        self.index.entries().len()
     }
 }
 
@@ -71,18 +76,15 @@ impl<A: Allocator + Copy> Lookup for SlotIndex<A> {
     ghost takes_memory = { Unit {0} };
 
     fn value_of<F: Flash>(&self, flash: &F, layout: &Layout, address: Address) -> Option<u32> {
-        match self.index.get(address) {
-            None => None,
-            Some(number) => Some(value_in(flash, layout, number)),
-        }
+        value_indexed(&self.index, flash, layout, address)
     }
 
     fn live_count<F: Flash>(&self, flash: &F, layout: &Layout) -> usize {
-        self.index.len()
+        self.index.entries().len()
     }
 
     fn live_with<F: Flash>(&self, flash: &F, layout: &Layout, puts: &[Put]) -> usize {
-        self.index.len() + count_new(&self.index, puts)
+        self.index.entries().len() + count_new(&self.index, puts)
     }
 
     fn next_live<F: Flash>(
@@ -109,7 +111,7 @@ impl<A: Allocator + Copy> Lookup for SlotIndex<A> {
         layout: &Layout,
         put: Put,
     ) -> Result<(), NoMemory> {
-        let Ok(()) = enter_slot(&mut self.index, put.address, layout.fill) else {
+        let Ok(()) = self.index.insert(put.address, layout.fill) else {
             return Err(NoMemory);
         };
         Ok(())
@@ -148,5 +150,26 @@ impl<A: Allocator + Copy> Lookup for SlotIndex<A> {
         forgets: bool,
     ) -> Result<(), Cut> {
         move_indexed(flash, layout, &mut self.index, puts, forgets)
+    }
+}
+
+/// Makes room in an index for the slots of these values: each new address gets a number that is no
+/// used slot's, of which there are so many. An `Err`, which only a new address meets, leaves the
+/// entries of used slots alone.
+fn make_room<A: Allocator>(index: &mut Index<A>, puts: &[Put], fill: usize) -> Result<(), NoMemory>
+    requires { fill < 65536 }
+    ensures shown { OnOk result (IsShownSame fill index.old index.new) }
+    ensures there { OnOk result (HasAddresses (slot_for index.new)
+        (changed_by (puts_of puts.now) (slot_for index.old))) }
+    ensures new { OnErr result (HasNew puts.now (slot_for index.old)) }
+    ensures err { OnErr result ((address : ℕ) → slot_for index.new address
+        ≡ shown_index (λ number. nat_lt number fill) (slot_for index.old) address) }
+{
+    match enter_hidden(index, puts, fill) {
+        Ok(()) => Ok(()),
+        Err(refused) => {
+            index.retain_used(fill);
+            Err(refused)
+        }
     }
 }

@@ -5,7 +5,7 @@ pub use Rattle.ee_core.specs.Changes
 pub use Rattle.ee_core.specs.Calls
 pub use Rattle.ee_core.specs.Openings
 pub use Rattle.ee_core.specs.Points
-pub use Rattle.ee_core.specs.Parts
+pub use Rattle.ee_core.specs.CallSteps
 pub use Rattle.ee_core.specs.Cuts
 pub use Rattle.ee_core.specs.Course
 pub use Rattle.ee_core.specs.Runs

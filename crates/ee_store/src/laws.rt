@@ -1,5 +1,5 @@
-//! What holds of every run of calls, of the images that they leave, and of every list of events. Each
-//! function does nothing: its contract is the law.
+//! What holds of every run of calls, of the images that they leave, and of every list of events.
+//! Each function does nothing: its contract is the law.
 
 pub use ee_bench::laws::{a_kept_change_stays, no_answered_change_is_lost};
 pub use ee_core::laws::{

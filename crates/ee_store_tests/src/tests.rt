@@ -1,11 +1,12 @@
 //! What no clause says, each once, and what several modules make their values with.
 //!
-//! What goes wrong while a test is prepared ends it by `expect`. So a function has no path on which it drops what it owns,
-//! and each such path costs the prover time.
+//! What goes wrong while a test is prepared ends it by `expect`. So a function has no path on which
+//! it drops what it owns, and each such path costs the prover time.
 mod counted;
 mod cuts;
 mod driving;
 mod formats;
+mod lent;
 mod outside;
 mod pairs;
 mod refused_opening;
@@ -15,13 +16,13 @@ mod tidying;
 use ee_codec::Address;
 use ee_flash::{Flash, MemFlash, Shape};
 use ee_image::{read_image, write_image};
-use ee_store::{Store, open};
+use ee_store::{Entry, LentIndex, Store, Variables, open, with_lent_index};
 use std::alloc::Global;
 use std::fmt::Debug;
 use std::process::Abort;
 
-/// A value is the one that is wanted. A failure names its place in a table or a loop. Each assertion that stands in a test
-/// is proved there; a call of this one costs next to nothing.
+/// A value is the one that is wanted. A failure names its place in a table or a loop. Each
+/// assertion that stands in a test is proved there; a call of this one costs next to nothing.
 fn same<P: Debug + Copy, T: PartialEq + Debug + Copy>(
     rt: &impl Abort,
     place: P,
@@ -45,6 +46,18 @@ fn address(rt: &impl Abort, number: u16) -> Address {
 fn opened<F: Flash + Drop>(rt: &impl Abort, mut flash: F) -> Store<F> {
     flash.power_on();
     open(flash).ok().expect(rt, "no store")
+}
+
+/// A store that is on, with an index in this room.
+fn indexed_in<'a, F: Flash + Drop>(
+    rt: &impl Abort,
+    store: Store<F>,
+    room: &'a mut [Entry],
+) -> Store<F, LentIndex<'a>> {
+    if !store.is_on() {
+        panic!(rt; "off");
+    }
+    with_lent_index(store, room)
 }
 
 /// The image of a device.

@@ -1,8 +1,8 @@
 //! How many words of the flash a read by the index takes, on a device that counts them.
-use crate::tests::{address, opened, same, shape};
+use crate::tests::{address, indexed_in, opened, same, shape};
 use ee_fakes::ListFlash;
 use ee_flash::Flash;
-use ee_store::{Variables, format, open_indexed};
+use ee_store::{Entry, Variables, format, open_indexed};
 use std::alloc::Global;
 use std::process::Abort;
 
@@ -28,11 +28,19 @@ fn read_often<V: Variables>(rt: &impl Abort, store: &V, number: u16, times: u32)
     }
 }
 
-// How many words are read until a store with an index is open, and an address was read so many times.
+// How many words are read until a store with an index is open, and an address was
+// read so many times.
 fn by_index(rt: &impl Abort, memory: Global, number: u16, times: u32) -> u64 {
     let mut flash = filled(rt, memory);
     flash.power_on();
     let store = open_indexed(memory, flash).ok().expect(rt, "no store");
+    read_often(rt, &store, number, times);
+    store.into_flash().reads()
+}
+
+// The same of a store with an index in this room.
+fn by_lent(rt: &impl Abort, memory: Global, room: &mut [Entry], number: u16, times: u32) -> u64 {
+    let store = indexed_in(rt, opened(rt, filled(rt, memory)), room);
     read_often(rt, &store, number, times);
     store.into_flash().reads()
 }
@@ -57,4 +65,18 @@ fn a_read_by_the_index_takes_one_word_or_none(rt: HostRuntime) {
         let found = by_scan(&rt, rt.alloc(), number, 100);
         same(&rt, number, found.checked_sub(scan) >= Some(wanted), true);
     }
+}
+
+/// Where there is no room for one address more, the store looks through the slots.
+#[test]
+fn a_read_by_a_lent_index_takes_one_word_or_none(rt: HostRuntime) {
+    let mut room = [(address(&rt, 1), 0); COUNT as usize];
+    let opening = by_lent(&rt, rt.alloc(), &mut room, 1, 0);
+    for (number, wanted) in [(1, 100), (20, 100), (COUNT, 100), (COUNT + 1, 0)] {
+        let found = by_lent(&rt, rt.alloc(), &mut room, number, 100);
+        same(&rt, number, found.checked_sub(opening), Some(wanted));
+    }
+    let mut less = [(address(&rt, 1), 0); COUNT as usize - 1];
+    let found = by_lent(&rt, rt.alloc(), &mut less, 1, 100);
+    same(&rt, "less room", found >= 4000, true);
 }

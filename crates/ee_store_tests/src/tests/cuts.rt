@@ -20,7 +20,8 @@ fn mix_of(number: usize) -> [Left; 5] {
     ]
 }
 
-// Writes 1 at an address in each slot of the first set, and then 2 in each of the second, where each set has so many slots.
+// Writes 1 at an address in each slot of the first set, and then 2 in each of the second, where
+// each set has so many slots.
 fn fill_both<V: Variables>(rt: &impl Abort, store: &mut V, one: Address, slots: usize) {
     for slot in 0..slots.saturating_mul(2) {
         let value = if slot < slots { 1 } else { 2 };
@@ -28,8 +29,9 @@ fn fill_both<V: Variables>(rt: &impl Abort, store: &mut V, one: Address, slots: 
     }
 }
 
-/// A device with so many pages a set and one slot a page. Address 1 was written with 1 in each slot and then with 2 in
-/// each: the second set is live and full, and the pages of the first wait to be erased.
+/// A device with so many pages a set and one slot a page. Address 1 was written with 1 in
+/// each slot and then with 2 in each: the second set is live and full, and the pages of the
+/// first wait to be erased.
 pub fn moved_once<'a>(
     rt: &impl Abort,
     memory: Global,
@@ -43,7 +45,8 @@ pub fn moved_once<'a>(
     store.into_flash()
 }
 
-// Whether a store has this value, and these numbers: its generation, its fill, and how many pages wait.
+// Whether a store has this value, and these numbers: its generation, its fill, and
+// how many pages wait.
 fn has<V: Variables>(
     store: &V,
     one: Address,
@@ -67,8 +70,8 @@ fn is_cut<V: Variables>(store: &mut V, cleans: bool, one: Address) -> bool {
     fault == Some(WriteFault::Cut) && !store.is_on()
 }
 
-// How many pages wait behind a cut of the erase of the first set's page, as the list says: the page, if it isn't blank. Its
-// third word was erased before.
+// How many pages wait behind a cut of the erase of the first set's page, as the list says: the
+// page, if it isn't blank. Its third word was erased before.
 fn pending_behind(list: &[Left; 5]) -> usize {
     match *list {
         [
@@ -112,7 +115,8 @@ fn each_mix_of_a_cut_erase(rt: HostRuntime) {
     }
 }
 
-// Whether a write of 3 is done. Before it the store reads a value that is no less than `least`, which it becomes.
+// Whether a write of 3 is done. Before it the store reads a value that is no less than
+// `least`, which it becomes.
 fn is_written<V: Variables>(rt: &impl Abort, store: &mut V, one: Address, least: &mut u32) -> bool {
     let value = store.read(one).ok().flatten().unwrap_or(0);
     same(rt, value, *least <= value && value <= 3, true);
@@ -129,8 +133,9 @@ fn is_written<V: Variables>(rt: &impl Abort, store: &mut V, one: Address, least:
     }
 }
 
-// Opens the store and writes 3 at the address, until a write is done or the tries are used up. Between two cuts the store
-// reads the old value, or the new one, and then no more the old one. Gives how many cuts there were.
+// Opens the store and writes 3 at the address, until a write is done or the tries are used up.
+// Between two cuts the store reads the old value, or the new one, and then no more the old one.
+// Gives how many cuts there were.
 fn write_through<F: Flash + Drop>(rt: &impl Abort, flash: F, one: Address, tries: usize) -> u64 {
     let mut flash = flash;
     let mut least = 2;
@@ -154,7 +159,8 @@ fn write_through<F: Flash + Drop>(rt: &impl Abort, flash: F, one: Address, tries
     panic!(rt; "too many cuts")
 }
 
-// A transfer is cut in its erase, and what follows in one later step after another, each as one of three mixes says.
+// A transfer is cut in its erase, and what follows in one later step after another, each as one
+// of three mixes says.
 fn fates_of<'a>(mixes: &'a [[Left; 5]; 3]) -> [Fate<'a>; 17] {
     [
         Fate::Cut(&mixes[0]),

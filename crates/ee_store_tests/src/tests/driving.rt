@@ -1,4 +1,5 @@
-//! Events that drive a store: the worked ones to the last, and changes in which power is cut, kept and not.
+//! Events that drive a store: the worked ones to the last, and changes in which power
+//! is cut, kept and not.
 use crate::tests::{address, device, same};
 use ee_codec::Address;
 use ee_fakes::images::ONE_MOVE;

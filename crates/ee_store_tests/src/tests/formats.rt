@@ -1,4 +1,5 @@
-//! A format of a device that is not blank: the order of its steps, and how many it takes. No command makes one.
+//! A format of a device that is not blank: the order of its steps, and how many it takes.
+//! No command makes one.
 use crate::tests::{device, same, text_of};
 use ee_flash::{Flash, Fuse, MemFlash, Tear};
 use ee_store::format;

@@ -7,7 +7,8 @@ use ee_codec::{
 use ee_flash::{Flash, MemFlash, Word};
 use ee_image::{ImageFault, read_image};
 
-/// What a word says in the place of a slot: its kind, and of an element or a forgetting its address and value, else zeros.
+/// What a word says in the place of a slot: its kind, and of an element or a forgetting its address
+/// and value, else zeros.
 type InSlot = (&'static str, u16, u32);
 
 /// What a word says in the place of a slot, of a receive word and of a mark.

@@ -154,7 +154,8 @@ fn new_words(rt: &impl Abort, memory: Global, shape: Shape) -> MemFlash {
     formatted(rt, MemFlash::blank(memory, shape).expect(rt, "no device"))
 }
 
-// Whether pairs of numbers and words are left with one image behind the same answers, whose last two are these.
+// Whether pairs of numbers and words are left with one image behind the same answers, whose
+// last two are these.
 fn are_alike<F: Flash + Drop, G: Flash + Drop>(
     rt: &impl Abort,
     memory: Global,
@@ -169,7 +170,8 @@ fn are_alike<F: Flash + Drop, G: Flash + Drop>(
             == text_of(rt, memory, &words.flash).as_slice()
 }
 
-// Runs a script whole, over both, which leaves the worked image. Gives how many steps of numbers it takes.
+// Runs a script whole, over both, which leaves the worked image. Gives how many steps
+// of numbers it takes.
 fn run_whole(rt: &impl Abort, memory: Global, script: &Script) -> usize {
     let shape = shape(rt, script.pages, script.words);
     let words = answered(rt, memory, new_words(rt, memory, shape), script.lines);
@@ -225,8 +227,8 @@ fn line_of_cut(log: &[Answer]) -> usize {
     usize::MAX
 }
 
-// Whether a script of which this step is cut goes on from the line that was cut as over a device of words with the image
-// that the cut left, and ends with the worked values.
+// Whether a script of which this step is cut goes on from the line that was cut as over a device of
+// words with the image that the cut left, and ends with the worked values.
 fn goes_on(rt: &impl Abort, memory: Global, script: &Script, fates: &[NumberFate<'_>]) -> bool {
     let shape = shape(rt, script.pages, script.words);
     let numbers = paired(rt, new_numbers(rt, memory, shape).into_nor(), fates);

@@ -5,8 +5,8 @@ use ee_store::{RescueFault, Rescued, rescue};
 use std::alloc::Global;
 use std::process::Abort;
 
-/// An image in which a word went bad, the one that a rescue leaves, how many words were bad, and how many addresses have a
-/// value.
+/// An image in which a word went bad, the one that a rescue leaves, how many words were bad, and
+/// how many addresses have a value.
 const ROWS: [(&[u8], &[u8], usize, usize); 3] = [
     // The receive word of the live set can't be read, and the other set is blank.
     (
@@ -25,7 +25,8 @@ const ROWS: [(&[u8], &[u8], usize, usize); 3] = [
         1,
         1,
     ),
-    // The erasing word of the live set isn't erased any more, and a word behind the free slot isn't either.
+    // The erasing word of the live set isn't erased any more, and a word behind the
+    // free slot isn't either.
     (
         b"ee 1 7\n0 - - - - - - -\n0 aaaaaaaa00000005 aaaaaaaaaaaaaaaa - 0000000000000007 0000000a00000001 - ?\n",
         b"ee 1 7\n0 aaaaaaaa00000006 aaaaaaaaaaaaaaaa - - 0000000a00000001 - -\n\

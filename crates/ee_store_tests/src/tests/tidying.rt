@@ -1,4 +1,5 @@
-//! Settings of a later schema, over both kinds of store, and with power cut in each step of a tidying.
+//! Settings of a later schema, over both kinds of store, and with power cut in each step of a
+//! tidying.
 use crate::tests::{address, device, opened, same, text_of};
 use ee_codec::Address;
 use ee_fakes::images::{TIDIED, TWO_MOVES, VOLUME};
@@ -8,7 +9,8 @@ use ee_store::{IndexedStore, Store, Variables, open_indexed};
 use std::alloc::Global;
 use std::process::Abort;
 
-// One setting, above whose range the value of address 1 is after two moves. Address 2 is none of its.
+// One setting, above whose range the value of address 1 is after two moves. Address 2 is none of
+// its.
 fn schema(rt: &impl Abort, memory: Global) -> Schema {
     let table = toml::table_from_slice(memory, VOLUME)
         .ok()

@@ -6,9 +6,9 @@ use Rattle.ee_index.proofs.index_changing.enter_hidden.Goals as goal
 
 pub entries-preserved : goal.entries-preserved
 entries-preserved g c =
-    let old = c.args.index.now in
-    let now = c.entries.index in
-    let next = c.enter_new.new.index in
+    let old = (g.L.Listing.list c.args.list.now) in
+    let now = (g.L.Listing.list c.entries.list) in
+    let next = (g.L.Listing.list c.enter_new.new.list) in
     record {
       shown = λ address. c.enter_new.ensures.shown address ∙ c.entries.invariant.shown address;
       there = entered_more c.args.fill c.args.puts.now c.entries.put-index c.put-item.result c.entries-test.true c.put-item.is old now next c.entries.invariant.there c.in_ok-enter_new.ensures.there;
@@ -19,8 +19,8 @@ returns-in_err-enter_new-clause-shown g c = λ address. c.enter_new.ensures.show
 
 pub returns-in_err-enter_new-clause-new : goal.returns-in_err-enter_new-clause-new
 returns-in_err-enter_new-clause-new g c =
-    let old = c.args.index.now in
-    let now = c.entries.index in
-    let next = c.enter_new.new.index in
+    let old = (g.L.Listing.list c.args.list.now) in
+    let now = (g.L.Listing.list c.entries.list) in
+    let next = (g.L.Listing.list c.enter_new.new.list) in
     let none = was_new c.args.fill c.args.puts.now c.entries.put-index c.put-item.result c.entries-test.true c.put-item.is old now next c.entries.invariant.there c.in_err-enter_new.ensures.absent in
     always_on_err c.from_residual.result (has_new c.args.puts.now (slot_for old) c.entries.put-index c.put-item.result c.entries-test.true c.put-item.is none)

@@ -11,10 +11,10 @@ turned puts false = refl
 
 pub returns : goal.returns
 returns g c = record {
-  left = c.leave_all.new.index;
+  left = (g.L.Listing.list c.leave_all.new.list);
   ordered = c.renumber.ensures.ordered;
-  left_is = λ address. c.leave_all.ensures.left address ∙ ap (λ (puts : List listed.Put). changed_by (forgets_of puts) (slot_for c.args.index.now) address) (c.values_put-forgotten.ensures ∙ turned c.args.puts.now c.args.forgets);
-  numbered = c.renumber.ensures.numbered ∙ ap (λ (puts : List listed.Put). numbered_slots puts (length puts) c.leave_all.new.index) c.values_put-put.ensures;
+  left_is = λ address. c.leave_all.ensures.left address ∙ ap (λ (puts : List listed.Put). changed_by (forgets_of puts) (slot_for (g.L.Listing.list c.args.list.now)) address) (c.values_put-forgotten.ensures ∙ turned c.args.puts.now c.args.forgets);
+  numbered = c.renumber.ensures.numbered ∙ ap (λ (puts : List listed.Put). numbered_slots puts (length puts) (g.L.Listing.list c.leave_all.new.list)) c.values_put-put.ensures;
 }
 
 pub renumber-requires : goal.renumber-requires

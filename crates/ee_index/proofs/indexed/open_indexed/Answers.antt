@@ -1,6 +1,6 @@
 use Rattle.std.proofs.Common.{List, subst, sym}
 use Rattle.ee_core.specs.Openings.{Opens}
-use Rattle.ee_core.proofs.Public.{opening_cut, opens}
+use Rattle.ee_core.proofs.Public.{layout_stays, opening_cut, opens}
 use Rattle.ee_flash.specs.declared.word.Word.{Word}
 use Rattle.ee_index.specs.Index.{IsIndex, slot_for}
 use Rattle.ee_index.proofs.indexed.open_indexed.Goals as goal
@@ -19,7 +19,15 @@ returns-in-Err-finish-clause-failed g c =
     (λ marked. let none = c.finish.ensures.no_step marked in cc (none.0, c.in-Err-finish.is)) c.in-Err-finish.ensures.begun
     (c.in-Err-finish.ensures.power.cut c.requires)
 
-pub store_of-requires-clause-fits : goal.store_of-requires-clause-fits
-store_of-requires-clause-fits g c =
-    let old = g.F.Flash.device c.args.flash in let new = g.F.Flash.device c.finish.new.flash in
-    subst (λ (slots : List Word). IsIndex slots (slot_for c.in-Ok-index_of.index.index)) (sym c.in-Ok-finish.ensures.stays.keeps.same_slots) c.in-Ok-index_of.ensures
+pub store_of-requires : goal.store_of-requires
+store_of-requires g c =
+    let old = g.F.Flash.device c.args.flash in
+    let new = g.F.Flash.device c.finish.new.flash in
+    let found = c.in-Ok.ensures.layout in
+    let ended = c.in-Ok-finish.ensures in
+    let opened = opens c.in-Ok.layout old new found ended.stays ended.finished ended.shows (λ marked. (c.finish.ensures.no_step marked).1) ended.power.ok in
+    record {
+      store = opened.store;
+      layout = λ on. layout_stays c.in-Ok.layout old new found ended.stays;
+      fits = λ on. subst (λ (slots : List Word). IsIndex slots (slot_for c.in-Ok-index_of.index.index)) (sym ended.stays.keeps.same_slots) c.in-Ok-index_of.ensures;
+    }

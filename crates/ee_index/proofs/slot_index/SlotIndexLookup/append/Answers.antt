@@ -1,6 +1,6 @@
 use Rattle.ee_pages.specs.Sets.{set_of, slots_of}
 use Rattle.ee_index.specs.Index.{slot_for}
-use Rattle.ee_index.proofs.Kept.{ready_for}
+use Rattle.ee_index.proofs.IndexedLookups.{ready_for}
 use Rattle.ee_index.proofs.slot_index.SlotIndexLookup.append.Goals as goal
 
 pub append_indexed-requires-clause-ready : goal.append_indexed-requires-clause-ready

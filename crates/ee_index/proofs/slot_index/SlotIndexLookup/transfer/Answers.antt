@@ -1,4 +1,4 @@
-use Rattle.ee_index.proofs.Kept.{room_for}
+use Rattle.ee_index.proofs.IndexedLookups.{room_for}
 use Rattle.ee_index.proofs.slot_index.SlotIndexLookup.transfer.Goals as goal
 
 pub move_indexed-requires-clause-room : goal.move_indexed-requires-clause-room

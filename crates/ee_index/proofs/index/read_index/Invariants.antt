@@ -1,7 +1,0 @@
-use Rattle.ee_pages.specs.Sets.{set_of, slots_of}
-use Rattle.ee_index.specs.Index.{slot_for}
-use Rattle.ee_index.proofs.Indexing.{IndexesTo}
-use Rattle.ee_index.proofs.index.read_index.Given as goal
-
-abbrev pub invariant-loop-number : goal.invariant-loop-number
-invariant-loop-number g l = IndexesTo (slots_of (set_of l.layout.side (g.F.Flash.device l.flash))) l.number (slot_for l.index)

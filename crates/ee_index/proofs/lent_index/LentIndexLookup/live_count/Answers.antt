@@ -1,0 +1,8 @@
+use Rattle.std.proofs.Common.{◌∙◌, ap, length}
+use Rattle.ee_index.proofs.IndexedLookups.{has_index, live_found}
+use Rattle.ee_index.proofs.lent_index.LentIndexLookup.live_count.Goals as goal
+
+pub returns : goal.returns
+returns g c =
+    let kept = has_index (g.F.Flash.device c.args.flash.now) c.args.layout.now c.args.self.now.list c.requires.layout (c.requires.fits c.if-self.false) in
+    ap length c.entries.ensures.entries ∙ live_found (g.F.Flash.device c.args.flash.now) c.args.layout.now c.args.self.now.list kept c.entries.ensures.ordered
