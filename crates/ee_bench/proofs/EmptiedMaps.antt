@@ -15,7 +15,11 @@ told : (map : Map) (found : Option (ℕ × ℕ)) (none : Bool) → map 0 ≡ Non
 told map None true zeroth next e = (λ is address. elim (cases_eq address 0) [ inl here ↦ ap map here ∙ zeroth | inr above ↦ next address (omega (arith, above)) ], λ all. refl)
 told map None false zeroth next e = absurd (cc e)
 told map (Some found) true zeroth next e = absurd (cc e)
-told map (Some found) false zeroth next e = (λ wrong. absurd (cc wrong), λ all. let none = all found.0 in let some = next.1 in absurd (cc (none, some)))
+told map (Some found) false zeroth next e = (
+  λ wrong. absurd (cc wrong),
+  λ all. let none = all found.0 in
+      let some = next.1 in absurd (cc (none, some)),
+)
 
 pub told_empty : (device : Device) (layout : Layout) (found : Option (ℕ × ℕ)) (none : Bool) → IsLayout device layout → IsNextLive (meaning (slots_of (set_of layout.side device))) 0 found → is_some found ≡ not none
     → (none ≡ true → IsEmptied (state_of device).map) × (IsEmptied (state_of device).map → none ≡ true)

@@ -1,4 +1,5 @@
--- What each turn of a drive does to the cuts, to the map and to the image, and so what all of them do.
+-- What each turn of a drive does to the cuts, to the map and to the image, and so
+-- what all of them do.
 use Rattle.std.proofs.Common.{◌≡◌, ◌⊎◌, inl, inr, ℕ, ◌+◌, ◌≤◌, Bool, true, false, cond, min, Option, Some, None, Ok, Err, List, [], ◌∷◌, refl, sym, ap, ◌∙◌, subst, arith, rules}
 use Rattle.std.proofs.Math.Path.{fun_ext}
 use Rattle.std.specs.Borrow.{Bor}

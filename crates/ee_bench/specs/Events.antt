@@ -1,4 +1,5 @@
--- What happens when events drive a store through power cuts and openings: a run of turns, one for each event.
+-- What happens when events drive a store through power cuts and openings: a run of turns,
+-- one for each event.
 use Rattle.std.specs.Prelude.{◌≡◌, ◌↔◌, ℕ, ◌+◌, ◌&&◌, Bool, true, false, not, IsTrue, Option, Some, None, Ok, Err, List, [], ◌∷◌, map, min}
 use Rattle.std.specs.List.{count_by, filter_map}
 use Rattle.ee_flash.specs.Device.{Device, IsOn, all_ones}
@@ -19,13 +20,15 @@ use Rattle.ee_bench.specs.declared.event.Answer.TheVariants.{Cleaned, Cleared, D
 use Rattle.ee_bench.specs.declared.event.Event.{Event}
 use Rattle.ee_bench.specs.declared.event.Event.TheVariants.{Clean, Clear, Forget, Get, Put, PutAll, Reopen}
 
--- An event with its answer, and whether the image right after it has the change, if power was cut in one.
+-- An event with its answer, and whether the image right after it has the change, if
+-- power was cut in one.
 pub record Turn : Type 0 where
   pub event : Event
   pub answer : Answer
   pub found : Option Bool
 
--- the call of the store that the event makes, with its answer; the store takes no memory, so none is refused for want of it
+-- the call of the store that the event makes, with its answer; the store takes no memory, so none
+-- is refused for want of it
 abbrev pub call_of_event : Event → Answer → Option Call
 call_of_event (Put address value) (Done written) = Some (Wrote address value (Ok written))
 call_of_event (Put address value) (Refused write.Memory) = None
@@ -58,8 +61,8 @@ abbrev pub Idles : Answer → Device → Device → Type 0
 Idles Off old new = new ≡ old
 Idles answer old new = ⊥
 
--- What the event is answered, and what it leaves, by whether a store is open on a device that is on: a reopening opens;
--- each other event makes its call, or is answered that it is off.
+-- What the event is answered, and what it leaves, by whether a store is open on a device that is
+-- on: a reopening opens; each other event makes its call, or is answered that it is off.
 abbrev pub Happens : Bool → Event → Answer → Device → Device → Type 0
 Happens serving Reopen answer old new = Reopens answer old new
 Happens true event answer old new = IsCalled (call_of_event event answer) old new
@@ -74,7 +77,8 @@ tells_of_a_cut (NotCleared clear.Cut) = true
 tells_of_a_cut (NotOpened opening.Cut) = true
 tells_of_a_cut answer = false
 
--- A store is open on a device that is on from an opening to the next answer with a cut, or to an opening that fails.
+-- A store is open on a device that is on from an opening to the next answer with a cut, or to an
+-- opening that fails.
 abbrev pub serves_after : Bool → Answer → Bool
 serves_after serving Opened = true
 serves_after serving (NotOpened fault) = false
@@ -84,9 +88,9 @@ serves_after serving answer = serving && not (tells_of_a_cut answer)
 abbrev pub IsEmptied : Map → Type 0
 IsEmptied map = (address : ℕ) → map address ≡ None
 
--- What is looked for: after a cut in a put whether the address has that value, after one in a list whether it has all its
--- values, after one in a forgetting whether the address has none, after one in a clear whether no address has one, and
--- after nothing else.
+-- What is looked for: after a cut in a put whether the address has that value, after one in a list
+-- whether it has all its values, after one in a forgetting whether the address has none, after one
+-- in a clear whether no address has one, and after nothing else.
 abbrev pub IsLookedFor : Event → Answer → Option Bool → Device → Type 0
 IsLookedFor (Put address value) (Refused write.Cut) (Some held) new = IsTrue held ↔ ((state_of new).map address ≡ Some value)
 IsLookedFor (Put address value) (Refused write.Cut) None new = ⊥
@@ -109,8 +113,9 @@ abbrev pub AreTurns : List Turn → Point → Point → Type 0
 AreTurns [] old new = new ≡ old
 AreTurns (turn ∷ turns) old new = (between : Point) × IsTurn turn old between × AreTurns turns between new
 
--- What was done, from a device on which no store is open: at the end a store is open on a device that is on, or none is;
--- and the cuts rose by one for each answer with a cut, up to the greatest count.
+-- What was done, from a device on which no store is open: at the end a store is open on a
+-- device that is on, or none is; and the cuts rose by one for each answer with a cut, up to
+-- the greatest count.
 pub record WasDone (turns : List Turn) (old new : Device) : Type 0 where
   pub end : Point
   pub turns_are : AreTurns turns (closed_point old) end
@@ -118,7 +123,8 @@ pub record WasDone (turns : List Turn) (old new : Device) : Type 0 where
   pub serves : end.serving ≡ true → IsOn new × IsStore new
   pub cuts_are : new.cuts ≡ min (old.cuts + count_by (λ turn. tells_of_a_cut turn.answer) turns) all_ones
 
--- these turns have these events, these answers, and of those in which power was cut in a change what was found
+-- these turns have these events, these answers, and of those in which power was cut in a
+-- change what was found
 pub record AreTold (turns : List Turn) (events : List Event) (log : List Answer) (kept : List Bool) : Type 0 where
   pub events_are : map (λ turn. turn.event) turns ≡ events
   pub log_is : map (λ turn. turn.answer) turns ≡ log

@@ -1,5 +1,5 @@
--- What is kept of the changes that events ask for: those that were answered as done, and of those in which power was cut
--- the ones that were found.
+-- What is kept of the changes that events ask for: those that were answered as done, and of those
+-- in which power was cut the ones that were found.
 use Rattle.std.specs.Prelude.{◌≡◌, ◌==◌, ◌++◌, ℕ, Bool, true, false, Option, Some, List, [], ◌∷◌}
 use Rattle.std.specs.List.{All, Contains, flat_map}
 use Rattle.ee_flash.specs.Device.{Device}
@@ -18,8 +18,8 @@ use Rattle.ee_bench.specs.declared.event.Answer.TheVariants.{Cleared, Done, NotC
 use Rattle.ee_bench.specs.declared.event.Event.{Event}
 use Rattle.ee_bench.specs.declared.event.Event.TheVariants.{Clear, Forget, Get, Put, PutAll}
 
--- the changes that an event kept: its own, if it was done, or found after a cut; those of a list all, or none; a clear
--- forgets each address
+-- the changes that an event kept: its own, if it was done, or found after a cut; those of a list
+-- all, or none; a clear forgets each address
 abbrev pub kept_by : Event → Answer → Option Bool → List Change
 kept_by (Put address value) (Done written) found = meaning.Put address value ∷ []
 kept_by (Put address value) (Refused fault) (Some true) = meaning.Put address value ∷ []
@@ -51,22 +51,25 @@ abbrev pub is_scan_fault : Answer → Bool
 is_scan_fault (NotOpened (Scan fault)) = true
 is_scan_fault answer = false
 
--- What was kept, from a legal image: no opening met a scan fault, each value read is that of its point, and the image is
--- legal and means the map of the start, changed by the changes that were kept.
+-- What was kept, from a legal image: no opening met a scan fault, each value read is that
+-- of its point, and the image is legal and means the map of the start, changed by the
+-- changes that were kept.
 pub record WasKept (turns : List Turn) (old new : Device) : Type 0 where
   pub no_scan_fault : All (λ turn. is_scan_fault turn.answer ≡ false) turns
   pub values : AreValuesFrom (state_of old).map turns
   pub legal : IsLegal new
   pub map_is : (state_of new).map ≡ changed_by (kept_changes turns) (state_of old).map
 
--- These events, on a device on which no store is open, got these answers and kept entries, and left this device.
+-- These events, on a device on which no store is open, got these answers and kept entries,
+-- and left this device.
 pub record Drives (old : Device) (events : List Event) (log : List Answer) (kept : List Bool) (new : Device) : Type 0 where
   pub turns : List Turn
   pub told : AreTold turns events log kept
   pub done : WasDone turns old new
   pub changes_kept : IsLegal old → WasKept turns old new
 
--- Whatever is cut, and however often, no change that was answered is lost, and each that a cut left is known.
+-- Whatever is cut, and however often, no change that was answered is lost, and each that
+-- a cut left is known.
 abbrev pub NoAnsweredChangeIsLost : Type 0
 NoAnsweredChangeIsLost =
     (turns : List Turn) (old new : Point) → AreTurns turns old new → IsLegal old.device → WasKept turns old.device new.device
@@ -79,8 +82,8 @@ event_asks_change_of address (Forget named) = named == address
 event_asks_change_of address Clear = true
 event_asks_change_of address event = false
 
--- A change that was kept stays, whatever is cut later, however often, in calls and in openings: as long as no further
--- change of its address is asked for, the image has it.
+-- A change that was kept stays, whatever is cut later, however often, in calls and in openings: as
+-- long as no further change of its address is asked for, the image has it.
 abbrev pub AKeptChangeStays : Type 0
 AKeptChangeStays =
     (turns later : List Turn) (turn : Turn) (change : Change) (old new : Point) → AreTurns (turns ++ turn ∷ later) old new

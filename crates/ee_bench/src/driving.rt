@@ -1,4 +1,5 @@
-//! A store at the bench: each event is one call, and after a cut in a change the image is looked at.
+//! A store at the bench: each event is one call, and after a cut in a change the
+//! image is looked at.
 ghost use Rattle.std.specs.Prelude.{◌≡◌, ◌↔◌, IfErr, IfOk, IsTrue};
 ghost use Rattle.ee_pages.specs.Legal.{IsLegal};
 ghost use Rattle.ee_core.specs.Points.{Point, open_point};
@@ -244,9 +245,10 @@ fn has_all<F: Flash>(flash: &F, puts: &[Put]) -> bool
     true
 }
 
-/// Drives a store by events, one after another, through power cuts and openings. No store is open at
-/// the start, whether the device is on or off. Without an open store, or on a device that is off, all
-/// but `Reopen` are answered `Off`. Memory for the answers is taken before the first event.
+/// Drives a store by events, one after another, through power cuts and openings. No store
+/// is open at the start, whether the device is on or off. Without an open store, or on a
+/// device that is off, all but `Reopen` are answered `Off`. Memory for the answers is taken
+/// before the first event.
 ///
 /// From any legal image no change that was answered as done is lost, and of each that met a cut
 /// `kept` says whether the image has it.

@@ -64,7 +64,7 @@ pub struct Driven<F: Flash + Drop, A: Allocator = Global> {
     /// The answers, one for each event.
     pub log: Vec<Answer, A>,
     /// Whether the image right after the event had its change, for each put, each list, each
-    /// forgetting and each clear in which power was cut, in their order: the address has that value,
-    /// each address of the list has its value, the address has none, or no address has one.
+    /// forgetting and each clear in which power was cut, in their order: the address has that
+    /// value, each address of the list has its value, the address has none, or no address has one.
     pub kept: Vec<bool, A>,
 }

@@ -24,7 +24,8 @@ use Rattle.ee_plan.proofs.Public.{live_after_forget, live_after_put, appends, fo
 
 -- ---- a run
 
--- The run of these commands with these answers is this: the changes that are accepted, made by moves of the late store.
+-- The run of these commands with these answers is this: the changes that are accepted, made by
+-- moves of the late store.
 pub record IsLateRun (slots : ℕ) (start : Situation) (commands : List Command) (answers : List Answer) (new : State) : Type 0 where
   pub moves : List Move
   pub changes_are : changes_of moves ≡ trace_of (accepted_commands commands answers)
@@ -97,7 +98,8 @@ module _ (size : Size) where
       → IsLateRun (slot_count size) (after_move start (Carry change)) commands answers new)
       → IsLateRun (slot_count size) start (command ∷ commands) (Moved ∷ answers) new
   carry_on commands answers old mid new start command change meant asks all is fits live from rest =
-      let used : start.fill ≡ start.slots = let a = from.fill_is in let b = from.slots_are in omega arith in
+      let used : start.fill ≡ start.slots = let a = from.fill_is in
+      let b = from.slots_are in omega arith in
       let kept : IsProper (after_move start (Carry change)) = record { held = omega arith; fits = fits } in
       carry_first (slot_count size) start commands answers new command change asks used fits
       (rest (moves_on size old mid start change meant is live from) kept)
@@ -232,7 +234,8 @@ module _ (size : Size) where
   all_put (Write address value ∷ commands) (Full ∷ answers) old new start are is run fits =
       absurd (not_full (slot_count size) old start address are.0.0 is fits.keeps.0 run.1.0)
   all_put (Write address value ∷ commands) (Spent ∷ answers) old new start are is run fits =
-      absurd (let g = fits.generations in let last = run.1.1.last_generation in omega arith)
+      absurd (let g = fits.generations in
+      let last = run.1.1.last_generation in omega arith)
   all_put (Forget address ∷ commands) (Appended ∷ answers) old new start are is run fits =
       let next = after_move start (Append (changes.Forget address)) in
       let live = live_after_forget old.map start.live address is.are_live in
@@ -247,7 +250,8 @@ module _ (size : Size) where
       (fits_after old run.0 start next (Forget address) (changes.Forget address) (meaning.Forget address) commands (λ rest. refl) (omega (arith, ap (λ (s : State). s.generation) run.1.2)) (ap (λ s. s.map) run.1.2) refl refl fits.held.1 fits))
   all_put (Forget address ∷ commands) (Absent ∷ answers) old new start are is run fits = absurd (fits.held.0 run.1.0)
   all_put (Forget address ∷ commands) (Spent ∷ answers) old new start are is run fits =
-      absurd (let g = fits.generations in let last = run.1.1.last_generation in omega arith)
+      absurd (let g = fits.generations in
+      let last = run.1.1.last_generation in omega arith)
   all_put (Read address ∷ commands) (Value value ∷ answers) old new start are is run fits = search (rules, fits_on, stays, (all_put commands answers run.0 new start are.1 (stays size old run.0 start run.1.1 is) run.2 (fits_on old run.0 start (Read address) commands refl (λ h. h) (ap (λ s. s.generation) run.1.1) (ap (λ s. s.map) run.1.1) fits)))
   all_put (Read address ∷ commands) (NoValue ∷ answers) old new start are is run fits = search (rules, fits_on, stays, (all_put commands answers run.0 new start are.1 (stays size old run.0 start run.1.1 is) run.2 (fits_on old run.0 start (Read address) commands refl (λ h. h) (ap (λ s. s.generation) run.1.1) (ap (λ s. s.map) run.1.1) fits)))
   all_put (Clean ∷ commands) (Cleaned ∷ answers) old new start are is run fits =

@@ -10,5 +10,4 @@ mod Arming
 mod Kept
 mod UncutRuns
 mod ScriptWears
-mod LegalAlone
 mod Powering

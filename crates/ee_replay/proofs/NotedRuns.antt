@@ -75,7 +75,8 @@ module _ (size : Size) (start : Situation) (trace : List Change) (n : ℕ) (belo
   note_append free is fill =
       let now = so_far.now in
       let next = after_move now (Append change) in
-      let room : now.fill < now.slots = let a = so_far.is.fill_is in let b = so_far.is.slots_are in omega arith in
+      let room : now.fill < now.slots = let a = so_far.is.fill_is in
+      let b = so_far.is.slots_are in omega arith in
       let more = changed-le now.live change in
       let held = so_far.made.held in
       record {
@@ -91,7 +92,8 @@ module _ (size : Size) (start : Situation) (trace : List Change) (n : ℕ) (belo
   note_move fits used is =
       let now = so_far.now in
       let next = after_move now (Carry change) in
-      let all : now.slots ≤ now.fill = let a = so_far.is.fill_is in let b = so_far.is.slots_are in omega arith in
+      let all : now.slots ≤ now.fill = let a = so_far.is.fill_is in
+      let b = so_far.is.slots_are in omega arith in
       let there = moves_on size old new now change meant is live so_far.is in
       let from : next.fill ≡ new.fill = there.fill_is in
       let made = made_more start trace n (n + 1) change _ record { now = next; from = next.fill; stretches = notes.stretches ++ record { to = n + 1; from = notes.from } ∷ [] }
@@ -106,7 +108,11 @@ module _ (size : Size) (start : Situation) (trace : List Change) (n : ℕ) (belo
 
 -- what is so far is proper
 proper_now : (slots : ℕ) (start : Situation) (trace : List Change) (n : ℕ) (state : State) (notes : Notes) (so_far : AreNoted slots start trace n state notes) → IsProper so_far.now
-proper_now slots start trace n state notes so_far = record { held = so_far.made.held; fits = let a = so_far.made.fits in let b = so_far.made.slots in omega arith }
+proper_now slots start trace n state notes so_far = record {
+  held = so_far.made.held;
+  fits = let a = so_far.made.fits in
+      let b = so_far.made.slots in omega arith;
+}
 
 -- what leaves the map and the slots as they are is not noted
 note_none : (slots : ℕ) (start : Situation) (trace : List Change) (n : ℕ) (old new : State) (notes : Notes) → new.map ≡ old.map → new.fill ≡ old.fill
@@ -288,27 +294,35 @@ cuts_are old new (command ∷ commands) (answer ∷ answers) run =
     let kept = ap (λ (notes : Notes). was || notes.cut) run.1.notes_are ∙ ap (λ (cut : Bool). was || cut) (one_cut answer (state_of run.0.stand.point.device).fill old.notes) in
     cuts_are run.0 new commands answers run.2 ∙ kept ∙ sym (or_assoc was (is_cut_answer answer) old.notes.cut) ∙ ap (λ (cut : Bool). cut || old.notes.cut) (or_comm was (is_cut_answer answer))
 
+-- and from another stand at the same point
+run_from_there : (old from new : Stand) (commands : List Command) (answers : List Answer) → old.point ≡ from.point → Run LineAnswers old commands answers new
+    → (last : Stand) × (last.point ≡ new.point) × Run LineAnswers from commands answers last
+run_from_there old from new [] [] at run = (from, search (at, run), refl)
+run_from_there old from new [] (answer ∷ answers) at run = absurd run
+run_from_there old from new (command ∷ commands) [] at run = absurd run
+run_from_there old from new (command ∷ commands) (answer ∷ answers) at run = (new, refl, (run.0, from_point old from command answer run.0 at run.1, run.2))
+
 -- what serves, as its desk and its notes are seen
 pub is_traced : {S : Type 0} (see : S → Noted) (device : Device) (old new : S) (text lines : List ℕ) → IsAnswered (λ from command answer to. LineIsNoted (see from) command answer (see to)) old text new lines
-    → (see old).stand ≡ stand_on device → (see old).notes ≡ no_notes (state_of device).fill → IsTraced device text (see new).stand.point (see new).notes lines
+    → (see old).stand.point ≡ serving_on device → (see old).notes ≡ no_notes (state_of device).fill → IsTraced device text (see new).stand.point (see new).notes lines
 is_traced see device old new text lines answered still fresh =
     let seen = IsAnswered-seen see LineIsNoted old new text lines answered in
-    let attended = run_attended (see old) (see new) seen.commands seen.answers seen.run in
+    let attended = run_from_there (see old).stand (stand_on device) (see new).stand seen.commands seen.answers still (run_attended (see old) (see new) seen.commands seen.answers seen.run) in
     record {
-      last = (see new).stand;
-      last_is = refl;
+      last = attended.0;
+      last_is = attended.1;
       answered = record {
         commands = seen.commands;
         answers = seen.answers;
         is_script = seen.is_script;
-        run = subst (λ stand. Run LineAnswers stand seen.commands seen.answers (see new).stand) still attended;
+        run = attended.2;
         report_is = seen.report_is;
       };
       transfers = omega (arith, stretches_are (see old) (see new) seen.commands seen.answers 0 seen.run, ap (λ (notes : Notes). length notes.stretches) fresh);
       cut = cuts_are (see old) (see new) seen.commands seen.answers seen.run ∙ ap (λ (notes : Notes). was_cut seen.answers || notes.cut) fresh ∙ or-false (was_cut seen.answers);
       tight = λ plain start is proper.
           noted_tight (record { device = device; notes = (see old).notes }) (held_at (see new)) seen.commands seen.answers start seen.is_script.proper fresh
-          (held_run device (see old) (see new) seen.commands seen.answers plain (ap (λ (stand : Stand). stand.point) still) seen.run) is proper;
+          (held_run device (see old) (see new) seen.commands seen.answers plain still seen.run) is proper;
     }
 
 -- ---- how many changes are counted

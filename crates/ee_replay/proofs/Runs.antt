@@ -86,8 +86,8 @@ line_first command answer calls old mid new unarmed serves run = absurd serves
 
 -- ---- a run
 
--- what a run of calls comes to: the machine goes from state to state, the size stays, and each move leaves the pages of a
--- set to be erased
+-- what a run of calls comes to: the machine goes from state to state, the size stays, and each move
+-- leaves the pages of a set to be erased
 pub record IsMachineRun (old new : Device) (commands : List Command) (answers : List Answer) : Type 0 where
   pub run : Run (MachineStep old.size) (state_of old) commands answers (state_of new)
   pub same_size : new.size ≡ old.size

@@ -6,8 +6,8 @@ use Rattle.ee_script.specs.declared.answer.Answer.{Answer}
 use Rattle.ee_script.specs.declared.command.Command.{Command}
 use Rattle.ee_image_store.specs.Machine.{Desk, DeskStep, is_arming, is_cut_answer}
 
--- A line is answered `cut` only where a cut is to come, as it is, or not, before the first line. None is to come behind a
--- `cut`, and one is behind each line that arms one.
+-- A line is answered `cut` only where a cut is to come, as it is, or not, before the first line.
+-- None is to come behind a `cut`, and one is behind each line that arms one.
 abbrev pub CutsAreArmed : Bool → List Command → List Answer → Type 0
 CutsAreArmed armed (command ∷ commands) (answer ∷ answers) =
     (is_cut_answer answer ≡ true → armed ≡ true) × CutsAreArmed ((armed && not (is_cut_answer answer)) || is_arming command) commands answers

@@ -1,17 +1,12 @@
--- The device of a store of either kind, and what its look-up knows.
+-- What a look-up of either kind knows.
 use Rattle.std.specs.Prelude.{ℕ, List}
-use Rattle.ee_flash.specs.Device.{Device}
 use Rattle.ee_flash.specs.declared.word.Word.{Word}
 use Rattle.ee_pages.specs.Meaning.{Put}
 use Rattle.ee_pages.specs.Sets.{fill_of}
 use Rattle.ee_core.specs.declared.change.Put as listed
 use Rattle.ee_index.specs.Index.{IsIndex, IsReadyFor, IsRoomFor, slot_for}
-use Rattle.ee_replay.specs.declared.either.EitherStore.{EitherStore}
 use Rattle.ee_replay.specs.declared.either_lookup.EitherLookup.{EitherLookup}
 use Rattle.ee_replay.specs.declared.either_lookup.EitherLookup.TheVariants.{Slots, Index}
-
-abbrev pub device_of_either : {A : Type 0} → EitherStore A → Device
-device_of_either either = either.store
 
 -- it finds the values that these slots give
 abbrev pub FitsEither : {A : Type 0} → EitherLookup A → List Word → Type 0

@@ -11,7 +11,7 @@ use Rattle.ee_script.specs.declared.answer.Answer.{Answer}
 use Rattle.ee_script.specs.declared.answer.Answer.TheVariants.{Appended, Moved, Value, NoValue, Cut}
 use Rattle.ee_script.specs.Run.{Run}
 
--- A change that is answered `ok` or `moved` is made; one in which power is cut is made or not; no other is made.
+-- A change answered `ok` or `moved` is made; one in which power is cut is made or not; no other is.
 abbrev pub KeepsChange : Change → Map → Answer → Map → Type 0
 KeepsChange change old Appended new = new ≡ map_after change old
 KeepsChange change old Moved new = new ≡ map_after change old
@@ -45,8 +45,8 @@ command_asks_change_of address (Write named value) = named == address
 command_asks_change_of address (Forget named) = named == address
 command_asks_change_of address command = false
 
--- A change that was answered stays, whatever is cut later, and however often: where no later line asks for a change of its
--- address, the image has it in the end.
+-- A change that was answered stays, whatever is cut later, and however often: where no later line
+-- asks for a change of its address, the image has it in the end.
 abbrev pub AnAnsweredChangeStays : Type 0
 AnAnsweredChangeStays =
     (before later : List Command) (said answers : List Answer) (command : Command) (answer : Answer) (change : Change) (old new : Map)

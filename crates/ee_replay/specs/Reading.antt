@@ -1,5 +1,5 @@
--- A script that a reader gives, and why it can't be replayed. What the reader has left is seen before and after, where it
--- is known.
+-- A script that a reader gives, and why it can't be replayed. What the reader has left is seen
+-- before and after, where it is known.
 use Rattle.std.specs.Prelude.{◌≡◌, ◌⊎◌, Option, List, ℕ}
 use Rattle.std.specs.Io.KnownBytes.{Consumes, IsAtEnd, Keeps}
 use Rattle.ee_flash.specs.Device.{Device}
@@ -18,8 +18,8 @@ pub record IsGiven (before after : Option (List ℕ)) (text : List ℕ) : Type 0
 abbrev pub IsNotAnswered : Option (List ℕ) → Option (List ℕ) → ReplayFault → Type 0
 IsNotAnswered before after fault = (stream : StreamFault) × IsStreamFault before after stream × (fault ≡ of_stream stream)
 
--- Why a script that a reader gives isn't replayed, the first cause that applies: no store is opened, and nothing was read;
--- or one is, and the script isn't answered.
+-- Why a script that a reader gives isn't replayed, the first cause that applies: no store is
+-- opened, and nothing was read; or one is, and the script isn't answered.
 abbrev pub IsReaderFault : Option (List ℕ) → Option (List ℕ) → List ℕ → ReplayFault → Type 0
 IsReaderFault before after old_image fault =
     (IsOpenFault old_image fault × Keeps before after)

@@ -16,15 +16,16 @@ use Rattle.ee_image_store.specs.Trace.{moves}
 use Rattle.ee_replay.specs.Report.{IsDeskReported}
 use Rattle.ee_replay.specs.Serving.{IsMade, IsSound, desk_of}
 
--- The text is that of the device on the desk, which is of this size: its image is legal, and where a store is open it is on,
--- and no mark is left to set.
+-- The text is that of the device on the desk, which is of this size: its image is legal, and where
+-- a store is open it is on, and no mark is left to set.
 pub record IsDeskLeft (size : Size) (text : List ℕ) (point : Point) : Type 0 where
   pub spelled : SpellsDevice text point.device
   pub sound : IsSound point
   pub same_size : point.device.size ≡ size
 
--- From a store that is open with this state, on a device of this size, the script was answered with this report, as the
--- report machine answers it; and the text is that of the device at the end, with what the machine came to.
+-- From a store that is open with this state, on a device of this size, the script was answered with
+-- this report, as the report machine answers it; and the text is that of the device at the end,
+-- with what the machine came to.
 pub record IsScriptRun (size : Size) (start : State) (text new_image reported : List ℕ) : Type 0 where
   pub last : Point
   pub left : IsDeskLeft size new_image last
@@ -35,9 +36,10 @@ pub record IsRunOn (store : Device) (text new_image reported : List ℕ) : Type 
   pub run : IsScriptRun store.size (state_of store) text new_image reported
   pub made : IsMade store run.report.commands run.report.answers run.last
 
--- The script was run on the store that was opened of the device whose image the first text spells, line by line. So the new
--- image is, word for word and erase for erase, what the lines leave. Where none was cut, each move left the pages of a set
--- to be erased, and nothing else did; and no page was erased more often than at every second move, by where it stood.
+-- The script was run on the store that was opened of the device whose image the first text spells,
+-- line by line. So the new image is, word for word and erase for erase, what the lines leave. Where
+-- none was cut, each move left the pages of a set to be erased, and nothing else did; and no page
+-- was erased more often than at every second move, by where it stood.
 pub record IsReplayed (old_image text new_image reported : List ℕ) : Type 0 where
   pub device : Device
   pub old : IsStoreText old_image device
@@ -54,8 +56,9 @@ pub record IsWornBy (size : Size) (pages : ℕ) (last : Device) : Type 0 where
   pub wear : WearRises erased (blank_device size) last
   pub rise : erased + (state_of last).pending ≡ pages
 
--- The script was run on a store with nothing in it, just formatted, on a device of this size of which no page was erased,
--- line by line. Where none was cut, each move left the pages of a set to be erased, and nothing else did.
+-- The script was run on a store with nothing in it, just formatted, on a device of this size of
+-- which no page was erased, line by line. Where none was cut, each move left the pages of a set to
+-- be erased, and nothing else did.
 pub record IsTried (size : Size) (text new_image reported : List ℕ) : Type 0 where
   pub run : IsScriptRun size formatted_state text new_image reported
   pub fresh : Device
@@ -71,6 +74,7 @@ IsRunFault text (Script n) = IsFirstBadCommandLine text n
 IsRunFault text Memory = Unit {0}
 IsRunFault text Read = ⊥
 
--- why a script isn't replayed, the first cause that applies: no store is opened, or one is and the script isn't answered
+-- why a script isn't replayed, the first cause that applies: no store is opened, or one is and the
+-- script isn't answered
 abbrev pub IsReplayFault : List ℕ → List ℕ → ReplayFault → Type 0
 IsReplayFault old_image text fault = IsOpenFault old_image fault ⊎ (((device : Device) × IsStoreText old_image device) × IsRunFault text fault)

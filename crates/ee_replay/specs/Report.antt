@@ -1,4 +1,5 @@
--- The report of a script: its answers, how the store stands at the end, and the certificate that the moves are the fewest.
+-- The report of a script: its answers, how the store stands at the end, and the certificate that
+-- the moves are the fewest.
 use Rattle.std.specs.Prelude.{◌≡◌, ◌-◌, ℕ, Bool, true, false, List, ◌++◌, codes, decimal}
 use Rattle.ee_flash.specs.Size.{Size, slot_count}
 use Rattle.ee_pages.specs.Meaning.{changed_by, live_in}
@@ -27,12 +28,13 @@ end_line slots state transfers =
 abbrev pub report_text : ℕ → List Answer → State → Claim → List ℕ
 report_text slots answers state claim = report answers ++ (end_line slots state (moves answers) ++ text_of claim)
 
--- Power was not cut: from the old state, on a device of this size, these commands got these answers as the report machine
--- gives them, and the new state is what it came to. The moves are the fewest for the changes that were accepted, no store
--- that makes as few has more room at the end, none erases the first pages of its sets less often than so many moves ask,
--- and the report prints the certificate. Every address reads the value last
--- written to it by them, or as before, and has none where it was forgotten since; and where all changes fit, what was
--- accepted is each write and each forgetting of the script, with its address and its value.
+-- Power was not cut: from the old state, on a device of this size, these commands got these answers
+-- as the report machine gives them, and the new state is what it came to. The moves are the fewest
+-- for the changes that were accepted, no store that makes as few has more room at the end, none
+-- erases the first pages of its sets less often than so many moves ask, and the report prints the
+-- certificate. Every address reads the value last written to it by them, or as before, and has none
+-- where it was forgotten since; and where all changes fit, what was accepted is each write and each
+-- forgetting of the script, with its address and its value.
 pub record IsReported (size : Size) (old : State) (commands : List Command) (answers : List Answer) (new : State) (reported : List ℕ) : Type 0 where
   pub start : Situation
   pub claim : Claim
@@ -56,9 +58,10 @@ desk_line slots false state transfers = codes "end off transfers " ++ decimal tr
 abbrev pub cut_report_text : ℕ → List Answer → Desk → List ℕ
 cut_report_text slots answers desk = report answers ++ (desk_line slots desk.serving desk.state (moves answers) ++ codes "no certificate\n")
 
--- From a store that is open with the old state, on a device of this size, the script was answered as the machine's desk
--- answers it, and the new desk is what it came to. Whatever was cut, each change that was answered is kept, and each read is
--- the map at its point. Where no line was answered `cut`, all is said that there is to say of a store whose power stays on;
+-- From a store that is open with the old state, on a device of this size, the script was
+-- answered as the machine's desk answers it, and the new desk is what it came to. Whatever was
+-- cut, each change that was answered is kept, and each read is the map at its point. Where no
+-- line was answered `cut`, all is said that there is to say of a store whose power stays on;
 -- else there is no certificate.
 pub record IsDeskReported (size : Size) (old : State) (text : List ℕ) (new : Desk) (reported : List ℕ) : Type 0 where
   pub commands : List Command

@@ -79,23 +79,24 @@ abbrev pub is_armed : Option ℕ → Bool
 is_armed (Some zero) = false
 is_armed left = true
 
--- An open store makes the call of the command, and none is open once power is cut in it; where none is open, the answer is
--- `off`, and nothing is done.
+-- An open store makes the call of the command, and none is open once power is cut in it; where none
+-- is open, the answer is `off`, and nothing is done.
 abbrev pub CallAnswers : Bool → Device → Command → Answer → Point → Type 0
 CallAnswers true old command Cut new = IsSomeAnd (cut_call_of command) (λ made. Follows made old new.device × (new.serving ≡ false))
 CallAnswers true old command answer new = IsSomeAnd (call_of_command command answer) (λ made. Follows made old new.device × (new.serving ≡ true))
 CallAnswers false old command Off new = new ≡ closed_point old
 CallAnswers false old command answer new = ⊥
 
--- Power comes on. A store that is open stays as it is; where none is, the store of the image is opened, or that is cut.
+-- Power comes on. A store that is open stays as it is; where none is, the store of the image is
+-- opened, or that is cut.
 abbrev pub PowerAnswers : Bool → Device → Answer → Point → Type 0
 PowerAnswers true old Opened new = new ≡ record { serving = true; device = old }
 PowerAnswers false old Opened new = Opens (with_power_on old) new.device × (new.serving ≡ true)
 PowerAnswers false old Cut new = IsCutOpening (with_power_on old) new.device × (new.serving ≡ false)
 PowerAnswers serving old answer new = ⊥
 
--- A line arms its fuse: behind it the device in memory is at hand, and is the one before it with the line's fuse; a store is
--- open on it if one was.
+-- A line arms its fuse: behind it the device in memory is at hand, and is the one before it with
+-- the line's fuse; a store is open on it if one was.
 pub record ArmsItsFuse (old : Point) (fuse : Fuse) (new : Stand) : Type 0 where
   pub before : Memory
   pub before_is : before.device ≡ old.device
@@ -124,10 +125,10 @@ stand_on device = record { point = serving_on device; memory = None }
 abbrev pub is_armed_by : List Command → Bool
 is_armed_by commands = list_any is_arming commands
 
--- What the lines made of a store that is open on a device on which no cut is to come: each made its call, or armed a cut, or
--- turned power on. Where no line was cut, each move left the pages of a set to be erased, and any other answer none, and no
--- page was erased more often than at every second move, by where it stood; and where no cut was armed either, it is a whole
--- run of calls.
+-- What the lines made of a store that is open on a device on which no cut is to come: each made its
+-- call, or armed a cut, or turned power on. Where no line was cut, each move left the pages of a
+-- set to be erased, and any other answer none, and no page was erased more often than at every
+-- second move, by where it stood; and where no cut was armed either, it is a whole run of calls.
 pub record IsMade (old : Device) (commands : List Command) (answers : List Answer) (new : Point) : Type 0 where
   pub last : Stand
   pub last_is : last.point ≡ new
@@ -151,8 +152,9 @@ stored_answer written.Moved = Moved
 
 -- ---- what is noted
 
--- what is noted of the changes that were accepted: how many they are, how many slots were used where the stretch of the
--- certificate that goes on began, the stretches that have ended; and whether power was cut
+-- what is noted of the changes that were accepted: how many they are, how many slots were used
+-- where the stretch of the certificate that goes on began, the stretches that have ended; and
+-- whether power was cut
 pub record Notes : Type 0 where
   pub changes : ℕ
   pub from : ℕ
@@ -163,8 +165,8 @@ pub record Notes : Type 0 where
 abbrev pub no_notes : ℕ → Notes
 no_notes fill = record { changes = 0; from = fill; stretches = []; cut = false }
 
--- A change that is appended is counted. With one that is moved a stretch ends; so many slots are used behind it. A cut is
--- noted.
+-- A change that is appended is counted. With one that is moved a stretch ends; so many slots are
+-- used behind it. A cut is noted.
 abbrev pub notes_after : Answer → ℕ → Notes → Notes
 notes_after Appended fill notes = record notes { changes = notes.changes + 1 }
 notes_after Moved fill notes = record notes {
@@ -198,21 +200,23 @@ pub record LineIsNoted (old : Noted) (command : Command) (answer : Answer) (new 
   pub attends : LineAnswers old.stand command answer new.stand
   pub notes_are : new.notes ≡ notes_after answer (state_of new.stand.point.device).fill old.notes
 
--- The count of the changes stays far below 64 bits: between two moves there are no more of them than slots.
+-- The count of the changes stays far below 64 bits: between two moves there are no more
+-- of them than slots.
 pub record IsCounted (device : Device) (notes : Notes) : Type 0 where
   pub slots : slot_count device.size ≤ 32512
   pub generation : (state_of device).generation ≤ greatest_generation
   pub changes : notes.changes ≤ (state_of device).generation * (slot_count device.size + 1) + (state_of device).fill
 
--- how a desk may be left: its image is legal, and a store that is open is on, with no mark left to set
+-- how a desk may be left: its image is legal, and a store that is open is on, with
+-- no mark left to set
 pub record IsSound (point : Point) : Type 0 where
   pub legal : IsLegal point.device
   pub on : point.serving ≡ true → IsOn point.device
   pub store : point.serving ≡ true → IsStore point.device
 
--- The lines of a script were answered from a store that is open to a point. What was noted is how often it was moved, whether
--- power was cut, and where it was not, the tight certificate of the changes that were accepted, from each start that is the
--- old state's.
+-- The lines of a script were answered from a store that is open to a point. What was noted is how
+-- often it was moved, whether power was cut, and where it was not, the tight certificate of the
+-- changes that were accepted, from each start that is the old state's.
 pub record IsTraced (old : Device) (text : List ℕ) (new : Point) (notes : Notes) (lines : List ℕ) : Type 0 where
   pub last : Stand
   pub last_is : last.point ≡ new
@@ -222,8 +226,8 @@ pub record IsTraced (old : Device) (text : List ℕ) (new : Point) (notes : Note
   pub tight : was_cut answered.answers ≡ false → (start : Situation) → IsStartOf (slot_count old.size) (state_of old) start
       → IsProper start → IsTight start (trace_of (accepted_commands answered.commands answered.answers)) (claim_noted start notes)
 
--- A script was answered from a store that is open to a point, with the whole report of a run from the one's state to the
--- other's.
+-- A script was answered from a store that is open to a point, with the whole report of a run from
+-- the one's state to the other's.
 pub record IsServed (old : Device) (text : List ℕ) (new : Point) (reported : List ℕ) : Type 0 where
   pub report : IsDeskReported old.size (state_of old) text (desk_of new) reported
   pub made : IsMade old report.commands report.answers new

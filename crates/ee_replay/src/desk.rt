@@ -1,254 +1,278 @@
-//! A device on the desk, with a store open on it or without: a cut is armed, and power comes back.
-ghost use Rattle.std.specs.Prelude.{◌≡◌, IfOk, true};
+//! A device on the desk, and what a store of it knows: a cut is armed, and power comes back.
+//! Values are found through the slots or by an index. Where the look-up may change, the desk
+//! makes an index when looking through the slots has cost more than that, and gives it back when
+//! looking would cost less.
+ghost use Rattle.std.specs.Prelude.{◌≡◌, IfErr, IfOk, OnOk};
 ghost use Rattle.ee_flash.specs.Device.{IsOn};
-ghost use Rattle.ee_flash.specs.Memory.{device_of};
-ghost use Rattle.ee_script.specs.declared.answer.Answer.TheVariants.{Opened};
+ghost use Rattle.ee_flash.specs.Memory.{with_fuse};
+ghost use Rattle.ee_flash.specs.Size.{slot_count};
+ghost use Rattle.ee_core.specs.Finished.{IsStore};
 ghost use Rattle.ee_core.specs.Points.{open_point};
 ghost use Rattle.ee_core.specs.Runs.{Cleaned, DidRead, Forgot, Wrote};
 ghost use Rattle.ee_core.specs.State.{state_of};
-ghost use Rattle.ee_replay.specs.Desk.{CallsAtDesk, IsLegalDesk, IsLegalSo, IsWhole, SaysTheSame, point_of_desk, stand_of};
-ghost use Rattle.ee_replay.specs.Either.{device_of_either};
-ghost use Rattle.ee_replay.specs.Serving.{ArmsItsFuse, IsSound, PowerAnswers};
+ghost use Rattle.ee_image_store.specs.Opening.{IsOpenFault, IsOpened};
+ghost use Rattle.ee_plan.specs.Start.{IsStartOf};
+ghost use Rattle.ee_replay.specs.Desk.{CallsAtDesk, SaysTheSame};
+ghost use Rattle.ee_replay.specs.Serving.{PowerAnswers};
 
-use super::either::{Apart, EitherStore, Kind, armed};
+use super::either_lookup::EitherLookup;
+use ee_check::Start;
 use ee_codec::Address;
-use ee_core::{ForgetFault, Off, OpenFault, Store, Variables, WriteFault, Written, open};
-use ee_flash::{Flash, Fuse, MemFlash};
+use ee_core::inner::{Known, clean, open_on, parts_of, store_of};
+use ee_core::{ForgetFault, Lookup, Off, OpenFault, Slots, Store, WriteFault, Written};
+use ee_faults::ReplayFault;
+use ee_flash::{Cut, Flash, Fuse, MemFlash};
+use ee_image_store::open_image;
+use ee_index::inner::{Costs, index_of};
+use ee_plan::start_of;
 use ee_script::Answer;
 use std::alloc::{AllocError, Allocator, Global};
-use std::mem::replace;
+use std::marker::Model;
 
-/// A device, with a store open on it or without.
+/// How the values of a store are found.
+#[derive(Clone, Copy)]
+pub(crate) enum Kind {
+    /// Through the slots.
+    Plain,
+    /// By an index.
+    Indexed,
+    /// Through the slots until an index pays. Where memory for one is refused it goes on without.
+    AsPays,
+}
+
+/// A device, and what a store of it knows. The store is open while the device is on.
 #[derive(Drop)]
-pub(crate) enum Desk<A: Allocator + Copy = Global> {
-    /// A store. It is open as long as its device is on.
-    Open(EitherStore<A>),
-    /// A store, taken apart since its device was armed. It is open.
-    Armed(Apart<A>),
-    /// The device alone.
-    Bare(MemFlash<A>),
-    /// Nothing, while a call has taken what is there.
-    Gone,
+pub(crate) struct Desk<A: Allocator + Copy = Global> {
+    flash: MemFlash<A>,
+    known: Known<EitherLookup<A>>,
+    /// What is counted to tell which look-up pays.
+    costs: Costs,
+}
+
+impl<A: Allocator + Copy> Model for Desk<A> {
+    ghost use Rattle.ee_flash.specs.Memory.{Memory, device_of, memory_of};
+    ghost use Rattle.ee_core.specs.Known.{Knows};
+    ghost use Rattle.ee_replay.specs.Either.{FitsEither};
+
+    ghost Value = { Memory };
+
+    ghost view = { λ desk. memory_of desk.flash };
+
+    ghost invariant = { λ desk. Knows FitsEither (device_of desk.flash) desk.known };
 }
 
 impl<A: Allocator + Copy> Desk<A> {
-    /// Whether a store is open.
-    pub(crate) fn is_open(&self) -> bool
-        ensures { result ≡ (point_of_desk self.now).serving }
+    /// A desk with this store, whose values are found through the slots.
+    pub(crate) fn of(store: Store<MemFlash<A>>) -> Desk<A>
+        ensures { result.device ≡ store }
     {
-        match self {
-            Desk::Open(either) => either.store.is_on(),
-            Desk::Armed(apart) => apart.is_on(),
-            Desk::Bare(_) | Desk::Gone => false,
+        let (flash, known) = parts_of(store);
+        let lookup = EitherLookup::Slots(known.lookup);
+        let known = Known {
+            layout: known.layout,
+            lookup,
+        };
+        Desk {
+            flash,
+            known,
+            costs: Costs::new(),
         }
     }
 
-    /// The device. A store that was open on it is closed.
-    pub(crate) fn into_flash(self) -> MemFlash<A>
-        requires { IsLegalDesk self }
-        ensures device { device_of result ≡ (point_of_desk self).device }
-        ensures sound { IsSound (point_of_desk self) }
+    /// The store of the image that a text spells, whose values are found so.
+    pub(crate) fn open(alloc: A, image: &[u8], kind: Kind) -> Result<Desk<A>, ReplayFault>
+        ensures opened { IfOk result (λ desk. IsOpened image.now desk.device) }
+        ensures fault { IfErr result (IsOpenFault image.now) }
     {
-        match self {
-            Desk::Open(either) => either.store.into_flash(),
-            Desk::Armed(apart) => apart.into_flash(),
-            Desk::Bare(flash) => flash,
-            Desk::Gone => unreachable!("it is there"),
+        let mut desk = Desk::of(open_image(alloc, image)?);
+        if let Kind::Indexed = kind {
+            desk.make_index(alloc)?;
         }
+        desk.settle_to_count(alloc, kind);
+        Ok(desk)
     }
 
-    /// Writes. Where no store is open, the fault is `Off`.
+    /// The same desk, and what its store gives a trace to start from.
+    pub(crate) fn started(self, alloc: A) -> Result<(Desk<A>, Start<A>), AllocError>
+        requires { IsOn self.device }
+        ensures start { IfOk result (λ started.
+            IsStartOf (slot_count self.device.size) (state_of self.device) started.1) }
+        ensures same { IfOk result (λ started. started.0.device ≡ self.device) }
+        ensures store { OnOk result (IsStore self.device) }
+    {
+        let costs = self.costs;
+        let store = self.into_store();
+        let start = start_of(alloc, &store)?;
+        let (flash, known) = parts_of(store);
+        let desk = Desk {
+            flash,
+            known,
+            costs,
+        };
+        Ok((desk, start))
+    }
+
+    /// The store.
+    pub(crate) fn into_store(self) -> Store<MemFlash<A>, EitherLookup<A>>
+        ensures { result ≡ self.device }
+    {
+        store_of(self.flash, self.known)
+    }
+
+    /// Writes.
+    #[inline(always)]
     pub(crate) fn write(&mut self, address: Address, value: u32) -> Result<Written, WriteFault>
-        ensures calls { let old = point_of_desk self.old in CallsAtDesk old.serving old.device
-            (Wrote address value result) (point_of_desk self.new) }
-        ensures legal { IsLegalSo self.old → IsLegalSo self.new }
-        ensures whole { IsWhole self.new }
+        ensures { let old = self.old.device in CallsAtDesk old.on old
+            (Wrote address value result) (open_point self.new.device) }
     {
-        self.make_whole();
-        match self {
-            Desk::Open(either) => either.store.write(address, value),
-            Desk::Armed(_) => unreachable!("it is whole"),
-            Desk::Bare(_) | Desk::Gone => Err(WriteFault::Off),
-        }
+        self.known.write(&mut self.flash, address, value)
     }
 
-    /// Forgets. Where no store is open, the fault is `Off`.
+    /// Forgets.
     pub(crate) fn forget(&mut self, address: Address) -> Result<Written, ForgetFault>
-        ensures calls { let old = point_of_desk self.old in CallsAtDesk old.serving old.device
-            (Forgot address result) (point_of_desk self.new) }
-        ensures legal { IsLegalSo self.old → IsLegalSo self.new }
-        ensures whole { IsWhole self.new }
+        ensures { let old = self.old.device in CallsAtDesk old.on old
+            (Forgot address result) (open_point self.new.device) }
     {
-        self.make_whole();
-        match self {
-            Desk::Open(either) => either.store.forget(address),
-            Desk::Armed(_) => unreachable!("it is whole"),
-            Desk::Bare(_) | Desk::Gone => Err(ForgetFault::Off),
-        }
+        self.known.forget(&mut self.flash, address)
     }
 
-    /// Takes a clean step. Where no store is open, the fault is `Off`.
+    /// Takes a clean step.
     pub(crate) fn clean_step(&mut self) -> Result<bool, WriteFault>
-        ensures calls { let old = point_of_desk self.old in CallsAtDesk old.serving old.device
-            (Cleaned result) (point_of_desk self.new) }
-        ensures legal { IsLegalSo self.old → IsLegalSo self.new }
+        ensures { let old = self.old.device in CallsAtDesk old.on old
+            (Cleaned result) (open_point self.new.device) }
     {
-        self.make_whole();
-        match self {
-            Desk::Open(either) => either.store.clean_step(),
-            Desk::Armed(_) => unreachable!("it is whole"),
-            Desk::Bare(_) | Desk::Gone => Err(WriteFault::Off),
-        }
+        self.known.clean_step(&mut self.flash)
     }
 
     /// Reads.
-    pub(crate) fn read(&mut self, address: Address) -> Result<Option<u32>, Off>
-        ensures calls { let old = point_of_desk self.old in CallsAtDesk old.serving old.device
-            (DidRead address result) (point_of_desk self.new) }
-        ensures legal { IsLegalSo self.old → IsLegalSo self.new }
-        ensures same { point_of_desk self.new ≡ point_of_desk self.old }
+    pub(crate) fn read(&self, address: Address) -> Result<Option<u32>, Off>
+        ensures { let old = self.now.device in CallsAtDesk old.on old
+            (DidRead address result) (open_point old) }
     {
-        self.make_whole();
-        match self {
-            Desk::Open(either) => either.store.read(address),
-            Desk::Armed(_) => unreachable!("it is whole"),
-            Desk::Bare(_) | Desk::Gone => Err(Off),
-        }
+        self.known.read(&self.flash, address)
     }
 
     /// How many slots are used.
     pub(crate) fn fill(&self) -> usize
-        requires serving { (point_of_desk self.now).serving ≡ true }
-        requires whole { IsWhole self.now }
-        ensures { result ≡ (state_of (point_of_desk self.now).device).fill }
+        requires { IsOn self.now.device }
+        ensures { result ≡ (state_of self.now.device).fill }
     {
-        match self {
-            Desk::Open(either) => either.store.fill(),
-            Desk::Armed(_) | Desk::Bare(_) | Desk::Gone => unreachable!("a whole store is open"),
+        self.known.layout.fill
+    }
+
+    /// Arms a cut.
+    pub(crate) fn arm(&mut self, fuse: Fuse)
+        ensures { self.new ≡ with_fuse fuse self.old }
+    {
+        self.flash.arm(fuse)
+    }
+
+    /// Turns power on and opens the store, whose values are found so, which changes nothing where
+    /// one is open. An error says that memory ran out.
+    pub(crate) fn power_on(&mut self, alloc: A, kind: Kind) -> Result<Answer, AllocError>
+        ensures powers { let old = self.old.device in IfOk result
+            (λ answer. PowerAnswers old.on old answer (open_point self.new.device)) }
+        ensures same { SaysTheSame self.old.device self.new.device }
+    {
+        if self.flash.is_on() {
+            return Ok(Answer::Opened);
+        }
+        self.flash.power_on();
+        match open_on(&mut self.flash) {
+            Ok(layout) => {
+                let lookup = EitherLookup::Slots(Slots);
+                self.known = Known { layout, lookup };
+                self.costs = Costs::new();
+                if let Kind::Indexed = kind {
+                    self.make_index(alloc)?;
+                }
+                Ok(Answer::Opened)
+            }
+            Err(OpenFault::Cut) => Ok(Answer::Cut),
+            Err(OpenFault::Scan(_)) => unreachable!("its image is legal"),
         }
     }
 
-    /// The store that is open.
-    fn into_open(self) -> EitherStore<A>
-        requires { (point_of_desk self).serving ≡ true }
-        ensures { open_point (device_of_either result) ≡ point_of_desk self }
-    {
-        match self {
-            Desk::Open(either) => either,
-            Desk::Armed(apart) => apart.whole(),
-            Desk::Bare(_) | Desk::Gone => unreachable!("a store is open"),
-        }
-    }
-
-    /// Arms a cut. A store that is open stays so, with all that it keeps in memory.
-    pub(crate) fn arm(self, fuse: Fuse) -> Desk<A>
-        requires { IsLegalDesk self }
-        // The device in memory is at hand until the next call, and its fuse is this one.
-        ensures arms { ArmsItsFuse (point_of_desk self) fuse (stand_of result) }
-        ensures legal { IsLegalDesk result }
-        ensures same { SaysTheSame (point_of_desk self).device (point_of_desk result).device }
-    {
-        if !self.is_open() {
-            return Desk::Bare(armed(self.into_flash(), fuse));
-        }
-        Desk::Armed(Apart::of(self.into_open()).armed(fuse))
-    }
-
-    /// Puts a store together that was taken apart.
+    /// Takes note of what a line took, and says whether the look-up is to be settled now.
+    // One for each line of a script, and most lines are appended or read.
     #[inline(always)]
-    fn make_whole(&mut self)
-        ensures whole { IsWhole self.new }
-        ensures point { point_of_desk self.new ≡ point_of_desk self.old }
-        ensures legal { IsLegalSo self.old → IsLegalSo self.new }
+    pub(crate) fn weigh_line(&mut self, answer: Answer) -> bool
+        ensures { self.new ≡ self.old }
     {
-        if let Desk::Armed(_) = self {
-            let desk = replace(self, Desk::Gone);
-            *self = desk.whole();
+        match answer {
+            Answer::Appended => self.costs.note_append(),
+            Answer::Value(_) => self.costs.note_read(),
+            Answer::NoValue | Answer::Absent | Answer::Moved => self.note_looks(answer),
+            _ => false,
         }
     }
 
-    /// The same desk. A store on it that was taken apart is put together.
+    /// Takes note of what a line costs for which all slots are looked at. Says whether the other
+    /// look-up may pay now.
     #[inline(never)]
-    fn whole(self) -> Desk<A>
-        ensures whole { IsWhole result }
-        ensures point { point_of_desk result ≡ point_of_desk self }
-        ensures legal { IsLegalSo self → IsLegalSo result }
+    fn note_looks(&mut self, answer: Answer) -> bool
+        ensures { self.new ≡ self.old }
     {
-        match self {
-            Desk::Armed(apart) => Desk::Open(apart.whole()),
-            desk => desk,
+        let fill = self.known.layout.fill;
+        if answer == Answer::Moved {
+            self.costs.note_move(fill, self.flash.shape().slots());
+        } else {
+            self.costs.note_absent(fill);
+        }
+        self.costs.is_time_to_change(fill)
+    }
+
+    /// Goes on with the look-up that pays behind a line about this address.
+    #[inline(never)]
+    pub(crate) fn settle(&mut self, alloc: A, address: Address)
+        ensures { self.new ≡ self.old }
+    {
+        let Known { layout, lookup } = &self.known;
+        if self.costs.measures_now() {
+            let looks = lookup.look_count(&self.flash, layout, address);
+            self.costs.measure_read(looks, lookup.count(layout));
+        }
+        if !self.flash.is_on() || !self.costs.is_time_to_change(layout.fill) {
+            return;
+        }
+        if let EitherLookup::Slots(_) = lookup {
+            let _ = self.make_index(alloc);
+            return;
+        }
+        self.known.lookup = EitherLookup::Slots(Slots);
+        self.costs = self.costs.without_index();
+    }
+
+    /// Goes on with the look-up by which a store that is open, and whose look-up may
+    /// change, is counted sooner.
+    pub(crate) fn settle_to_count(&mut self, alloc: A, kind: Kind)
+        ensures { self.new ≡ self.old }
+    {
+        let slots = self.flash.shape().slots();
+        let Known { layout, lookup } = &self.known;
+        if matches!(kind, Kind::AsPays)
+            && self.flash.is_on()
+            && lookup.pays_to_count(alloc, &self.flash, layout, &self.costs, slots)
+        {
+            let _ = self.make_index(alloc);
         }
     }
 
-    /// Takes note of what a line took, and says whether the store is to be settled now.
-    #[inline(always)]
-    pub(crate) fn note(&mut self, answer: Answer) -> bool
-        ensures point { point_of_desk self.new ≡ point_of_desk self.old }
-        ensures legal { IsLegalSo self.old → IsLegalSo self.new }
+    /// Goes on with an index. An error says that memory is refused: costs are counted anew then.
+    fn make_index(&mut self, alloc: A) -> Result<(), AllocError>
+        requires { IsOn self.old.device }
+        ensures { self.new ≡ self.old }
     {
-        match self {
-            Desk::Open(either) => either.note(answer),
-            Desk::Armed(_) | Desk::Bare(_) | Desk::Gone => false,
-        }
-    }
-
-    /// A store that is open, in the kind that pays behind a line about this address.
-    pub(crate) fn settled(self, alloc: A, address: Address) -> Desk<A>
-        requires { IsLegalDesk self }
-        ensures point { point_of_desk result ≡ point_of_desk self }
-        ensures legal { IsLegalDesk result }
-    {
-        if !self.is_open() {
-            return self;
-        }
-        Desk::Open(self.into_open().settled(alloc, address))
-    }
-
-    /// A store that is open, and whose kind may change, in the kind that counts its variables sooner. One that was
-    /// taken apart is put together.
-    pub(crate) fn settled_to_count(self, alloc: A, kind: Kind) -> Desk<A>
-        requires { IsLegalDesk self }
-        ensures point { point_of_desk result ≡ point_of_desk self }
-        ensures legal { IsLegalDesk result }
-        ensures whole { IsWhole result }
-    {
-        if !self.is_open() || !matches!(kind, Kind::AsPays) {
-            return self.whole();
-        }
-        Desk::Open(self.into_open().settled_to_count(alloc))
-    }
-
-    /// Turns power on and opens the store, of this kind, which changes nothing where one is open. An error
-    /// says that memory ran out.
-    pub(crate) fn power_on(self, alloc: A, kind: Kind) -> (Desk<A>, Result<Answer, AllocError>)
-        requires { IsLegalDesk self }
-        ensures powers { let old = point_of_desk self in IfOk result.1
-            (λ answer. PowerAnswers old.serving old.device answer (point_of_desk result.0)) }
-        ensures legal { IsLegalDesk result.0 }
-        ensures same { SaysTheSame (point_of_desk self).device (point_of_desk result.0).device }
-    {
-        if self.is_open() {
-            return (self, Ok(Answer::Opened));
-        }
-        let mut flash = self.into_flash();
-        flash.power_on();
-        match open(flash) {
-            Ok(store) => Desk::of(alloc, store, kind),
-            Err((flash, OpenFault::Cut)) => (Desk::Bare(flash), Ok(Answer::Cut)),
-            Err((_, OpenFault::Scan(_))) => unreachable!("its image is legal"),
-        }
-    }
-
-    /// A desk with this store, of this kind, on it. An error says that memory for its index ran out.
-    fn of(alloc: A, store: Store<MemFlash<A>>, kind: Kind) -> (Desk<A>, Result<Answer, AllocError>)
-        requires { IsOn store }
-        ensures opened { IfOk result.1 (λ answer. (answer ≡ Opened) × (point_of_desk result.0 ≡ open_point store)) }
-        ensures legal { IsLegalDesk result.0 }
-        ensures device { (point_of_desk result.0).device ≡ store }
-    {
-        match EitherStore::of(alloc, store, kind) {
-            Ok(either) => (Desk::Open(either), Ok(Answer::Opened)),
-            Err(store) => (Desk::Bare(store.into_flash()), Err(AllocError)),
+        match index_of(alloc, &self.flash, &self.known.layout) {
+            Ok(index) => {
+                self.known.lookup = EitherLookup::Index(index);
+                self.costs = self.costs.with_index(self.known.layout.fill);
+                Ok(())
+            }
+            Err(error) => {
+                self.costs = Costs::new();
+                Err(error)
+            }
         }
     }
 }

@@ -10,8 +10,8 @@ use ee_script::Answer;
 use std::alloc::{AllocError, Allocator, Global};
 use std::marker::Model;
 
-/// What is noted of the changes that a store accepted, and whether power was cut. It takes memory for
-/// each move, and none for anything else.
+/// What is noted of the changes that a store accepted, and whether power was cut. It takes memory
+/// for each move, and none for anything else.
 #[derive(Drop)]
 pub(crate) struct Notes<A: Allocator = Global> {
     /// How many changes were accepted.
@@ -50,8 +50,9 @@ impl<A: Allocator> Notes<A> {
         }
     }
 
-    /// Notes how a change was stored, behind which so many slots are used, and gives the answer to it.
-    pub(crate) fn note(&mut self, written: Written, fill: u64) -> Result<Answer, AllocError>
+    /// Notes how a change was stored, behind which so many slots are used, and gives the answer to
+    /// it.
+    pub(crate) fn count_change(&mut self, written: Written, fill: u64) -> Result<Answer, AllocError>
         requires { self.old.changes + 1 < 2 ^ 64 }
         ensures answer { IfOk result (λ answer. answer ≡ stored_answer written) }
         ensures noted { OnOk result (self.new ≡ notes_after (stored_answer written) fill self.old) }

@@ -1,20 +1,20 @@
-//! The calls that answer a script on an image: a store is opened, serves the script, and is left as a text.
+//! The calls that answer a script on an image: a store is opened, serves the script,
+//! and is left as a text.
 ghost use Rattle.std.specs.Prelude.{◌≡◌, ◌⊎◌, ℕ, List, IfOk, IfErr, MatchResult, Some};
 ghost use Rattle.ee_flash.specs.Device.{Device};
 ghost use Rattle.ee_flash.specs.Size.{slot_count};
 ghost use Rattle.ee_check.specs.Schedule.{IsProper};
+ghost use Rattle.ee_core.specs.Points.{open_point};
 ghost use Rattle.ee_core.specs.State.{state_of};
 ghost use Rattle.ee_plan.specs.Start.{IsStartOf};
 ghost use Rattle.ee_script.specs.Script.{IsFirstBadCommandLine};
-ghost use Rattle.ee_replay.specs.Desk.{point_of_desk};
-ghost use Rattle.ee_replay.specs.Either.{device_of_either};
 ghost use Rattle.ee_replay.specs.Serving.{IsTraced};
 ghost use Rattle.ee_replay.specs.Replaying.{IsReplayFault, IsReplayed, IsRunFault, IsRunOn, IsTried};
 ghost use Rattle.ee_replay.specs.Reading.{IsGiven, IsNotAnswered, IsReaderFault};
 ghost use Rattle.ee_image_store.specs.Opening.{HasStore, IsOpenFault, StaysOn};
 ghost use Rattle.ee_faults.specs.Causes.{NamesEach};
 
-use super::either::{EitherStore, Kind, open_as};
+use super::desk::{Desk, Kind};
 use super::reporting::report_on;
 use super::serving::Server;
 use ee_check::Start;
@@ -22,7 +22,6 @@ use ee_command_line::MOST_READS;
 use ee_faults::ReplayFault;
 use ee_flash::{MemFlash, Shape};
 use ee_image_store::{new_store, text_of};
-use ee_plan::start_of;
 use ee_script::{answer_reader, answer_script};
 use std::alloc::{Allocator, Global};
 use std::io::Read;
@@ -34,13 +33,14 @@ use std::io::Read;
 pub struct Replayed<A: Allocator = Global> {
     /// The text of the image afterwards.
     pub image: Vec<u8, A>,
-    /// One line for each line of the script, the line of the end, and the text of the certificate that
-    /// no store makes the accepted changes with fewer moves, or that there is none, after a cut.
+    /// One line for each line of the script, the line of the end, and the text of the
+    /// certificate that no store makes the accepted changes with fewer moves, or that there
+    /// is none, after a cut.
     pub report: Vec<u8, A>,
 }
 
-/// Answers a script on the store whose image a text spells, and gives the image that this leaves and
-/// the report. Marks that a cut left to set are set.
+/// Answers a script on the store whose image a text spells, and gives the image that this leaves
+/// and the report. Marks that a cut left to set are set.
 ///
 /// Source: ours.
 ///
@@ -99,20 +99,22 @@ fn replay_as<A: Allocator + Copy>(
     // No cause is passed over.
     ensures names { NamesEach ReplayFault.Memory (IsReplayFault image.now script.now) result }
 {
-    let store = open_as(alloc, image, kind)?;
-    run_on(alloc, store, kind, script)
+    let desk = Desk::open(alloc, image, kind)?;
+    run_on(alloc, desk, kind, script)
 }
 
-/// `replay` of a script that a reader gives in pieces. The image is opened before the first read; what
-/// one read call gives is judged before the next; no more than `MOST_READS` read calls are made, tries
-/// after an interruption among them. Of the script no more is kept than one unfinished line.
+/// `replay` of a script that a reader gives in pieces. The image is opened before the first
+/// read; what one read call gives is judged before the next; no more than `MOST_READS` read
+/// calls are made, tries after an interruption among them. Of the script no more is kept than
+/// one unfinished line.
 ///
 /// Source: ours.
 ///
 /// # Errors
 ///
-/// The first `ReplayFault` that applies, and of those of the script the one that is met first: `Read` where a read
-/// failed or there were too many, with no bad line judged before. `Memory` can come in place of any answer.
+/// The first `ReplayFault` that applies, and of those of the script the one that is met first:
+/// `Read` where a read failed or there were too many, with no bad line judged before. `Memory` can
+/// come in place of any answer.
 pub fn replay_reader<A: Allocator + Copy, R: Read>(
     alloc: A,
     image: &[u8],
@@ -131,12 +133,12 @@ pub fn replay_reader<A: Allocator + Copy, R: Read>(
         (λ fault. (fault ≡ ReplayFault.Script n) ⊎ (fault ≡ ReplayFault.Memory)
         ⊎ (fault ≡ ReplayFault.Read)) }
 {
-    let store = open_as(alloc, image, Kind::Plain)?;
-    run_reader(alloc, store, reader)
+    let desk = Desk::open(alloc, image, Kind::Plain)?;
+    run_reader(alloc, desk, reader)
 }
 
-/// Answers a script on a new device of this shape, which is formatted first, and gives the image that
-/// this leaves and the report.
+/// Answers a script on a new device of this shape, which is formatted first, and gives the image
+/// that this leaves and the report.
 ///
 /// Source: ours.
 ///
@@ -157,23 +159,23 @@ pub fn try_script<A: Allocator + Copy>(
         (λ fault. (fault ≡ ReplayFault.Script n) ⊎ (fault ≡ ReplayFault.Memory)) }
 {
     let new = new_store(alloc, shape)?;
-    run_on(alloc, EitherStore::new(new), Kind::Plain, script)
+    run_on(alloc, Desk::of(new), Kind::Plain, script)
 }
 
-/// Answers a script on a store of this kind, and gives the image that this leaves and the report.
+/// Answers a script at a desk, and gives the image that this leaves and the report.
 fn run_on<A: Allocator + Copy>(
     alloc: A,
-    either: EitherStore<A>,
+    desk: Desk<A>,
     kind: Kind,
     script: &[u8],
 ) -> Result<Replayed<A>, ReplayFault>
-    requires { StaysOn (device_of_either either) }
+    requires { StaysOn desk.device }
     ensures run { IfOk result (λ replayed.
-        IsRunOn (device_of_either either) script.now replayed.image.items replayed.report.items) }
+        IsRunOn desk.device script.now replayed.image.items replayed.report.items) }
     ensures fault { IfErr result (IsRunFault script.now) }
 {
-    let start = start_of(alloc, &either.store)?;
-    let server = Server::new(alloc, either, kind);
+    let (desk, start) = desk.started(alloc)?;
+    let server = Server::new(alloc, desk, kind);
     let (server, lines) = answer_script(alloc, server, script)?;
     left_by(alloc, server, &start, lines)
 }
@@ -181,24 +183,24 @@ fn run_on<A: Allocator + Copy>(
 /// The same of a script that a reader gives.
 fn run_reader<A: Allocator + Copy, R: Read>(
     alloc: A,
-    either: EitherStore<A>,
+    desk: Desk<A>,
     reader: &mut R,
 ) -> Result<Replayed<A>, ReplayFault>
-    requires { StaysOn (device_of_either either) }
+    requires { StaysOn desk.device }
     ensures run { IfOk result (λ replayed. (script : List ℕ)
         × IsGiven (R.remaining reader.old) (R.remaining reader.new) script
-        × IsRunOn (device_of_either either) script replayed.image.items replayed.report.items) }
+        × IsRunOn desk.device script replayed.image.items replayed.report.items) }
     ensures fault { IfErr result
         (IsNotAnswered (R.remaining reader.old) (R.remaining reader.new)) }
 {
-    let start = start_of(alloc, &either.store)?;
-    let server = Server::new(alloc, either, Kind::Plain);
+    let (desk, start) = desk.started(alloc)?;
+    let server = Server::new(alloc, desk, Kind::Plain);
     let (server, lines) = answer_reader(alloc, server, reader, MOST_READS)?;
     left_by(alloc, server, &start, lines)
 }
 
-/// The image and the report that a script leaves: `start` is what its trace began from, `lines` are those of
-/// its answers.
+/// The image and the report that a script leaves: `start` is what its trace began from, `lines` are
+/// those of its answers.
 fn left_by<A: Allocator + Copy>(
     alloc: A,
     server: Server<A>,
@@ -206,7 +208,7 @@ fn left_by<A: Allocator + Copy>(
     lines: Vec<u8, A>,
 ) -> Result<Replayed<A>, ReplayFault>
     ensures run { IfOk result (λ replayed. (old : Device) (script : List ℕ)
-        → IsTraced old script (point_of_desk server.desk) server.notes lines.items
+        → IsTraced old script (open_point server.desk.device) server.notes lines.items
         → IsStartOf (slot_count old.size) (state_of old) start.now → IsProper start.now
         → StaysOn old
         → IsRunOn old script replayed.image.items replayed.report.items) }
@@ -218,8 +220,10 @@ fn left_by<A: Allocator + Copy>(
         kind,
         ..
     } = server;
-    let desk = desk.settled_to_count(alloc, kind);
-    let report = report_on(start, notes, &desk, lines)?;
-    let image = text_of(alloc, &desk.into_flash())?;
+    let mut desk = desk;
+    desk.settle_to_count(alloc, kind);
+    let store = desk.into_store();
+    let report = report_on(start, notes, &store, lines)?;
+    let image = text_of(alloc, store.flash())?;
     Ok(Replayed { image, report })
 }

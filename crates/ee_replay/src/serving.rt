@@ -2,51 +2,49 @@
 ghost use Rattle.std.specs.Prelude.{◌≡◌, IfOk};
 ghost use Rattle.ee_script.specs.declared.command.Command.TheVariants.{Write, Read, Forget, Clean, Arm, PowerOn};
 ghost use Rattle.ee_core.specs.Finished.{IsStore};
+ghost use Rattle.ee_core.specs.Points.{open_point};
 ghost use Rattle.ee_core.specs.State.{state_of};
-ghost use Rattle.ee_replay.specs.Desk.{IsLegalSo, point_of_desk, stand_of};
-ghost use Rattle.ee_replay.specs.Either.{device_of_either};
-ghost use Rattle.ee_replay.specs.Serving.{IsCounted, no_notes, stand_on};
+ghost use Rattle.ee_replay.specs.Desk.{stand_of};
+ghost use Rattle.ee_replay.specs.Serving.{IsCounted, no_notes, serving_on};
 ghost use Rattle.ee_image_store.specs.Opening.{StaysOn};
 
-use super::desk::Desk;
-use super::either::{EitherStore, Kind};
+use super::desk::{Desk, Kind};
 use super::noting::Notes;
 use ee_codec::Address;
-use ee_core::{ForgetFault, Off, Variables, WriteFault};
-use ee_flash::{Fuse, MemFlash};
+use ee_core::{ForgetFault, Off, WriteFault};
+use ee_flash::Fuse;
 use ee_script::{Answer, Command, Serve};
 use std::alloc::{AllocError, Allocator, Global};
-use std::mem::replace;
 
 /// A desk, and what is noted of the changes that the store on it accepted.
 #[derive(Drop)]
 pub(crate) struct Server<A: Allocator + Copy = Global> {
     alloc: A,
-    /// In which kind a store is opened when power comes back.
+    /// How the values of a store are found.
     pub(crate) kind: Kind,
-    /// The device, with a store open on it or without.
+    /// The device, and what a store of it knows.
     pub(crate) desk: Desk<A>,
-    /// How many changes were accepted, the stretches of their certificate, and whether power was cut.
+    /// How many changes were accepted, the stretches of their certificate, and
+    /// whether power was cut.
     pub(crate) notes: Notes<A>,
-    ghost legal: { IsLegalSo desk },
-    ghost counted: { IsCounted (point_of_desk desk).device notes },
+    ghost counted: { IsCounted desk.device notes },
 }
 
 impl<A: Allocator + Copy> Server<A> {
     ghost use Rattle.ee_replay.specs.Serving.{LineIsNoted, with_notes};
 
-    /// What serves with this store, of this kind, before the first command.
-    pub(crate) fn new(alloc: A, either: EitherStore<A>, kind: Kind) -> Server<A>
-        requires on { StaysOn (device_of_either either) }
-        requires legal { IsStore (device_of_either either) }
-        ensures stand { stand_of result.desk ≡ stand_on (device_of_either either) }
-        ensures notes { result.notes ≡ no_notes (state_of (device_of_either either)).fill }
+    /// What serves at this desk before the first command. Values are found so.
+    pub(crate) fn new(alloc: A, desk: Desk<A>, kind: Kind) -> Server<A>
+        requires on { StaysOn desk.device }
+        requires legal { IsStore desk.device }
+        ensures point { open_point result.desk.device ≡ serving_on desk.device }
+        ensures notes { result.notes ≡ no_notes (state_of desk.device).fill }
     {
-        let notes = Notes::new(alloc, either.store.fill() as u64);
+        let notes = Notes::new(alloc, desk.fill() as u64);
         Server {
             alloc,
             kind,
-            desk: Desk::Open(either),
+            desk,
             notes,
         }
     }
@@ -60,7 +58,7 @@ impl<A: Allocator + Copy> Server<A> {
         match self.desk.write(address, value) {
             Ok(written) => {
                 let fill = self.desk.fill();
-                self.notes.note(written, fill as u64)
+                self.notes.count_change(written, fill as u64)
             }
             Err(WriteFault::Full) => Ok(Answer::Full),
             Err(WriteFault::Spent) => Ok(Answer::Spent),
@@ -79,7 +77,7 @@ impl<A: Allocator + Copy> Server<A> {
         match self.desk.forget(address) {
             Ok(written) => {
                 let fill = self.desk.fill();
-                self.notes.note(written, fill as u64)
+                self.notes.count_change(written, fill as u64)
             }
             Err(ForgetFault::Absent) => Ok(Answer::Absent),
             Err(ForgetFault::Spent) => Ok(Answer::Spent),
@@ -122,8 +120,7 @@ impl<A: Allocator + Copy> Server<A> {
             (with_notes (stand_of self.old.desk) self.old.notes) (Arm fuse)
             result (with_notes (stand_of self.new.desk) self.new.notes) }
     {
-        let desk = replace(&mut self.desk, Desk::Gone);
-        self.desk = desk.arm(fuse);
+        self.desk.arm(fuse);
         Answer::Armed
     }
 
@@ -133,34 +130,21 @@ impl<A: Allocator + Copy> Server<A> {
             (with_notes (stand_of self.old.desk) self.old.notes) PowerOn
             answer (with_notes (stand_of self.new.desk) self.new.notes)) }
     {
-        let desk = replace(&mut self.desk, Desk::Gone);
-        let (desk, answer) = desk.power_on(self.alloc, self.kind);
-        self.desk = desk;
-        match answer {
+        match self.desk.power_on(self.alloc, self.kind) {
             Ok(Answer::Cut) => Ok(self.notes.note_cut()),
             answer => answer,
         }
     }
 
-    /// Takes note of what a line about this address took, and goes on with the kind of store that pays.
+    /// Takes note of what a line about this address took, and goes on with the look-up that pays.
     #[inline(always)]
     fn settle(&mut self, address: Address, answer: Answer)
-        ensures point { point_of_desk self.new.desk ≡ point_of_desk self.old.desk }
+        ensures desk { self.new.desk ≡ self.old.desk }
         ensures notes { self.new.notes ≡ self.old.notes }
     {
-        if matches!(self.kind, Kind::AsPays) && self.desk.note(answer) {
-            self.change_kind(address);
+        if matches!(self.kind, Kind::AsPays) && self.desk.weigh_line(answer) {
+            self.desk.settle(self.alloc, address);
         }
-    }
-
-    /// Goes on with the kind of store that pays behind a line about this address.
-    #[inline(never)]
-    fn change_kind(&mut self, address: Address)
-        ensures point { point_of_desk self.new.desk ≡ point_of_desk self.old.desk }
-        ensures notes { self.new.notes ≡ self.old.notes }
-    {
-        let desk = replace(&mut self.desk, Desk::Gone);
-        self.desk = desk.settled(self.alloc, address);
     }
 }
 
