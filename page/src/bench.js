@@ -9,6 +9,7 @@
  * @property {number} taken how many steps began
  * @property {Tear | null} tear what the last of them left, if it was cut
  * @property {string} answer what is answered once all are taken
+ * @property {string} note what that means in a few words, of a call that no script has
  */
 /** @typedef {{to: number, from: number, number: number, before: StretchLine | null}} StretchLine a move, and those before it:
  *  the number of its change, the fill behind the move before it, and its own number */
@@ -33,18 +34,39 @@
  * @property {Call | null} call the last call
  * @property {Trace | null} trace
  */
-/** @typedef {{what: string, told: string, lines: string[][], delta: Delta | null, desk: Desk}} Entry
- *  what was done, what is told of it as an answer, the script lines that it answered with their answers, and what it left */
+/** @typedef {{what: string, told: string, note: string, lines: string[][], delta: Delta | null, desk: Desk}} Entry
+ *  what was done, what is told of it as an answer and what that means, the script lines that it answered with their
+ *  answers, and what it left */
 
 /** @type {Record<string, string>} */
-const CALLS = { w: "write", both: "write_both", f: "forget", c: "clean", p: "open", open: "open", format: "format" };
+const CALLS = { w: "write", both: "write_both", f: "forget", c: "clean", p: "open", open: "open", anew: "open", format: "format", clear: "clear" };
+const SCRIPTED = ["w", "f", "r", "c", "x", "p"];
 const ANSWERS = ["ok", "moved", "idle", "full", "spent", "absent"];
 /** @type {Record<string, string>} */
-const WHOLE_ANSWERS = { c: "clean", p: "open", open: "open", format: "formatted" };
+const WHOLE_ANSWERS = { c: "clean", p: "open", open: "open", anew: "open", format: "formatted" };
 
 /** What is told of the commands that no script has, once all their steps are taken.
  *  @type {Record<string, string>} */
-const OWN_ANSWERS = { format: "the part is formatted, with no values", open: "the image is loaded, its store is open" };
+const OWN_ANSWERS = {
+  format: "the part is formatted, with no values",
+  open: "the image is loaded, its store is open",
+  anew: "the store opens still, with the word as it is",
+};
+/** What the answers of a clear mean.
+ *  @type {Record<string, string>} */
+const CLEARED = {
+  moved: "Done: no address has a value. The set that was live waits to be erased.",
+  nothing: "No slot is used, so nothing was done.",
+  spent: "Refused: a slot is used, and this generation is the last.",
+};
+/** Why there is no rescue, by the words of `ee`, and what that means.
+ *  @type {Record<number, [string, string]>} */
+const NOT_RESCUED = {
+  [STATUS.NOTHING_BEGUN]: ["nothing to rescue", "Refused: in both sets the mark that commits it is erased."],
+  [STATUS.SPENT]: ["spent", "Refused: the set that would be rescued names the last generation."],
+};
+const CUT_RESCUE = "Power was cut on the way. Power on opens what lies there; where that is refused, rescue again.";
+const MOST_NAMED = 8; // of the words that a rescue finds bad
 
 /** @param {string} kind @returns {Command} a command that no script has */
 function ownCommand(kind) {
@@ -65,6 +87,7 @@ function operandsOf({ kind, address, value, other }) {
 
 /** @param {string} kind @param {number} status */
 function answerOf(kind, status) {
+  if (kind === "clear" && status === STATUS.NOTHING) return "nothing";
   return status === STATUS.OK ? (WHOLE_ANSWERS[kind] ?? "ok") : ANSWERS[status];
 }
 
@@ -83,6 +106,17 @@ function stepText(step) {
   return `page ${step.page} word ${step.place} \u2190 ${sayWord(step.value, step.place)}`;
 }
 
+/** @param {number[]} bad the words that a rescue finds bad @param {number} pageWords @returns {string} which they are */
+function badText(bad, pageWords) {
+  if (bad.length === 0) return "Done: no word was bad, and the values moved.";
+  const named = bad.slice(0, MOST_NAMED).map((index) => {
+    const place = index % pageWords;
+    return `page ${Math.floor(index / pageWords)} word ${place} (${place < 4 ? "header" : "slot"})`;
+  });
+  const more = bad.length - named.length;
+  return `Done. Bad: ${named.join(", ")}${more === 0 ? "" : `, and ${more} more`}.`;
+}
+
 /** @param {Call | null} call */
 function isUnderWay(call) {
   return call !== null && call.tear === null && call.taken < call.steps.length;
@@ -96,7 +130,7 @@ class Bench {
     /** @type {Desk} */
     const desk = { power: true, open: false, fault: null, armed: null, call: null, trace: null };
     /** @type {Entry[]} */
-    this.entries = [{ what, told: what, lines: [], delta: null, desk }];
+    this.entries = [{ what, told: what, note: "", lines: [], delta: null, desk }];
     this.at = 0;
   }
 
@@ -114,10 +148,10 @@ class Bench {
 
   /** Adds an entry behind the one that is shown, in place of what followed it.
    *  @param {string} what @param {string[][]} lines @param {Delta | null} delta @param {Partial<Desk>} changes
-   *  @param {string} told */
-  push(what, lines, delta, changes, told = what) {
+   *  @param {string} told @param {string} note */
+  push(what, lines, delta, changes, told = what, note = "") {
     this.entries.length = this.at + 1;
-    this.entries.push({ what, told, lines, delta, desk: { ...this.desk, ...changes } });
+    this.entries.push({ what, told, note, lines, delta, desk: { ...this.desk, ...changes } });
     this.at += 1;
   }
 
@@ -142,10 +176,11 @@ class Bench {
     const { line, kind } = command;
     if (kind === "x") this.answer(line, "armed", { armed: { after: command.steps - 1n, tear: command.tear } });
     else if (kind === "format") this.list(command, { power: true, open: false, fault: null, armed: null, trace: null });
-    else if (kind === "open" || (kind === "p" && !this.desk.open)) this.list(command, { power: true });
+    else if (kind === "rescue") this.rescue(command);
+    else if (kind === "open" || kind === "anew" || (kind === "p" && !this.desk.open)) this.list(command, { power: true });
     else if (kind === "p") this.answer(line, "open");
     else if (!this.desk.open) this.answer(line, "off");
-    else if (kind === "both") this.list(command, { trace: null });
+    else if (kind === "both" || kind === "clear") this.list(command, { trace: null });
     else if (kind === "r") this.answer(line, String(this.library.read(this.cells, command.address)?.value ?? "none"));
     else this.list(command, {});
   }
@@ -164,11 +199,41 @@ class Bench {
     const fault = faultOf(done);
     const what = kind === "p" ? "power on" : command.line;
     if (fault !== null) return this.push(`${what}: ${fault}`, [], null, { ...changes, open: false, fault });
+    const answer = answerOf(kind, done.status);
+    this.callFor(command, done, changes, answer, kind === "clear" ? CLEARED[answer] : "");
+  }
+
+  /** Asks the proved code for the steps of a rescue, and which words it finds bad.
+   *  @param {Command} command */
+  rescue(command) {
+    const bad = this.library.badWords(this.cells);
+    const done = this.library.change("rescue", this.cells);
+    const refusal = NOT_RESCUED[done.status];
+    if (refusal !== undefined) return this.push(`rescue: ${refusal[0]}`, [], null, { power: true }, undefined, refusal[1]);
+    const changes = { power: true, open: false, fault: null, trace: null };
+    this.callFor(command, done, changes, `live ${done.live} bad ${done.bad}`, badText(bad, this.cells.pageWords));
+  }
+
+  /** The steps of a call are listed, or it takes none.
+   *  @param {Command} command @param {Done} done @param {Partial<Desk>} changes @param {string} answer @param {string} note */
+  callFor(command, done, changes, answer, note) {
     this.checkPlayed(done);
+    const { line, kind } = command;
     const { length } = done.steps;
-    const call = { command, steps: done.steps, taken: 0, tear: null, answer: answerOf(kind, done.status) };
-    if (length === 0) this.end(call, null, kind === "both" ? {} : changes);
-    else this.push(`${command.line}: ${length} ${length === 1 ? "step" : "steps"} listed`, [], null, { ...changes, call });
+    const call = { command, steps: done.steps, taken: 0, tear: null, answer, note };
+    if (length === 0) this.end(call, null, kind === "both" || kind === "clear" ? {} : changes);
+    else this.push(`${line}: ${length} ${length === 1 ? "step" : "steps"} listed`, [], null, { ...changes, call });
+  }
+
+  /** A word goes bad. Where power is on the store is opened anew.
+   *  @param {number} index @param {Damage} damage */
+  spoil(index, damage) {
+    if (this.underWay) throw new Error("A call is under way: take its steps, or cut power in one.");
+    const delta = spoilWord(this.cells, index, damage);
+    const what = `page ${delta.page} word ${index % this.cells.pageWords} goes bad: ${DAMAGES[damage]}`;
+    const { power, call } = this.desk;
+    this.push(what, [], delta, { open: false, fault: null, trace: null, call: power ? null : call });
+    if (power) this.begin({ ...ownCommand("anew"), line: "open" });
   }
 
   /** The mirror that the proved code left is what its steps make of the part: else the page is wrong, and says so.
@@ -208,7 +273,7 @@ class Bench {
     const lines = trace === null ? [] : [...arming, [call.command.line, "cut"]];
     const what = `cut, ${TEARS[/** @type {Tear} */ (call.tear)]}: ${stepText(call.steps[call.taken - 1])}`;
     const changes = { power: false, open: false, armed: null, call, trace: trace && { ...trace, cut: true } };
-    this.push(what, lines, delta, changes, `${call.command.line}: cut`);
+    this.push(what, lines, delta, changes, `${call.command.line}: cut`, call.command.kind === "rescue" ? CUT_RESCUE : "");
   }
 
   /** All steps of a call are taken.
@@ -216,12 +281,12 @@ class Bench {
   end(call, delta, changes) {
     const { line, kind } = call.command;
     const { trace } = { ...this.desk, ...changes };
-    const lines = trace === null || kind === "open" || kind === "format" || kind === "both" ? [] : [[line, call.answer]];
+    const lines = trace === null || !SCRIPTED.includes(kind) ? [] : [[line, call.answer]];
     const last = delta === null ? "" : stepText(call.steps[call.steps.length - 1]) + "; ";
     const after = trace === null ? this.firstTrace() : this.traceAfter(trace, call);
     const what = `${last}${line}: ${call.answer}`;
     const told = OWN_ANSWERS[kind] ?? `${line}: ${call.answer}`;
-    this.push(what, lines, delta, { ...changes, call, open: true, fault: null, trace: after }, told);
+    this.push(what, lines, delta, { ...changes, call, open: true, fault: null, trace: after }, told, call.note);
   }
 
   /** @returns {Trace} the trace of a store that is open for the first time, with the next entry */

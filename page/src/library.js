@@ -11,8 +11,8 @@
  * @property {BigUint64Array} wears how often each page was erased
  */
 /** @typedef {{page: number, place: number, value: bigint}} Step a word to be programmed; at place ERASE a page to be erased */
-/** @typedef {{status: number, page: number, place: number, steps: Step[], after: Cells}} Done
- *  what a call answers, lists and leaves in the mirror */
+/** @typedef {{status: number, page: number, place: number, bad: number, live: number, steps: Step[], after: Cells}} Done
+ *  what a call answers, lists and leaves in the mirror; `bad` and `live` are a rescue's */
 /** @typedef {{status: number, live: number, fill: number, room: number, generation: number, pending: number}} Counts */
 /** @typedef {{address: number, value: number}} Variable */
 /** @typedef {{result: number, words: number, wears: number, list: number, flags: number, places: number}} Loan
@@ -20,7 +20,8 @@
 
 const ERASE = -1;
 const ALL_ONES = 2n ** 64n - 1n;
-const STATUS = { OK: 0, UNFORMATTED: 6, FOREIGN: 9, TWICE: 13 }; // those of ee_page's Answers.antt that are asked for by name
+// those of ee_page's Answers.antt that are asked for by name
+const STATUS = { OK: 0, NOTHING: 2, SPENT: 4, UNFORMATTED: 6, FOREIGN: 9, TWICE: 13, NOTHING_BEGUN: 14 };
 const MEMORY_PAGE = 65536;
 
 /** @param {number} pages @param {number} pageWords @returns {Cells} a part as it comes, each word erased */
@@ -84,19 +85,19 @@ class Library {
     return [loan.result, ...shape, loan.words, count, loan.flags, count, loan.wears, cells.wears.length].map(BigInt);
   }
 
-  /** A call that takes steps: format, open, write, write_both, forget, clean. The cells stay as they are.
+  /** A call that takes steps: format, open, write, write_both, forget, clean, clear, rescue. The cells stay as they are.
    *  @param {string} name @param {Cells} cells @param {number[]} operands @param {number} [places] of the list
    *  @returns {Done} */
   change(name, cells, operands = [], places = undefined) {
     const loan = this.lend(cells, places);
     this.exports["ee_" + name](...this.mirror(cells, loan), BigInt(loan.list), BigInt(loan.places), ...operands);
-    const [status, listed, page, place] = this.numbers(loan, 4);
+    const [status, listed, page, place, bad, live] = this.numbers(loan, 6);
     const list = new BigUint64Array(this.memory.buffer, loan.list, 3 * listed);
     const steps = Array.from({ length: listed }, (_, at) => {
       const erases = list[3 * at + 1] === ALL_ONES;
       return { page: Number(list[3 * at]), place: erases ? ERASE : Number(list[3 * at + 1]), value: list[3 * at + 2] };
     });
-    return { status, page, place, steps, after: this.mirrored(cells, loan) };
+    return { status, page, place, bad, live, steps, after: this.mirrored(cells, loan) };
   }
 
   /** @param {Loan} loan @param {number} count @returns {number[]} the numbers of the result */
@@ -148,5 +149,18 @@ class Library {
     this.exports.ee_counts(...this.mirror(cells, loan));
     const [status, live, fill, room, generation, pending, page, place] = this.numbers(loan, 8);
     return { status, live, fill, room, generation, pending, page, place };
+  }
+
+  /** @param {Cells} cells @returns {number[]} the words that a rescue finds bad, by their place in the part */
+  badWords(cells) {
+    const loan = this.lend(cells);
+    const length = cells.words.length / 2;
+    const flags = loan.flags + cells.flags.length;
+    this.reach(flags + length);
+    this.exports.ee_bad_words(...this.mirror(cells, loan), BigInt(flags), BigInt(length));
+    const [status, set] = this.numbers(loan, 2);
+    if (status !== STATUS.OK) return [];
+    const bad = new Uint8Array(this.memory.buffer, flags, length);
+    return Array.from(bad.keys(), (place) => set * length + place).filter((_, place) => bad[place] !== 0);
   }
 }

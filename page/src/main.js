@@ -5,6 +5,13 @@ const OTHER_COUNT = "\u25b2 The page counts other live slots than the proved cod
 const NO_LONG_MEMORIES =
   "\u25b2 This browser has no 64-bit memories for WebAssembly, which the proved store needs: " +
   "take Chromium 133, Firefox 134 or later.";
+/** What a click on a word does.
+ *  @type {Record<string, string>} */
+const CLICKS = {
+  "": "A click changes nothing. Let a word go bad to see what it costs, and what a rescue saves.",
+  torn: "A click, or Enter at the cursor, leaves the word torn: it can\u2019t be read. Then the store is opened anew.",
+  turned: "A click, or Enter at the cursor, turns one bit, so that no store wrote the word. Then the store is opened anew.",
+};
 const NO_NUMBERS = "An address is a whole number from 1 to 65534, a value one from 0 to 4294967295.";
 
 class Page {
@@ -82,7 +89,8 @@ class Page {
   command(command) {
     const { underWay, desk } = this.bench;
     if (underWay) throw new Error("A call is under way: take its steps, or cut power in one.");
-    if (desk.fault !== null && command.kind !== "format") throw new Error(`No store here: ${desk.fault}. Format first.`);
+    const makes = command.kind === "format" || command.kind === "rescue";
+    if (desk.fault !== null && !makes) throw new Error(`No store here: ${desk.fault}. Rescue or format first.`);
     this.bench.begin(command);
   }
 
@@ -101,6 +109,25 @@ class Page {
     if (first === null || second === null) throw new Error(NO_NUMBERS);
     this.command(bothCommand(variableOf(first), variableOf(second)));
     this.goOn();
+  }
+
+  /** Lets a word go bad, where that is what a click does.
+   *  @param {number} index */
+  spoil(index) {
+    const damage = at("tool").value;
+    if (damage === "" || index < 0) return;
+    this.view.visit(index);
+    this.act(() => {
+      this.bench.spoil(index, damage);
+      this.goOn();
+    });
+  }
+
+  /** Says what a click on a word does. */
+  drawTool() {
+    const { value } = at("tool");
+    at("sets").dataset.tool = value;
+    at("hint").textContent = CLICKS[value];
   }
 
   runAll() {
@@ -189,6 +216,8 @@ function listenToButtons(page) {
     read: () => page.byHand(`r ${fields()[0]}`),
     forget: () => page.byHand(`f ${fields()[0]}`),
     clean: () => page.byHand("c"),
+    clear: () => (page.command(ownCommand("clear")), page.goOn()),
+    rescue: () => (page.command(ownCommand("rescue")), page.goOn()),
     step: () => page.bench.step(),
     rest: () => page.bench.rest(),
     power: () => page.byHand("p"),
@@ -238,6 +267,18 @@ function listenToFields(page) {
   at("theme").addEventListener("change", () => (document.documentElement.dataset.theme = at("theme").value));
 }
 
+/** What a click on a word, or Enter at the cursor, does.
+ *  @param {Page} page */
+function listenToSets(page) {
+  at("tool").addEventListener("change", () => page.drawTool());
+  at("sets").addEventListener("click", (/** @type {MouseEvent} */ event) => {
+    page.spoil(page.view.boxes.indexOf(/** @type {HTMLElement} */ (event.target)));
+  });
+  at("sets").addEventListener("keydown", (/** @type {KeyboardEvent} */ event) => {
+    if (event.key === "Enter") page.spoil(page.view.cursor);
+  });
+}
+
 /** How long a part lasts stands beside the sets, under the report, where the window has a column for it, and else below
  *  the moves. */
 function placeLasts() {
@@ -271,7 +312,9 @@ async function start() {
   placeLasts();
   listenToButtons(page);
   listenToFields(page);
+  listenToSets(page);
   listenToKeys();
+  page.drawTool();
   page.draw();
 }
 

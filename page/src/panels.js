@@ -45,7 +45,7 @@ const COUNTS = {
   generation: "that of the live set: one more with each move",
   transfers: "moves since the report began",
 };
-const NOT_OPEN = "\u25a0 Power is on; no store was opened yet: go forth in the history, or format.";
+const NOT_OPEN = "\u25a0 Power is on; no store was opened yet: go forth in the history, rescue or format.";
 
 /** @param {Bench} bench @returns {string} one sentence or two on power, the store and the call */
 function standText(bench) {
@@ -57,7 +57,7 @@ function standText(bench) {
   const wait = armed?.after === 0n ? "the next step" : `${armed?.after} steps pass, and the next`;
   const fuse = armed === null ? "" : ` A cut is armed: ${wait} is left ${TEARS[armed.tear]}.`;
   if (bench.underWay) return `\u25b8 Power is on; ${step} comes next. The counts are what a store would find here.${fuse}`;
-  if (fault !== null) return `\u25b2 No store here: ${fault}. Format makes one, and loses what these cells hold.`;
+  if (fault !== null) return `\u25b2 No store here: ${fault}. Rescue makes one of what can be read; format loses what these cells hold.`;
   return open ? `\u25a0 Power is on, and the store is open.${fuse}` : NOT_OPEN;
 }
 
@@ -73,8 +73,8 @@ function drawStand(bench, counts) {
     return make("div", { title: COUNTS[name] }, make("dt", {}, name), make("dd", {}, shown));
   });
   at("counts").replaceChildren(...rows);
-  const { told, lines } = bench.entry;
-  drawAnswer(told, lines.length === 0 ? "" : (MEANINGS[lines[lines.length - 1][1]] ?? ""));
+  const { told, note, lines } = bench.entry;
+  drawAnswer(told, lines.length === 0 ? note : (MEANINGS[lines[lines.length - 1][1]] ?? ""));
 }
 
 /** @param {string} told an answer, or nothing where none stands @param {string} meaning what that says in a few words */
@@ -155,7 +155,7 @@ function drawMoves(bench) {
   const { trace } = bench.desk;
   const slots = slotsOf(bench.cells);
   const stretches = trace === null || trace.cut ? [] : stretchesOf(trace);
-  at("why").textContent = trace === null ? "No store was opened yet." : whyFewest(trace, slots);
+  at("why").textContent = trace === null ? "The report begins with the next store that opens." : whyFewest(trace, slots);
   const shown = stretches.slice(0, MOST_ROWS);
   const rows = shown.map(({ number, to, from }) => [number, `to ${to} from ${from}`, `change ${to}`, `${from} of ${slots}`]);
   const more = stretches.length > MOST_ROWS ? `, the first ${MOST_ROWS} of ${stretches.length}` : "";

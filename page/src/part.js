@@ -4,6 +4,14 @@
 /** @typedef {{words: BigUint64Array, flags: Uint8Array, wear: bigint}} Stretch some words of a page, and the page's wear */
 /** @typedef {{page: number, from: number, before: Stretch, after: Stretch}} Delta what a step changed */
 
+/** @typedef {"torn" | "turned"} Damage what becomes of a word that goes bad: it can't be read, or one bit of it turned */
+
+/** @type {Record<Damage, string>} */
+const DAMAGES = { torn: "torn", turned: "one bit turned" };
+// The bit that turns is one by which no store wrote the word: of a mark, and of what a slot says that it is.
+const HEADER_BIT = 1n << 63n;
+const SLOT_BIT = 1n << 31n;
+
 /** @param {Cells} cells @param {number} page @param {number} from @param {number} to @returns {Stretch} */
 function stretchOf(cells, page, from, to) {
   return { words: cells.words.slice(from, to), flags: cells.flags.slice(from, to), wear: cells.wears[page] };
@@ -48,6 +56,18 @@ function leftOfErase(tear, at) {
   if (tear === "t") return "torn";
   if (tear === "m") return /** @type {const} */ (["old", "erased", "torn"])[at % 3];
   return "erased";
+}
+
+/** Lets a word go bad.
+ *  @param {Cells} cells @param {number} index @param {Damage} damage @returns {Delta} */
+function spoilWord(cells, index, damage) {
+  if (cells.flags[index] !== 0) throw new Error("This word is torn already, so nothing was changed.");
+  const page = Math.floor(index / cells.pageWords);
+  const before = stretchOf(cells, page, index, index + 1);
+  const bit = index % cells.pageWords < 4 ? HEADER_BIT : SLOT_BIT;
+  cells.words[index] = damage === "torn" ? 0n : cells.words[index] ^ bit;
+  cells.flags[index] = damage === "torn" ? 1 : 0;
+  return { page, from: index, before, after: stretchOf(cells, page, index, index + 1) };
 }
 
 /** Puts the cells of a delta back, or forth.

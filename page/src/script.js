@@ -5,7 +5,7 @@
 /**
  * @typedef {object} Command
  * @property {string} line
- * @property {string} kind w, f, r, c, x or p; also `format`, `open` and `both`, which no script has
+ * @property {string} kind w, f, r, c, x or p; also `format`, `open`, `anew`, `both`, `clear` and `rescue`, which no script has
  * @property {number} address
  * @property {number} value
  * @property {Variable} [other] what `both` writes with it

@@ -138,5 +138,5 @@ function describeWord(cells, reading, index) {
   const where = `page ${page}, word ${place}, ${name}`;
   if (kind === "free" || kind === "unset") return `${where}: erased`;
   if (kind === "torn") return `${where}: torn, it cannot be read`;
-  return `${where}: ${wordText(cells, index)}, ${place < 4 ? "" : KINDS[kind][1] + ", "}${sayWord(cells.words[index], place)}`;
+  return `${where}: ${wordText(cells, index)}, ${place < 4 || kind === "foreign" ? "" : KINDS[kind][1] + ", "}${sayWord(cells.words[index], place)}`;
 }

@@ -17,26 +17,30 @@ use Rattle.ee_page.specs.declared.answer.Answer.TheVariants.{NoStore, ListTooSho
 use Rattle.ee_page.specs.declared.answer.CallResult.{CallResult}
 use Rattle.ee_page.specs.declared.listing.ListedStep.{ListedStep}
 use Rattle.ee_page.specs.declared.request.Request.{Request}
-use Rattle.ee_page.specs.declared.request.Request.TheVariants.{Format}
+use Rattle.ee_page.specs.declared.request.Request.TheVariants.{Format, Rescue}
 
--- a store that was opened is asked, for all but a format
+-- a store that was opened is asked, for all but a format and a rescue
 pub opened_first : (request : Request ℕ) (old opened new : Device) (answer : Answer) → Opens old opened → AnswersOpen request opened answer new → Answers request old answer new
 opened_first Format old opened new answer opens never = absurd never
+opened_first Rescue old opened new answer opens never = absurd never
 opened_first request old opened new answer opens answers = inr (opened, opens, answers)
 
 -- a store answers nothing of its caller's arguments, and nothing was done where there is none
 no_shape : (request : Request ℕ) (old new : Device) → Answers request old WrongShape new → ⊥
 no_shape Format old new never = never
+no_shape Rescue old new never = never
 no_shape request old new (inl never) = never
 no_shape request old new (inr never) = never.2
 
 no_address : (request : Request ℕ) (old new : Device) → Answers request old ImproperAddress new → ⊥
 no_address Format old new never = never
+no_address Rescue old new never = never
 no_address request old new (inl never) = never
 no_address request old new (inr never) = never.2
 
 none_done : (request : Request ℕ) (fault : ScanFault) (old new : Device) → Answers request old (NoStore fault) new → new ≡ old
 none_done Format fault old new never = absurd never
+none_done Rescue fault old new never = absurd never
 none_done request fault old new (inl none) = none.1
 none_done request fault old new (inr never) = absurd never.2
 

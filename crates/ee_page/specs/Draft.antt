@@ -11,8 +11,8 @@ pub record IsFresh (device : Device) : Type 0 where
   pub never_cut : device.cuts ≡ 0
   pub any_cuts : device.cuts_left ≡ None
 
--- the device after the listed steps, with its wears, its cuts and its power, which a step that found no place in the list
--- has changed
+-- the device after the listed steps, with its wears, its cuts and its power, which a step that
+-- found no place in the list has changed
 abbrev pub drafted_device : Device → List Step → List ℕ → ℕ → Bool → Device
 drafted_device start steps wear cuts on = record {
   size = start.size;

@@ -21,8 +21,8 @@ pub record WritesNothing (old new : Mirror) (count : ℕ) : Type 0 where
   pub same : new ≡ old
   pub none_listed : count ≡ 0
 
--- The first so many of the listed steps can be taken, each when it comes, and an erase has the value 0; the mirror means what they lead to when they are
--- played in order.
+-- The first so many of the listed steps can be taken, each when it comes, and an erase has the
+-- value 0; the mirror means what they lead to when they are played in order.
 pub record IsPlayed (size : Size) (old new : Mirror) (listed : List ListedStep) (count : ℕ) : Type 0 where
   pub fits : MirrorFits size new
   pub within : count ≤ length listed
@@ -37,8 +37,9 @@ IsProperRequest (WriteBoth first one second other) = IsAddress first × IsAddres
 IsProperRequest (Forget address) = IsAddress address
 IsProperRequest request = Unit {0}
 
--- What an answer to a request says. Where the words are no store nothing is written or listed. A list that is too short is
--- full of steps, such as the call may have taken when power is cut in it, and nothing is written.
+-- What an answer to a request says. Where the words are no store nothing is written or listed. A
+-- list that is too short is full of steps, such as the call may have taken when power is cut in it,
+-- and nothing is written.
 abbrev pub EndsCall : Size → Request ℕ → Answer → Mirror → Mirror → List ListedStep → ℕ → Type 0
 EndsCall size request WrongShape old new listed count = ¬ MirrorFits size old × WritesNothing old new count
 EndsCall size request ImproperAddress old new listed count = MirrorFits size old × ¬ IsProperRequest request × WritesNothing old new count

@@ -7,3 +7,4 @@ pub mod Answers
 pub mod Calls
 pub mod Exports
 pub mod Looks
+pub mod Judging

@@ -1,5 +1,5 @@
--- What the calls that take no step find, each over the device that its mirror means. They look at the words as they are,
--- and ask for no mark.
+-- What the calls that take no step find, each over the device that its mirror means. They look at
+-- the words as they are, and ask for no mark.
 use Rattle.std.specs.Prelude.{◌≡◌, ◌⊎◌, ℕ, ◌-◌, Some, None}
 use Rattle.ee_flash.specs.Device.{Device}
 use Rattle.ee_pages.specs.Layout.{IsScanFault}
@@ -31,7 +31,8 @@ ReadsValue device asked answer found = ⊥
 abbrev pub IsValueRead : Device → ℕ → Found → Type 0
 IsValueRead device asked found = ReadsValue device asked found.answer found
 
--- the next address above this one that has a value, with the value, or that there is none, or why the words are no store
+-- the next address above this one that has a value, with the value, or that there is none, or why
+-- the words are no store
 abbrev pub FindsNext : Device → ℕ → Answer → Found → Type 0
 FindsNext device above Done found = IsLegal device × IsNextLive (state_of device).map above (Some (found.address, found.value))
 FindsNext device above Nothing found = IsLegal device × (found ≡ none_found Nothing) × IsNextLive (state_of device).map above None
@@ -87,7 +88,8 @@ counts_result counts = record {
   place = (foreign_at counts.answer).1;
 }
 
--- what a look says: the mirror has another shape, or the argument is not proper, or it is what the look finds
+-- what a look says: the mirror has another shape, or the argument is not proper, or it is
+-- what the look finds
 abbrev pub Finds : Size → (Device → Found → Type 0) → Type 0 → Found → Mirror → Type 0
 Finds size finds proper found mirror =
     ((found ≡ none_found WrongShape) × ¬ MirrorFits size mirror)

@@ -1,4 +1,5 @@
--- What a mirror of a flash says: its words as they read, a flag for each, and the wears of its pages.
+-- What a mirror of a flash says: its words as they read, a flag for each, and the
+-- wears of its pages.
 use Rattle.std.specs.Prelude.{◌≡◌, ℕ, ◌*◌, ◌==◌, if◌then◌else◌, None, true, List, length, map}
 use Rattle.std.specs.List.{zip}
 use Rattle.ee_flash.specs.Device.{Device, all_ones}
@@ -7,8 +8,8 @@ use Rattle.ee_flash.specs.Size.{IsWithinLimits, Size, page_count}
 use Rattle.ee_flash.specs.declared.word.Word.{Word}
 use Rattle.ee_flash.specs.declared.word.Word.TheVariants.{Erased, Held, Torn}
 
--- what a number with its flag means: where the flag is not 0 the word could not be read; else all ones are an erased word,
--- and any other number is held
+-- what a number with its flag means: where the flag is not 0 the word could not be read; else all
+-- ones are an erased word, and any other number is held
 abbrev pub word_of_number : ℕ → ℕ → Word
 word_of_number number flag = if flag == 0 then (if number == all_ones then Erased else Held number) else Torn
 
@@ -23,7 +24,8 @@ pub record IsMirror (size : Size) (words flags wears : List ℕ) : Type 0 where
   pub flags_length : length flags ≡ page_count size * size.words
   pub wears_length : length wears ≡ page_count size
 
--- the device that the mirror means: it is on, it was never cut, and it may be cut any number of times
+-- the device that the mirror means: it is on, it was never cut, and it may be cut
+-- any number of times
 abbrev pub mirrored_device : Size → List ℕ → List ℕ → List ℕ → Device
 mirrored_device size words flags wears = record {
   size = size;

@@ -1,6 +1,7 @@
 //! What a call answers, and the numbers by which its caller is told.
 ghost use Rattle.std.specs.Prelude.{◌≡◌};
 
+use ee_core::Rescued;
 use ee_pages::ScanFault;
 
 /// What a call answers.
@@ -30,6 +31,10 @@ pub enum Answer {
     ImproperAddress,
     /// Both values are of one address.
     Twice,
+    /// No set is begun, so there is nothing to rescue.
+    NothingBegun,
+    /// A store is made of the set that is rescued.
+    Rescued(Rescued),
 }
 
 /// What a call tells its caller.
@@ -46,10 +51,15 @@ pub struct CallResult {
     pub page: usize,
     /// Its place in the page.
     pub place: usize,
+    /// How many words of the set that was rescued were bad, where the status is that one was;
+    /// else 0.
+    pub bad: usize,
+    /// How many addresses have a value then, 0 in any other.
+    pub live: usize,
 }
 
 impl Answer {
-    ghost use Rattle.ee_page.specs.Answers.{foreign_at, is_played, result_of, status_of};
+    ghost use Rattle.ee_page.specs.Answers.{foreign_at, is_played, rescued_in, result_of, status_of};
 
     /// The number of this answer.
     pub(crate) fn status(self) -> usize
@@ -70,6 +80,8 @@ impl Answer {
             Answer::WrongShape => 11,
             Answer::ImproperAddress => 12,
             Answer::Twice => 13,
+            Answer::NothingBegun => 14,
+            Answer::Rescued(_) => 15,
         }
     }
 
@@ -80,6 +92,19 @@ impl Answer {
         match self {
             Answer::NoStore(ScanFault::Foreign { page, at }) => (page, at),
             _ => (0, 0),
+        }
+    }
+
+    /// What a rescue found and made, 0 and 0 where the answer is none of one.
+    pub(crate) fn rescued(self) -> Rescued
+        ensures { result ≡ rescued_in self }
+    {
+        match self {
+            Answer::Rescued(rescued) => rescued,
+            _ => Rescued {
+                bad_words: 0,
+                live: 0,
+            },
         }
     }
 
@@ -97,16 +122,19 @@ impl Answer {
     }
 
     /// What the caller is told of this answer, with so many steps listed.
-    pub(crate) fn told(self, listed: usize) -> CallResult
+    pub(crate) fn into_result(self, listed: usize) -> CallResult
         ensures { result ≡ result_of self listed }
     {
         let status = self.status();
         let (page, place) = self.foreign();
+        let rescued = self.rescued();
         CallResult {
             status,
             listed,
             page,
             place,
+            bad: rescued.bad_words,
+            live: rescued.live,
         }
     }
 }

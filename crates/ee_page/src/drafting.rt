@@ -1,7 +1,7 @@
 //! A request, drafted: a store is made or opened on a draft and asked, and its steps are listed.
 ghost use Rattle.std.specs.Prelude.{◌≡◌, ◌≢◌};
 ghost use Rattle.ee_flash.specs.Device.{IsOn};
-ghost use Rattle.ee_page.specs.Calls.{Answers, AnswersOpen, Drafts, cuts_after};
+ghost use Rattle.ee_page.specs.Calls.{Answers, AnswersOpen, Drafts, RescuesWords, cuts_after};
 ghost use Rattle.ee_page.specs.Mirror.{IsMirror, mirrored_device};
 
 use crate::answer::Answer;
@@ -10,7 +10,8 @@ use crate::listing::ListedStep;
 use crate::request::Request;
 use ee_codec::Address;
 use ee_core::{
-    ForgetFault, OpenFault, Put, Store, Variables, WriteAllFault, WriteFault, Written, format, open,
+    ClearFault, ForgetFault, OpenFault, Put, RescueFault, Store, Variables, WriteAllFault,
+    WriteFault, Written, format, open, rescue,
 };
 use ee_flash::{Flash, Shape};
 
@@ -35,8 +36,8 @@ pub(crate) fn draft<'w, 'l, K: Lent>(
     draft.ended(answer)
 }
 
-/// Asks a device for what is requested: it is formatted, or its store is opened first. A cut of power
-/// says that the list is too short.
+/// Asks a device for what is requested: it is formatted or rescued, or its store is opened first. A
+/// cut of power says that the list is too short.
 #[tactic(auto, using(crate::proofs::AnsweredCalls::opened_first))]
 fn ask<F: Flash + Drop>(flash: F, request: Request<Address>) -> (F, Answer)
     requires { IsOn (F.device flash) }
@@ -48,6 +49,9 @@ fn ask<F: Flash + Drop>(flash: F, request: Request<Address>) -> (F, Answer)
             Ok(store) => (store.into_flash(), Answer::Done),
             Err((flash, _cut)) => (flash, Answer::ListTooShort),
         };
+    }
+    if let Request::Rescue = request {
+        return ask_rescue(flash);
     }
     match open(flash) {
         Ok(store) => {
@@ -62,15 +66,33 @@ fn ask<F: Flash + Drop>(flash: F, request: Request<Address>) -> (F, Answer)
     }
 }
 
-/// Asks a store that was opened. It is on and keeps no index, so it answers neither `Off` nor `Memory`.
+/// Asks a device to be rescued. A cut of power says that the list is too short.
+fn ask_rescue<F: Flash + Drop>(flash: F) -> (F, Answer)
+    requires { IsOn (F.device flash) }
+    ensures answers { RescuesWords (F.device flash) result.1 (F.device result.0) }
+    ensures cuts { (F.device result.0).cuts ≡ cuts_after result.1 (F.device flash).cuts }
+{
+    match rescue(flash) {
+        Ok((store, rescued)) => (store.into_flash(), Answer::Rescued(rescued)),
+        Err((flash, fault)) => match fault {
+            RescueFault::NothingBegun => (flash, Answer::NothingBegun),
+            RescueFault::Spent => (flash, Answer::Spent),
+            RescueFault::Cut => (flash, Answer::ListTooShort),
+        },
+    }
+}
+
+/// Asks a store that was opened. It is on and keeps no index, so it answers neither
+/// `Off` nor `Memory`.
 fn ask_open<F: Flash + Drop>(store: &mut Store<F>, request: Request<Address>) -> Answer
     requires on { IsOn store.old }
-    requires opened { request ≢ Request.Format }
+    requires not_formatted { request ≢ Request.Format }
+    requires not_rescued { request ≢ Request.Rescue }
     ensures answers { AnswersOpen request store.old result store.new }
     ensures cuts { store.new.cuts ≡ cuts_after result store.old.cuts }
 {
     match request {
-        Request::Format | Request::Open => Answer::Done,
+        Request::Format | Request::Rescue | Request::Open => Answer::Done,
         Request::Write { address, value } => match store.write(address, value) {
             Ok(Written::Appended) => Answer::Done,
             Ok(Written::Moved) => Answer::Moved,
@@ -105,6 +127,12 @@ fn ask_open<F: Flash + Drop>(store: &mut Store<F>, request: Request<Address>) ->
             Ok(true) => Answer::Done,
             Ok(false) => Answer::Nothing,
             Err(_) => Answer::ListTooShort,
+        },
+        Request::Clear => match store.clear() {
+            Ok(true) => Answer::Moved,
+            Ok(false) => Answer::Nothing,
+            Err(ClearFault::Spent) => Answer::Spent,
+            Err(ClearFault::Off | ClearFault::Cut) => Answer::ListTooShort,
         },
     }
 }

@@ -27,7 +27,7 @@ impl Found {
     ghost use Rattle.ee_page.specs.Looks.{found_result, none_found};
 
     /// What the caller is told.
-    pub(crate) fn told(self) -> FoundResult
+    pub(crate) fn into_result(self) -> FoundResult
         ensures { result ≡ found_result self }
     {
         let (page, place) = self.answer.foreign();
@@ -115,7 +115,7 @@ impl Counts {
     ghost use Rattle.ee_page.specs.Looks.{counts_result, none_counted};
 
     /// What the caller is told.
-    pub(crate) fn told(self) -> CountsResult
+    pub(crate) fn into_result(self) -> CountsResult
         ensures { result ≡ counts_result self }
     {
         let (page, place) = self.answer.foreign();

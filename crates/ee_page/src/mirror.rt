@@ -13,7 +13,8 @@ use crate::listing::ListedStep;
 use crate::playing::play;
 use ee_flash::Shape;
 
-/// The shape of a mirror, `None` where it is out of range or the lengths are not those of the shape.
+/// The shape of a mirror, `None` where it is out of range or the lengths are not
+/// those of the shape.
 pub(crate) fn shape_of(
     pages: usize,
     page_words: usize,
@@ -34,8 +35,8 @@ pub(crate) fn shape_of(
     Some(shape)
 }
 
-/// Plays what a call has listed on the mirror, and tells the answer. Where the words are no store, or
-/// the list was too short, nothing is written or listed.
+/// Plays what a call has listed on the mirror, and tells the answer. Where the words are no store,
+/// or the list was too short, nothing is written or listed.
 pub(crate) fn settle(
     shape: Shape,
     words: &mut [u64],
@@ -60,8 +61,8 @@ pub(crate) fn settle(
     ensures count { is_played answer ≡ true → result.listed ≡ count }
 {
     if !answer.is_played() {
-        return answer.told(0);
+        return answer.into_result(0);
     }
     play(shape, words, flags, wears, listed, count);
-    answer.told(count)
+    answer.into_result(count)
 }

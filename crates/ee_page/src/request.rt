@@ -31,9 +31,14 @@ pub enum Request<A> {
     },
     /// To erase the lowest page that waits to be erased.
     Clean,
+    /// To take the values of all addresses away at once.
+    Clear,
+    /// To be made of what can be read, whatever the words are.
+    Rescue,
 }
 
-/// The same request with proper addresses, where it has any; `None` if the number of one is 0 or 65535.
+/// The same request with proper addresses, where it has any; `None` if the number of one is 0
+/// or 65535.
 pub(crate) fn proper(request: Request<u16>) -> Option<Request<Address>>
     ensures { SomeIff result (IsProperRequest request) request }
 {
@@ -64,5 +69,7 @@ pub(crate) fn proper(request: Request<u16>) -> Option<Request<Address>>
             Some(Request::Forget { address })
         }
         Request::Clean => Some(Request::Clean),
+        Request::Clear => Some(Request::Clear),
+        Request::Rescue => Some(Request::Rescue),
     }
 }
