@@ -1,4 +1,5 @@
--- The causes that are a command's own, behind those for which no store is opened or the text spells no settings.
+-- The causes that are a command's own, behind those for which no store is opened or the text
+-- spells no settings.
 use Rattle.std.proofs.Common.{◌≡◌, ◌≢◌, ◌∙◌, ◌⊎◌, List, ℕ, inl, inr, sym}
 use Rattle.ee_faults.specs.declared.fault.Fault.{Fault}
 use Rattle.ee_faults.specs.declared.fault.Fault.TheVariants.{Memory}

@@ -1,4 +1,5 @@
--- What the code finds of an entry, and what that makes of it; and how the entries that were gone over grow.
+-- What the code finds of an entry, and what that makes of it; and how the entries that
+-- were gone over grow.
 use Rattle.std.proofs.Common.{◌≡◌, ◌≢◌, ◌⊎◌, ◌∙◌, ◌+◌, ℕ, ℤ, List, [], ◌∷◌, ◌++◌, length, map, Option, Some, None, Ok, String, Global, Bor, inl, inr, refl, sym, ap, subst, rules}
 use Rattle.std.proofs.lemmas.List.{length-map}
 use Rattle.std.specs.Map.Iter.{deref_pair}

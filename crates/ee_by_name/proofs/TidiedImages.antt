@@ -1,4 +1,5 @@
--- What is told and tidied by a later schema, and that one cause at most applies for which it is not.
+-- What is told and tidied by a later schema, and that one cause at most applies for which it is
+-- not.
 use Rattle.std.proofs.Common.{◌≡◌, ◌∙◌, ◌⊎◌, ◌+◌, ℕ, Option, Some, None, List, inl, inr, sym, ap, subst, arith, Ok, Err, rules}
 use Rattle.std.specs.Prelude.{option_map}
 use Rattle.ee_flash.specs.Device.{Device}

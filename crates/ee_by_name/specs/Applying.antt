@@ -53,7 +53,8 @@ Applies settings (entry ∷ entries) old count new =
 abbrev pub applied_text : ℕ → ℕ → List ℕ
 applied_text count entries = line_of (joined_fields (codes "applied" ∷ decimal count ∷ codes "of" ∷ decimal entries ∷ []))
 
--- Each entry of the text of values was taken, by rising name, by the store that was opened from the image.
+-- Each entry of the text of values was taken, by rising name, by the store that was
+-- opened from the image.
 pub record IsApplied (old_image settings_text values_text new_image line : List ℕ) : Type 0 where
   pub store : Device
   pub opened : IsOpened old_image store
@@ -83,8 +84,8 @@ IsWriteRefusalAt size state entry address fault =
     (IsFull (slot_count size) state address × (fault ≡ FullAt entry))
     ⊎ (¬ IsFull (slot_count size) state address × IsSpent (slot_count size) state × (fault ≡ SpentAt entry))
 
--- why a number is not set for the setting, the first cause that applies: it is not in the range; or it isn't stored already,
--- and is not written
+-- why a number is not set for the setting, the first cause that applies: it is not in the range; or
+-- it isn't stored already, and is not written
 abbrev pub IsNumberRefusal : Setting → Size → State → ℕ → ℤ → Fault → Type 0
 IsNumberRefusal setting size state entry number fault =
     (IsOutOfRange setting number × (fault ≡ ValueOutOfRange entry setting.numbers.min setting.numbers.max))
@@ -92,7 +93,8 @@ IsNumberRefusal setting size state entry number fault =
     × (state.map setting.numbers.address ≢ Some value)
     × IsWriteRefusalAt size state entry setting.numbers.address fault)
 
--- why the entry of this number is refused by a store of this size and state, the first cause that applies
+-- why the entry of this number is refused by a store of this size and state, the
+-- first cause that applies
 abbrev pub IsEntryRefusal : List Setting → Size → State → ℕ → Entry → Fault → Type 0
 IsEntryRefusal settings size state number entry fault =
     (IsNoNumber entry.1 × (fault ≡ BadValue number))
@@ -100,7 +102,8 @@ IsEntryRefusal settings size state number entry fault =
     ⊎ ((value : ℤ) × (entry.1 ≡ integer value) × (setting : Setting) × IsNamed settings entry.0 setting
     × IsNumberRefusal setting size state number value fault)
 
--- an entry is the first that is refused, counted from 1: those before it were taken, and it is refused by what they left
+-- an entry is the first that is refused, counted from 1: those before it were taken, and it is
+-- refused by what they left
 pub record StopsAtEntry (settings : List Setting) (entries : List Entry) (old : Device) (fault : Fault) : Type 0 where
   pub before : List Entry
   pub entry : Entry
@@ -125,8 +128,8 @@ pub record IsValueFault (image settings_text values_text : List ℕ) (fault : Fa
 abbrev pub HasSettings : List ℕ → Type 0
 HasSettings settings_text = (settings : List Setting) × SpellsSettings settings_text settings
 
--- why nothing is applied, the first cause that applies: no store is opened; or the text spells no settings; or that of the
--- values is no TOML; or an entry is refused
+-- why nothing is applied, the first cause that applies: no store is opened; or the text spells no
+-- settings; or that of the values is no TOML; or an entry is refused
 abbrev pub IsApplyFault : List ℕ → List ℕ → List ℕ → Fault → Type 0
 IsApplyFault image settings_text values_text fault =
     IsOpeningFault image fault
@@ -158,7 +161,8 @@ ApplyingTwiceWritesNothing = (settings : List Setting) → IsSchema settings →
 
 -- ---- for the functions within
 
--- each entry was taken and the store left the image, with the line that says how many of them were written
+-- each entry was taken and the store left the image, with the line that says how many
+-- of them were written
 pub record LeavesApplied (settings : List Setting) (entries : List Entry) (store : Device) (image line : List ℕ) : Type 0 where
   pub count : ℕ
   pub last : Device

@@ -1,4 +1,5 @@
--- What `header` prints: the settings as constants of a program in C or in Rust, word for word; and each fault under its cause.
+-- What `header` prints: the settings as constants of a program in C or in Rust, word for word; and
+-- each fault under its cause.
 use Rattle.std.specs.Prelude.{◌≡◌, ◌++◌, ℕ, List, map, codes, decimal, length}
 use Rattle.std.specs.Char.{to_ascii_uppercase}
 use Rattle.std.specs.List.{flat_map}
@@ -115,7 +116,8 @@ pub record IsHeader (settings_text : List ℕ) (language : Language) (text : Lis
 
 -- ---- for the functions within
 
--- a constant of the setting that has this name: its kind, its type where the language has one, and its number
+-- a constant of the setting that has this name: its kind, its type where the language has
+-- one, and its number
 abbrev pub constant_in : Language → List ℕ → List ℕ → List ℕ → ℕ → List ℕ
 constant_in C name kind type number = c_constant name kind number
 constant_in Rust name kind type number = rust_constant name kind type number

@@ -50,7 +50,8 @@ pub record IsList (image : List ℕ) (settings_text : Option (List ℕ)) (lines 
   pub named : AreNamed settings_text settings
   pub lines_are : lines ≡ listed_lines settings (listed_in settings (state_of device).map)
 
--- why nothing is listed, the first cause that applies: no store is opened; or there is a text of settings, which spells none
+-- why nothing is listed, the first cause that applies: no store is opened; or there is a text of
+-- settings, which spells none
 abbrev pub IsListTextFault : List ℕ → Option (List ℕ) → Fault → Type 0
 IsListTextFault image None fault = IsOpeningFault image fault
 IsListTextFault image (Some settings_text) fault =

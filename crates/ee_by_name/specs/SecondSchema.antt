@@ -1,4 +1,5 @@
--- The commands that look at an image with a later schema: what they give, and each fault under its cause.
+-- The commands that look at an image with a later schema: what they give, and each
+-- fault under its cause.
 use Rattle.std.specs.Prelude.{◌≡◌, ◌⊎◌, ℕ, List, [], ◌∷◌, Option, Some, None, Ok, codes, decimal}
 use Rattle.std.specs.List.{flat_map}
 use Rattle.ee_text.specs.Field.{joined_fields}
@@ -43,8 +44,8 @@ pub record AreStaleLines (image settings_text lines : List ℕ) : Type 0 where
 abbrev pub tidied_text : ℕ → List ℕ
 tidied_text count = line_of (joined_fields (codes "tidied" ∷ decimal count ∷ []))
 
--- The store was tidied: it has the values of the settings' addresses and no others, its state is what the forgettings made
--- of it, and power and size stay.
+-- The store was tidied: it has the values of the settings' addresses and no others, its state is
+-- what the forgettings made of it, and power and size stay.
 pub record IsTidied (settings : List Setting) (old : Device) (count : ℕ) (new : Device) : Type 0 where
   pub tidied : Tidies settings old (Ok count) new
   pub map_is : (address : ℕ) → (state_of new).map address ≡ kept_map settings (state_of old).map address
@@ -52,8 +53,9 @@ pub record IsTidied (settings : List Setting) (old : Device) (count : ℕ) (new 
   pub stays_on : StaysOn new
   pub same_size : new.size ≡ old.size
 
--- The store that was opened from the image was tidied, and the image is left with the values of the settings' addresses
--- and no others, in the state that the forgettings made of the one that the old image says.
+-- The store that was opened from the image was tidied, and the image is left with the values of
+-- the settings' addresses and no others, in the state that the forgettings made of the one that
+-- the old image says.
 pub record IsTidiedImage (old_image settings_text new_image line : List ℕ) : Type 0 where
   pub store : Device
   pub opened : IsOpened old_image store
@@ -70,7 +72,8 @@ pub record IsTidiedImage (old_image settings_text new_image line : List ℕ) : T
 
 -- ---- the faults
 
--- one of the addresses that have a value in the image and that no setting has can't be forgotten: the store is spent
+-- one of the addresses that have a value in the image and that no setting has can't be
+-- forgotten: the store is spent
 pub record IsSpentFor (image settings_text : List ℕ) (fault : Fault) : Type 0 where
   pub device : Device
   pub old : IsStoreText image device
@@ -79,15 +82,16 @@ pub record IsSpentFor (image settings_text : List ℕ) (fault : Fault) : Type 0 
   pub spent : IsSpentAmong device.size (unnamed_in settings (state_of device).map) (state_of device)
   pub fault_is : fault ≡ Spent
 
--- why an image is not tidied, the first cause that applies: no store is opened; or the text spells no settings; or the
--- store is spent
+-- why an image is not tidied, the first cause that applies: no store is opened; or the text spells
+-- no settings; or the store is spent
 abbrev pub IsTidyImageFault : List ℕ → List ℕ → Fault → Type 0
 IsTidyImageFault image settings_text fault =
     IsOpeningFault image fault ⊎ (HasStore image × IsSettingsFault settings_text fault) ⊎ IsSpentFor image settings_text fault
 
 -- ---- for the functions within
 
--- the store was tidied and left the image, with the line that says how many addresses were forgotten
+-- the store was tidied and left the image, with the line that says how many
+-- addresses were forgotten
 pub record LeavesTidied (settings : List Setting) (store : Device) (image line : List ℕ) : Type 0 where
   pub count : ℕ
   pub last : Device

@@ -1,5 +1,5 @@
--- The commands on settings: what a text of settings spells, what is read of it in an image and what is set there, and each
--- fault under its cause.
+-- The commands on settings: what a text of settings spells, what is read of it in an image and what
+-- is set there, and each fault under its cause.
 use Rattle.std.specs.Prelude.{◌≡◌, ◌⊎◌, ℕ, List, [], ◌∷◌, Ok, Err, Some, IsUtf8, codes, decimal}
 use Rattle.toml.specs.Data.{Members}
 use Rattle.toml.specs.Parse.{parse_document}
@@ -87,15 +87,15 @@ pub record IsGot (image settings_text name line : List ℕ) : Type 0 where
 
 -- ---- what is set
 
--- the write was served: appended, and no page was erased; or moved with the map to the other set, and the pages that
--- waited were erased, each once, and no other
+-- the write was served: appended, and no page was erased; or moved with the map to the other set,
+-- and the pages that waited were erased, each once, and no other
 abbrev pub IsWriteServed : Device → ℕ → ℕ → Device → Type 0
 IsWriteServed old address value new =
     (Steps old (Write address value) Appended new × (new.wear ≡ old.wear))
     ⊎ (Steps old (Write address value) Moved new × Wears (pending_pages old) old new)
 
--- The value is in the range of the name's setting, and one write of it at the setting's address was served, as the report
--- machine answers a write.
+-- The value is in the range of the name's setting, and one write of it at the setting's address was
+-- served, as the report machine answers a write.
 pub record IsWritten (settings : List Setting) (old : Device) (name : List ℕ) (value : ℕ) (new : Device) : Type 0 where
   pub setting : Setting
   pub named : IsNamed settings name setting
@@ -105,8 +105,8 @@ pub record IsWritten (settings : List Setting) (old : Device) (name : List ℕ) 
   pub answer : Written
   pub written : Writes old setting.numbers.address value (Ok answer) new
 
--- The store of the image was opened, and the value was written for the name's setting; so the write was served from the
--- state that the image says.
+-- The store of the image was opened, and the value was written for the name's setting; so the write
+-- was served from the state that the image says.
 pub record IsSet (old_image settings_text name : List ℕ) (value : ℕ) (new_image line : List ℕ) : Type 0 where
   pub device : Device
   pub store : Device
@@ -147,14 +147,14 @@ pub record IsUnknownIn (settings_text name : List ℕ) : Type 0 where
   pub spelled : SpellsSettings settings_text settings
   pub unknown : IsUnknown settings name
 
--- why an image isn't opened with a text of settings, the first cause that applies: no store is opened; or the text spells no
--- settings
+-- why an image isn't opened with a text of settings, the first cause that applies: no store is
+-- opened; or the text spells no settings
 abbrev pub IsOpenWithSettingsFault : List ℕ → List ℕ → Fault → Type 0
 IsOpenWithSettingsFault image settings_text fault =
     IsOpeningFault image fault ⊎ (HasStore image × IsSettingsFault settings_text fault)
 
--- why nothing is read, the first cause that applies: no store is opened; or the text spells no settings; or no setting has
--- the name
+-- why nothing is read, the first cause that applies: no store is opened; or the text spells no
+-- settings; or no setting has the name
 abbrev pub IsGetFault : List ℕ → List ℕ → List ℕ → Fault → Type 0
 IsGetFault image settings_text name fault =
     IsOpeningFault image fault
@@ -169,8 +169,8 @@ pub record IsRefusedIn (image settings_text name : List ℕ) (value : ℕ) (faul
   pub spelled : SpellsSettings settings_text settings
   pub refused : IsSettingRefused settings device.size (state_of device) name value fault
 
--- why nothing is set, the first cause that applies: no store is opened; or the text spells no settings; or the value is
--- refused
+-- why nothing is set, the first cause that applies: no store is opened; or the text spells no
+-- settings; or the value is refused
 abbrev pub IsSetFault : List ℕ → List ℕ → List ℕ → ℕ → Fault → Type 0
 IsSetFault image settings_text name value fault =
     IsOpeningFault image fault
@@ -184,7 +184,8 @@ abbrev pub IsReadingLine : List Setting → State → List ℕ → List ℕ → 
 IsReadingLine settings state name line =
     (reading : Reading) × IsSettingRead settings state name reading × (line ≡ line_of (reading_text reading))
 
--- the value was written for the name's setting, and the store left the image, with the line that says so
+-- the value was written for the name's setting, and the store left the image, with
+-- the line that says so
 pub record LeavesSet (settings : List Setting) (store : Device) (name : List ℕ) (value : ℕ) (image line : List ℕ) : Type 0 where
   pub last : Device
   pub written : IsWritten settings store name value last

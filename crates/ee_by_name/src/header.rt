@@ -11,9 +11,9 @@ use ee_faults::Fault;
 use ee_settings::Setting;
 use std::alloc::{AllocError, Allocator, Global};
 
-/// The settings that a text spells as constants of a program, as there is to print: for each its address,
-/// its least and its greatest value and its default, by rising name, and then a list of all of them.
-/// `heap` is for the tree of that text alone: `toml` takes no other allocator.
+/// The settings that a text spells as constants of a program, as there is to print: for each its
+/// address, its least and its greatest value and its default, by rising name, and then a list of
+/// all of them. `heap` is for the tree of that text alone: `toml` takes no other allocator.
 ///
 /// Source: ours.
 ///

@@ -1,8 +1,8 @@
 //! What holds of all settings and values. Each function does nothing: its contract is the law.
 ghost use Rattle.ee_by_name.specs.Applying.{ApplyingStoresValues, ApplyingTwiceWritesNothing};
 
-/// After entries were applied, the setting that each names has its value stored, and every other address
-/// has what it had.
+/// After entries were applied, the setting that each names has its value stored, and every other
+/// address has what it had.
 #[tactic(auto, using(crate::proofs::Stored::applying_stores_values_lem))]
 pub fn applying_stores_values()
     ensures { ApplyingStoresValues }

@@ -1,19 +1,20 @@
 //! Types the worked examples, and tells where the program answers otherwise.
 //!
-//! An example is a folder of `data/`: a `transcript` and the files that it begins with. Its name is its
-//! folder's. A line of the transcript that begins with `$ ` is a command, typed in the folder; the lines
-//! behind it are what it prints: standard output, then the line of a fault, then the status in brackets,
-//! where that isn't 0. The commands are
+//! An example is a folder of `data/`: a `transcript` and the files that it begins with. Its name is
+//! its folder's. A line of the transcript that begins with `$ ` is a command, typed in the folder;
+//! the lines behind it are what it prints: standard output, then the line of a fault, then the
+//! status in brackets, where that isn't 0. The commands are
 //!
 //!     $ ee WORD ..          the program; behind its words `< FILE` gives its input, `> FILE` takes its output
 //!     $ flock FILE ee ..    the program, while another opening of a file has its lock
 //!     $ cat FILE            what a file holds
 //!
-//! with one space between two words. What `ee run` does is done by `ee run --indexed` too, on a copy of
-//! the image, and both are to print and to leave the same.
+//! with one space between two words. What `ee run` does is done by `ee run --indexed` too, on a
+//! copy of the image, and both are to print and to leave the same.
 //!
-//! Standard input names the examples, one a line. `rt ci` lays a copy of `data/` where the program runs, so
-//! that what the commands write is thrown away. A round of each workload comes behind them.
+//! Standard input names the examples, one a line. `rt ci` lays a copy of `data/` where
+//! the program runs, so that what the commands write is thrown away. A round of each
+//! workload comes behind them.
 //!
 //!     ee_cases JOB SEED ROUNDS
 //!
@@ -62,8 +63,8 @@ fn try_all(rt: &HostRuntime, typist: &mut Typist<'_>, names: &str) -> io::Result
     Ok((passed, failed))
 }
 
-/// Types each example that is named, does a round of each workload, and tells how many examples went as
-/// they were to go.
+/// Types each example that is named, does a round of each workload, and tells how many examples
+/// went as they were to go.
 fn try_each(rt: &HostRuntime, names: &str) -> io::Result<u8> {
     let (passed, failed) = try_all(rt, &mut Typist::new(rt), names)?;
     show_each(rt)?;

@@ -9,8 +9,8 @@ const COPY: &str = "image-by-index";
 
 /// Who types commands, with what they print.
 ///
-/// An error is shown like what a command prints, and where memory is refused something is missing: the
-/// transcript then differs, and no step asks whether the one before it failed.
+/// An error is shown like what a command prints, and where memory is refused something is missing:
+/// the transcript then differs, and no step asks whether the one before it failed.
 #[derive(Drop)]
 pub struct Typist<'a> {
     rt: &'a HostRuntime,
@@ -128,8 +128,8 @@ impl<'a> Typist<'a> {
         }
     }
 
-    /// Runs `ee run --indexed` on a copy of the image, and then `ee run`, and shows if they print or leave
-    /// other things. Where there is no image to copy, it is `ee run` alone.
+    /// Runs `ee run --indexed` on a copy of the image, and then `ee run`, and shows if they print
+    /// or leave other things. Where there is no image to copy, it is `ee run` alone.
     fn run_both(&mut self, command: &str, image: &str, script: &str) {
         if fs::copy(self.rt, image, COPY).is_err() {
             return self.run(command);
@@ -178,8 +178,8 @@ impl<'a> Typist<'a> {
         }
     }
 
-    /// Runs the program on the words behind its name. Its status stands in brackets behind what it prints,
-    /// if that isn't 0.
+    /// Runs the program on the words behind its name. Its status stands in brackets behind what it
+    /// prints, if that isn't 0.
     fn run_words(&mut self) {
         let desk = Desk::new(self.rt, self.file.as_slice());
         let status = match self.words.as_slice() {

@@ -1,4 +1,5 @@
-//! What a user of `ee` waits for, on texts that are made from a seed: each job prints a digest of all that it gave.
+//! What a user of `ee` waits for, on texts that are made from a seed: each job prints a digest
+//! of all that it gave.
 //!
 //!     run          a firmware's day: writes, reads and forgettings on a thousand variables
 //!     brown-outs   a small part whose power is cut again and again
@@ -26,8 +27,8 @@ use reading_out::parts;
 use std::alloc::Global;
 use std::io;
 
-/// Does the job that is named, and prints its digest: so many rounds, each on inputs of its own. Gives
-/// whether the words are those of a job.
+/// Does the job that is named, and prints its digest: so many rounds, each on inputs of its own.
+/// Gives whether the words are those of a job.
 pub fn show_named(rt: &HostRuntime, name: &str, seed: &str, rounds: &str) -> io::Result<bool> {
     match (job_of(name), seed.parse(), rounds.parse()) {
         (Some(job), Ok(seed), Ok(rounds)) => {

@@ -1,5 +1,6 @@
--- No schedule gets by with fewer transfers than a certificate has stretches; and one that gets by with as many ends with as many slots used
--- as the last stretch leaves and the changes after it take.
+-- No schedule gets by with fewer transfers than a certificate has stretches; and one that
+-- gets by with as many ends with as many slots used as the last stretch leaves and the
+-- changes after it take.
 use Rattle.std.proofs.Common.{◌≡◌, ℕ, ◌+◌, ◌-◌, ◌<◌, ◌≤◌, ◌⊎◌, List, [], ◌∷◌, length, suc, refl, sym, ◌∙◌, ap, arith, inl, inr, rules}
 use Rattle.std.proofs.lemmas.Bool.{cases_lt}
 use Rattle.ee_check.specs.declared.change.Change.{Change}
@@ -21,7 +22,8 @@ abbrev pub EndsLater : ℕ → List Stretch → Type 0
 EndsLater n [] = Unit {0}
 EndsLater n (stretch ∷ stretches) = n < stretch.to
 
--- it has transferred more often than stretches have passed, or as often, and uses as many slots at least as the place says
+-- it has transferred more often than stretches have passed, or as often, and uses as many slots at
+-- least as the place says
 abbrev pub IsAhead : Situation → ℕ → ℕ → Place → ℕ → Type 0
 IsAhead s n spent place passed = (passed < spent) ⊎ ((passed ≡ spent) × (place.used + (n - place.after) ≤ s.fill))
 
@@ -29,7 +31,8 @@ IsAhead s n spent place passed = (passed < spent) ⊎ ((passed ≡ spent) × (pl
 abbrev pub end_from : Situation → List Change → Place → List Stretch → ℕ
 end_from start trace place stretches = let last = last_place start trace place stretches in last.used + (length trace - last.after)
 
--- A store in the middle of the trace, which has transferred so often, is behind no store: k stretches are forced in all.
+-- A store in the middle of the trace, which has transferred so often, is behind no store: k
+-- stretches are forced in all.
 pub record IsBound (start : Situation) (trace : List Change) (k used : ℕ) (s : Situation) (n spent : ℕ) : Type 0 where
   pub passed : ℕ
   pub place : Place
@@ -126,7 +129,8 @@ next_bound start trace k used s t n spent spent_then changes at goes bound = by 
                 behind = omega arith;
                 later = ends_later start trace (place_at start trace stretch.to) (n + 1) stretches each.1 e;
                 ahead = ahead_at_end start trace s t n spent spent_then bound.passed bound.place stretch bound.behind each.0 e
-                    (let c = count_now start trace t (n + 1) stretch.to changes at (sym e) in let h = at.held in omega arith) goes bound.ahead;
+                    (let c = count_now start trace t (n + 1) stretch.to changes at (sym e) in
+                    let h = at.held in omega arith) goes bound.ahead;
                 end = end;
               }
         ]
@@ -153,8 +157,10 @@ dominance start trace k used (Copy ∷ moves) s n spent total at bound allowed e
 dominance start trace k used (Append change ∷ moves) s n spent total at bound allowed e =
     let t : Situation = after_move s (Append change) in
     let here : IsAt start trace t (n + 1) (changes_of moves) =
-    at_next start trace s n (s.fill + 1) change (changes_of moves) at (let h = changed-le s.live change in let g = at.held in omega arith) in
-    let free : s.fill < start.slots = let h = at.slots in let g = allowed.0 in omega arith in
+    at_next start trace s n (s.fill + 1) change (changes_of moves) at (let h = changed-le s.live change in
+    let g = at.held in omega arith) in
+    let free : s.fill < start.slots = let h = at.slots in
+    let g = allowed.0 in omega arith in
     dominance start trace k used moves t (n + 1) spent total here
     (next_bound start trace k used s t n spent spent (changes_of moves) here (inl (refl, free, refl)) bound) allowed.1 e
 dominance start trace k used (Carry change ∷ moves) s n spent total at bound allowed e =

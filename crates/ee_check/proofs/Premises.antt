@@ -10,8 +10,8 @@ use Rattle.ee_check.proofs.Bounds.{schedules_keep_within_lem, tight_is_met_lem}
 abbrev no_slots : Situation
 no_slots = record { slots = 0; fill = 0; live = [] }
 
--- `some_is_tight` needs that the trace keeps within the slots: where there are none, a single write has no tight
--- certificate, since that would be met by a schedule
+-- `some_is_tight` needs that the trace keeps within the slots: where there are none, a single write
+-- has no tight certificate, since that would be met by a schedule
 pub some_is_tight_needs_slots : ((start : Situation) (trace : List Change) → IsProper start → (claim : Claim) × IsTight start trace claim) → ⊥
 some_is_tight_needs_slots law =
     let trace : List Change = Write 1 ∷ [] in

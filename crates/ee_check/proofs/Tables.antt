@@ -91,8 +91,10 @@ is_clear table entries e = record { as_many = ap length e ∙ length-replicate e
 sum_is : (n : ℕ) (table : List Bool) → length (addresses_from n table) ≡ sum_by bool_byte table
 unfolding addresses_from
 sum_is n [] = refl
-sum_is n (true ∷ table) = let rest = sum_is (n + 1) table in let s = sum_by-cons bool_byte true table in omega arith
-sum_is n (false ∷ table) = let rest = sum_is (n + 1) table in let s = sum_by-cons bool_byte false table in omega arith
+sum_is n (true ∷ table) = let rest = sum_is (n + 1) table in
+    let s = sum_by-cons bool_byte true table in omega arith
+sum_is n (false ∷ table) = let rest = sum_is (n + 1) table in
+    let s = sum_by-cons bool_byte false table in omega arith
 
 pub count-le : (n : ℕ) (table : List Bool) → length (addresses_from n table) ≤ length table
 unfolding addresses_from

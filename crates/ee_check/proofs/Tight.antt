@@ -1,5 +1,5 @@
--- The tight certificate: there is one where the trace keeps within the slots, there is no other, and the store that transfers exactly when each
--- slot is used meets it.
+-- The tight certificate: there is one where the trace keeps within the slots, there is no other,
+-- and the store that transfers exactly when each slot is used meets it.
 use Rattle.std.proofs.Common.{◌≡◌, ℕ, ◌+◌, ◌-◌, ◌≤◌, List, [], ◌∷◌, length, map, refl, sym, ◌∙◌, ap, subst, arith, inl, inr, rules}
 use Rattle.std.proofs.lemmas.Bool.{cases_lt}
 use Rattle.ee_check.specs.declared.change.Change.{Change}
@@ -10,7 +10,8 @@ use Rattle.ee_check.specs.Certificate.{Place, place_at, IsTightStretch, EachStre
 use Rattle.ee_check.proofs.Sizes.{changed-le, remove_key-le}
 use Rattle.ee_check.proofs.Dominance.{IsAt, at_next, count_now, end_from}
 
--- the store that transfers when each slot is used, in the middle of the trace: it uses what was used at the place, and a slot for each change since
+-- the store that transfers when each slot is used, in the middle of the trace: it uses what was
+-- used at the place, and a slot for each change since
 pub record IsLateAt (start : Situation) (trace : List Change) (s : Situation) (n : ℕ) (changes : List Change) (place : Place) : Type 0 where
   pub at : IsAt start trace s n changes
   pub behind : place.after ≤ n
@@ -26,9 +27,11 @@ place_fits start trace place (stretch ∷ stretches) each fits = search rules
 pub late_append : (start : Situation) (trace : List Change) (s : Situation) (n : ℕ) (change : Change) (changes : List Change) (place : Place)
     → IsLateAt start trace s n (change ∷ changes) place → IsLateAt start trace (after_move s (Append change)) (n + 1) changes place
 late_append start trace s n change changes place late = record {
-  at = at_next start trace s n (s.fill + 1) change changes late.at (let h = changed-le s.live change in let g = late.at.held in omega arith);
+  at = at_next start trace s n (s.fill + 1) change changes late.at (let h = changed-le s.live change in
+      let g = late.at.held in omega arith);
   behind = omega (arith, late.behind);
-  fill = let a = late.behind in let b = late.fill in omega arith;
+  fill = let a = late.behind in
+      let b = late.fill in omega arith;
 }
 
 pub late_carry : (start : Situation) (trace : List Change) (s : Situation) (n to : ℕ) (change : Change) (changes : List Change) (place : Place) → to ≡ n + 1
@@ -55,7 +58,10 @@ tight_from start trace (change ∷ changes) s n place late fits keeps =
           let stretch : Stretch = record { to = n + 1; from = place.used } in
           let here = late_carry start trace s n (n + 1) change changes place refl late in
           let more = tight_from start trace changes (after_move s (Carry change)) (n + 1) (place_at start trace (n + 1)) here next.0 next.1 in
-          let a = late.fill in let b = late.at.slots in let c = late.behind in let d = late.at.rest in
+          let a = late.fill in
+          let b = late.at.slots in
+          let c = late.behind in
+          let d = late.at.rest in
           let tight : IsTightStretch start trace place stretch = record { forced = record { rising = omega arith; within = omega arith; from_is = refl; forced = omega arith }; tight = omega arith } in
           (stretch ∷ more.0, (tight, more.1), more.2)
     ]
@@ -71,8 +77,12 @@ one_tight start trace place [] [] each fits every suits = refl
 one_tight start trace place [] (other ∷ others) each fits every suits = search rules
 one_tight start trace place (stretch ∷ stretches) [] each fits every suits = search rules
 one_tight start trace place (stretch ∷ stretches) (other ∷ others) each fits every suits =
-    let a = each.0.tight in let b = each.0.forced.from_is in let c = each.0.forced.rising in
-    let d = every.0.tight in let f = every.0.forced.from_is in let g = every.0.forced.rising in
+    let a = each.0.tight in
+    let b = each.0.forced.from_is in
+    let c = each.0.forced.rising in
+    let d = every.0.tight in
+    let f = every.0.forced.from_is in
+    let g = every.0.forced.rising in
     let to : stretch.to ≡ other.to = omega arith in
     let from : stretch.from ≡ other.from = omega arith in
     let here : EachStretch start trace IsTightStretch (place_at start trace stretch.to) others =

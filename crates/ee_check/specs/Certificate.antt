@@ -14,8 +14,8 @@ pub record Claim : Type 0 where
   pub writes : ℕ
   pub stretches : List Stretch
 
--- A place in the trace: so many changes stand before it, and a store that has made no more transfers than it had to
--- uses so many slots at least.
+-- A place in the trace: so many changes stand before it, and a store that has made no more
+-- transfers than it had to uses so many slots at least.
 pub record Place : Type 0 where
   pub after : ℕ
   pub used : ℕ
@@ -33,8 +33,8 @@ abbrev pub last_place : Situation → List Change → Place → List Stretch →
 last_place start trace place [] = place
 last_place start trace place (stretch ∷ stretches) = last_place start trace (place_at start trace stretch.to) stretches
 
--- The stretch goes on from the place to a later change of the trace, states how many slots are used there, and has more
--- changes than the slots that are free: no store appends them all.
+-- The stretch goes on from the place to a later change of the trace, states how many slots are used
+-- there, and has more changes than the slots that are free: no store appends them all.
 pub record IsForced (start : Situation) (trace : List Change) (place : Place) (stretch : Stretch) : Type 0 where
   pub rising : place.after < stretch.to
   pub within : stretch.to ≤ length trace
@@ -63,11 +63,13 @@ pub record IsCertificate (start : Situation) (trace : List Change) (claim : Clai
   pub header : IsCertificateHeader start trace claim
   pub stretches : EachStretch start trace IsForced (first_place start) claim.stretches
 
--- how many slots are used at the end at least, where no transfer more is made than the stretches force
+-- how many slots are used at the end at least, where no transfer more is made than
+-- the stretches force
 abbrev pub used_at_end : Situation → List Change → List Stretch → ℕ
 used_at_end start trace stretches = let last = last_place start trace (first_place start) stretches in last.used + (length trace - last.after)
 
--- a tight certificate: no stretch is longer than it must be, and after the last one all changes find a free slot
+-- a tight certificate: no stretch is longer than it must be, and after the last one all
+-- changes find a free slot
 pub record IsTight (start : Situation) (trace : List Change) (claim : Claim) : Type 0 where
   pub header : IsCertificateHeader start trace claim
   pub stretches : EachStretch start trace IsTightStretch (first_place start) claim.stretches

@@ -42,8 +42,8 @@ TightIsMet = (start : Situation) (trace : List Change) (claim : Claim) → IsPro
     → (moves : List Move) × IsSchedule start trace moves × (cost moves ≡ length claim.stretches)
     × ((after_moves start moves).fill ≡ used_at_end start trace claim.stretches)
 
--- The store that transfers exactly when each slot is used transfers at the changes at which the stretches of the tight
--- certificate end, and ends with as many slots used as it says.
+-- The store that transfers exactly when each slot is used transfers at the changes at which the
+-- stretches of the tight certificate end, and ends with as many slots used as it says.
 abbrev pub LateStoresMeetIt : Type 0
 LateStoresMeetIt = (start : Situation) (trace : List Change) (claim : Claim) (moves : List Move) → IsProper start → IsTight start trace claim
     → changes_of moves ≡ trace → EachMove IsLate start moves

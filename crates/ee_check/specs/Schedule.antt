@@ -1,11 +1,11 @@
--- Every store that appends each change and transfers by copying the live set: what it can do to a trace, and what that
--- costs.
+-- Every store that appends each change and transfers by copying the live set: what it can do to a
+-- trace, and what that costs.
 use Rattle.std.specs.Prelude.{◌≡◌, ℕ, ◌+◌, ◌<◌, ◌≤◌, List, [], ◌∷◌, length}
 use Rattle.ee_check.specs.declared.change.Change.{Change}
 use Rattle.ee_check.specs.declared.change.Change.TheVariants.{Write, Forget}
 use Rattle.ee_check.specs.Live.{live_after_one}
 
--- all that matters of a store: how many slots a set has, how many of the live set's are used, and the live addresses
+-- all that matters of a store: a set's slots, how many the live set uses, and the live addresses
 pub record Situation : Type 0 where
   pub slots : ℕ
   pub fill : ℕ
@@ -16,7 +16,7 @@ pub record IsProper (s : Situation) : Type 0 where
   pub held : length s.live ≤ s.fill
   pub fits : s.fill ≤ s.slots
 
--- what a store can do: copy the live set, append a change, or copy the live set and carry a change along
+-- what a store can do: copy the live set, append a change, or carry a change along with such a copy
 pub data Move : Type 0 where
   Copy : Move
   Append : Change → Move
@@ -59,7 +59,7 @@ cost (Copy ∷ moves) = cost moves + 1
 cost (Append change ∷ moves) = cost moves
 cost (Carry change ∷ moves) = cost moves + 1
 
--- The moves take a store from the start through the trace. Transfers may stand anywhere, and be as many as one likes.
+-- The moves take a store from the start through the trace, with any number of transfers anywhere.
 pub record IsSchedule (start : Situation) (trace : List Change) (moves : List Move) : Type 0 where
   pub allowed : EachMove IsAllowed start moves
   pub changes : changes_of moves ≡ trace

@@ -69,7 +69,8 @@ NoFirstLine text = (claim : Claim) (more : List ℕ) → IsClaim claim → text 
 abbrev pub NoStretch : List ℕ → Type 0
 NoStretch text = (stretch : Stretch) (more : List ℕ) → IsStretch stretch → text ≢ line_of (stretch_text stretch) ++ more
 
--- after the first line and the lines of these stretches comes neither a stretch's line nor the last line
+-- after the first line and the lines of these stretches comes neither a stretch's
+-- line nor the last line
 pub record BreaksOff (text : List ℕ) (n : ℕ) : Type 0 where
   pub claim : Claim
   pub rest : List ℕ
@@ -88,7 +89,8 @@ pub record TextGoesOn (text : List ℕ) (n : ℕ) : Type 0 where
   pub goes_on : rest ≢ []
   pub number : n ≡ length claim.stretches + 3
 
--- Line n is the first bad one. A line that isn't ended by a line feed is bad, and so is one that is missing.
+-- Line n is the first bad one. A line that isn't ended by a line feed is bad, and so is
+-- one that is missing.
 abbrev pub IsFirstBadCertificateLine : List ℕ → ℕ → Type 0
 IsFirstBadCertificateLine text n = (NoFirstLine text × (n ≡ 1)) ⊎ (BreaksOff text n ⊎ TextGoesOn text n)
 

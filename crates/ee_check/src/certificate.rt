@@ -1,4 +1,5 @@
-//! A claim that a trace takes so many transfers at least: stretches of it, each of which forces one.
+//! A claim that a trace takes so many transfers at least: stretches of it, each of which forces
+//! one.
 use std::alloc::{Allocator, Global};
 
 /// A part of a trace in which no store gets by without a transfer.
@@ -10,7 +11,8 @@ pub struct Stretch {
     pub from: u64,
 }
 
-/// A claim that a trace takes so many transfers at least, one for each stretch. `check` says whether it holds.
+/// A claim that a trace takes so many transfers at least, one for each stretch. `check`
+/// says whether it holds.
 #[derive(Drop)]
 pub struct Certificate<A: Allocator = Global> {
     /// The slots of a set.

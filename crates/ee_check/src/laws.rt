@@ -2,7 +2,8 @@
 //! does nothing: its contract is the law.
 ghost use Rattle.ee_check.specs.Laws.{CertificatesBoundSchedules, CertificatesDominate, SchedulesKeepWithin, TightAreCertificates, OneIsTight, SomeIsTight, TightIsMet, LateStoresMeetIt, OneText, OneFirstBadLine, TextsAreGood};
 
-/// Every schedule of the trace costs at least as many transfers as a certificate of it has stretches.
+/// Every schedule of the trace costs at least as many transfers as a certificate of it has
+/// stretches.
 pub fn certificates_bound_schedules()
     ensures { CertificatesBoundSchedules }
 {}
@@ -13,7 +14,8 @@ pub fn certificates_dominate()
     ensures { CertificatesDominate }
 {}
 
-/// A trace keeps within the slots wherever it has a schedule; by `some_is_tight` and `tight_is_met`, nowhere else.
+/// A trace keeps within the slots wherever it has a schedule; by `some_is_tight` and
+/// `tight_is_met`, nowhere else.
 pub fn schedules_keep_within()
     ensures { SchedulesKeepWithin }
 {}

@@ -11,8 +11,9 @@ use std::alloc::{AllocError, Allocator, Global};
 use std::collections::BTreeSet;
 use std::marker::Model;
 
-/// So many changes of an ordered set pay for a table, and so do as many addresses that would be copied to a set. A
-/// table takes 64 KB and some 66000 instructions to make, and then each change takes 100 to 300 fewer than in a set.
+/// So many changes of an ordered set pay for a table, and so do as many addresses that would be
+/// copied to a set. A table takes 64 KB and some 66000 instructions to make, and then each change
+/// takes 100 to 300 fewer than in a set.
 const PAYS_FOR_A_TABLE: u64 = 1024;
 
 /// What the live addresses are kept in.
@@ -22,8 +23,9 @@ enum Form<A: Allocator> {
     Table(LiveTable<A>),
 }
 
-/// The live addresses of a trace, while its changes are made: an ordered set, and once so many changes were made that
-/// it pays a table of all addresses, of 64 KB. It stays the set where there is no memory for the table. Source: ours.
+/// The live addresses of a trace, while its changes are made: an ordered set, and once so many
+/// changes were made that it pays a table of all addresses, of 64 KB. It stays the set where there
+/// is no memory for the table. Source: ours.
 #[derive(Drop)]
 pub struct LiveSet<A: Allocator = Global> {
     alloc: A,
@@ -53,8 +55,8 @@ impl<A: Allocator + Copy> LiveSet<A> {
         }
     }
 
-    /// The live addresses of a start, for so many changes. Many addresses are a table at once, unless
-    /// there are no changes.
+    /// The live addresses of a start, for so many changes. Many addresses are a table at once,
+    /// unless there are no changes.
     ///
     /// # Errors
     ///

@@ -32,7 +32,8 @@ impl<A: Allocator> Model for Start<A> {
 }
 
 impl<A: Allocator> Start<A> {
-    /// A start, or `None` if `slots` isn't 1 to 32512, or `fill` isn't the number of the live addresses to `slots`.
+    /// A start, or `None` if `slots` isn't 1 to 32512, or `fill` isn't the number of the live
+    /// addresses to `slots`.
     pub fn new(slots: u64, fill: u64, live: BTreeSet<Address, A>) -> Option<Start<A>>
         ensures { SomeIff result
             (IsStart record { slots = slots; fill = fill; live = live.keys })

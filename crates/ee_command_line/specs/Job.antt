@@ -80,7 +80,8 @@ IsCount count = (1 ≤ count) × (count < 2 ^ 32)
 unfoldable pub IsBase : ℕ → Type 0
 IsBase base = (base < 2 ^ 32) × (base % 8 ≡ 0)
 
--- the bytes of a part of this size: 16 for each word of one set, and 32 where it has each word beside its complement
+-- the bytes of a part of this size: 16 for each word of one set, and 32 where it has each word
+-- beside its complement
 abbrev pub part_bytes : Bool → Size → ℕ
 part_bytes false size = 16 * (size.pages * size.words)
 part_bytes true size = 32 * (size.pages * size.words)
@@ -93,9 +94,9 @@ EndsWithin pairs size base = base + part_bytes pairs size ≤ 2 ^ 32
 unfoldable pub HasBase : List ℕ → ℕ → Type 0
 HasBase word base = decode_of word ≡ Ok (to_be_bytes w32 base)
 
--- its size is within the limits, its value has 32 bits, its base is one, from which a part that is imported ends within 32 bits,
--- an image to export is not named `--pairs`, one to run on is not named `--indexed`, settings to tell are not named `--rust`,
--- and cycles and runs are counts
+-- its size is within the limits, its value has 32 bits, its base is one, from which a part that is
+-- imported ends within 32 bits, an image to export is not named `--pairs`, one to run on is not
+-- named `--indexed`, settings to tell are not named `--rust`, and cycles and runs are counts
 abbrev pub IsRow : Row → Type 0
 IsRow (Try size) = IsWithinLimits size
 IsRow (Format size image) = IsWithinLimits size

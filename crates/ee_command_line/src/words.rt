@@ -9,8 +9,8 @@ use ee_text::number_up_to;
 use hex::FromHex;
 
 /// The job that the words ask for. None where they spell no command. Pages are 1 to 64, words of a
-/// page 5 to 512 and a value 0 to 4294967295, in decimal, with no sign and no zero in front. A base is a
-/// multiple of 8 of 32 bits, in eight hexadecimal digits.
+/// page 5 to 512 and a value 0 to 4294967295, in decimal, with no sign and no zero in front. A base
+/// is a multiple of 8 of 32 bits, in eight hexadecimal digits.
 ///
 /// Source: ours.
 pub fn job<'a>(words: &[&'a str]) -> Option<Job<'a>>
@@ -369,7 +369,8 @@ fn digits_of(word: &str) -> Option<u32>
     }
 }
 
-/// The base that a word spells, where a part of this size that begins there ends within the addresses of 32 bits.
+/// The base that a word spells, where a part of this size that begins there ends within the
+/// addresses of 32 bits.
 #[tactic(auto, unfolding(crate::specs::Job::EndsWithin))]
 fn base_for(pairs: bool, shape: Shape, word: &str) -> Option<u32>
     ensures found { IfSome result (λ base. IsBase base × EndsWithin pairs shape base × HasBase word.now base) }

@@ -1,4 +1,5 @@
--- A store makes every change that it is asked for, as the late store does, while the changes fit and generations are left.
+-- A store makes every change that it is asked for, as the late store does, while the changes fit
+-- and generations are left.
 use Rattle.std.proofs.Common.{◌≡◌, ◌∙◌, ℕ, ◌+◌, ◌<◌, ◌≤◌, true, false, cond, Ok, Err, None, List, [], ◌∷◌, length, refl, sym, subst, ap, arith, rules}
 use Rattle.std.proofs.lemmas.List.Elements.{All-tail}
 use Rattle.std.specs.List.{All}
@@ -50,7 +51,8 @@ still_fits : (now : Situation) (change : Change) (trace : List Change) → IsPro
 still_fits now (changes.Write address) trace proper keeps = keeps.0
 still_fits now (changes.Forget address) trace proper keeps = forgetting_fits now address proper
 
--- the calls ask for what the late store does from here by these moves, and a generation is left for each of its transfers
+-- the calls ask for what the late store does from here by these moves, and a generation is left for
+-- each of its transfers
 pub record IsAt (device : Device) (now : Situation) (moves : List Move) (trace : List Change) : Type 0 where
   pub on : IsOn device
   pub start : IsStartOf (slot_count device.size) (state_of device) now
@@ -96,7 +98,9 @@ module _ (old mid : Device) (call : Call) (calls : List Call) where
     appends_all still done then = λ now moves before.
         let here = subst (λ l. IsAt old now moves l) asked before in
         let turn = next moves now change (asked_by_calls calls) here.late here.changes_are in
-        let free : now.fill < now.slots = let a = here.start.fill_is in let b = here.start.slots_are in let c = done.free in omega arith in
+        let free : now.fill < now.slots = let a = here.start.fill_is in
+        let b = here.start.slots_are in
+        let c = done.free in omega arith in
         let more = changed-le now.live change in
         let moved_on = appends old.size (state_of old) (state_of mid) now change meant done.state_is (keeps now here.start) here.start in
         let late = turn.appended free in
@@ -118,7 +122,9 @@ module _ (old mid : Device) (call : Call) (calls : List Call) where
     moves_all turns done then = λ now moves before.
         let here = subst (λ l. IsAt old now moves l) asked before in
         let turn = next moves now change (asked_by_calls calls) here.late here.changes_are in
-        let used : now.fill ≡ now.slots = let a = here.start.fill_is in let b = here.start.slots_are in let c = done.needed in omega arith in
+        let used : now.fill ≡ now.slots = let a = here.start.fill_is in
+        let b = here.start.slots_are in
+        let c = done.needed in omega arith in
         let moved_on = moves_on old.size (state_of old) (state_of mid) now change meant done.state_is (keeps now here.start) here.start in
         let late = turn.carried used in
         let generation : (state_of mid).generation ≡ (state_of old).generation + 1 = ap (λ (s : State). s.generation) done.state_is in

@@ -1,5 +1,5 @@
--- Calls that ask for the changes of a trace move the map no more often than any schedule of that trace does, whatever they
--- are answered.
+-- Calls that ask for the changes of a trace move the map no more often than any schedule of that
+-- trace does, whatever they are answered.
 use Rattle.std.proofs.Common.{◌≡◌, ◌≢◌, ◌⊎◌, ◌∙◌, inl, inr, ℕ, zero, suc, ◌+◌, ◌≤◌, Bool, true, false, cond, eqb, is_some, Ok, Err, Option, Some, None, List, [], ◌∷◌, length, refl, sym, subst, ap, arith, rules}
 use Rattle.std.proofs.lemmas.Bool.{cases_eq, ne_eqb}
 use Rattle.ee_flash.specs.Device.{Device, IsOff}
@@ -93,8 +93,8 @@ no_more_moves (call ∷ calls) old new run whole done =
 
 -- ---- the first change of a schedule
 
--- How a schedule makes its first change: with so many transfers, of which the last may carry it along; without one it is
--- appended. Then come the other moves.
+-- How a schedule makes its first change: with so many transfers, of which the last may carry it
+-- along; without one it is appended. Then come the other moves.
 record IsTurn (start : Situation) (change : Change) (later : List Change) (moves : List Move) : Type 0 where
   next : Situation
   more : List Move
@@ -115,7 +115,11 @@ turn : (moves : List Move) (start : Situation) (change : Change) (later : List C
     → IsProper start → IsTurn start change later moves
 turn [] start change later allowed same proper = absurd cc
 turn (Copy ∷ moves) start change later allowed same proper =
-    let copied : IsProper (after_move start Copy) = record { held = omega arith; fits = let a = proper.held in let b = proper.fits in omega arith } in
+    let copied : IsProper (after_move start Copy) = record {
+      held = omega arith;
+      fits = let a = proper.held in
+          let b = proper.fits in omega arith;
+    } in
     let behind = turn moves (after_move start Copy) change later allowed.1 same copied in
     record {
       next = behind.next;
@@ -163,8 +167,8 @@ turn (Carry first ∷ moves) start change later allowed same proper =
 
 -- ---- a store beside a schedule
 
--- Each address that has a value in the store is live in the schedule. The store has moved the map less often, or as often
--- and has no more slots used.
+-- Each address that has a value in the store is live in the schedule. The store has moved the map
+-- less often, or as often and has no more slots used.
 pub record IsBelow (device : Device) (moved : ℕ) (now : Situation) (spent : ℕ) : Type 0 where
   pub wide : Map
   pub live : AreLive wide now.live
@@ -308,7 +312,8 @@ unwritten (DidRead address answer) calls old mid new plain done run whole are st
     none_done old mid (DidRead address answer) calls refl still same (later are)
 
 pub bounded : (calls : List Call) (old new : Device) → IsRun calls old new → ArePlain calls → AreProper (asked_by_calls calls) → IsBounded old calls
-bounded [] old new run whole are = λ now moves moved spent allowed same below. let few = below.few in let none : transfers [] ≡ 0 = refl in omega (arith, few, none)
+bounded [] old new run whole are = λ now moves moved spent allowed same below. let few = below.few in
+    let none : transfers [] ≡ 0 = refl in omega (arith, few, none)
 bounded (call ∷ calls) old new run whole are =
     let mid = run.0 in
     let trace = asked_by_calls calls in

@@ -4,7 +4,7 @@ use Rattle.ee_flash.specs.Device.{Device}
 use Rattle.ee_flash.specs.Size.{Size}
 use Rattle.ee_flash.specs.declared.word.Word.{Word}
 use Rattle.ee_flash.specs.declared.word.Word.TheVariants.{Erased, Held, Torn}
-use Rattle.ee_pages.specs.Meaning.{later, latest_in, live_in, value_said}
+use Rattle.ee_pages.specs.Meaning.{later_of, latest_in, live_in, value_said}
 use Rattle.ee_pages.specs.Sets.{fill_of, set_of, slots_of}
 use Rattle.ee_pages.specs.declared.side.Side.{Side}
 use Rattle.ee_core.specs.Emptying.{Clears}
@@ -22,7 +22,7 @@ use Rattle.ee_commands.specs.Clearing.{IsClearFault, IsClearedImage, IsSpentStor
 -- where no slot is used, none says anything
 silent : (slots : List Word) (address : ℕ) → fill_of slots ≡ 0 → latest_in slots address ≡ None
 silent [] address none = refl
-silent (Erased ∷ slots) address none = ap (λ said. later None said) (silent slots address none)
+silent (Erased ∷ slots) address none = ap (λ said. later_of None said) (silent slots address none)
 silent (Held number ∷ slots) address none = absurd (omega (arith, none))
 silent (Torn ∷ slots) address none = absurd (omega (arith, none))
 

@@ -1,4 +1,5 @@
--- The text of a ledger grows by a page at a time; and there is one cause at most for which no wear is told.
+-- The text of a ledger grows by a page at a time; and there is one cause at most for
+-- which no wear is told.
 use Rattle.std.proofs.Common.{◌≡◌, ◌≢◌, ◌∙◌, ◌⊎◌, ◌+◌, ◌<◌, ℕ, zero, suc, Option, Some, None, List, [], ◌∷◌, ◌++◌, length, take, inl, inr, refl, sym, ap, arith, add-one, append_assoc, Result, Ok, Err, IfErr, IfOk, MatchResult, rules}
 use Rattle.std.proofs.lemmas.Grind.{common_steps}
 use Rattle.std.specs.Prelude.{slice_index}
@@ -58,7 +59,8 @@ same_wear : (text : List ℕ) (device other : Device) → SpellsDevice text devi
 same_wear text device other spelled again =
     ap (λ (d : Device). d.wear) (one_device_lem other device again.formed spelled.formed (sym again.text_is ∙ spelled.text_is))
 
--- what is wrong with the difference of two devices, of which the texts spell, is so of those that they spell too
+-- what is wrong with the difference of two devices, of which the texts spell, is so of those
+-- that they spell too
 moved_cause : (image before : List ℕ) (fault : Fault) (device old : Device) (wrong : IsDifferenceFault image before fault)
     → SpellsDevice image device → SpellsDevice before old
     → IsSinceFault old.wear device.wear wrong.cause

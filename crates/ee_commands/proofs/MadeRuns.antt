@@ -58,7 +58,8 @@ repeated_proper (suc more) trace are = both_proper trace (repeated_trace more tr
 
 -- ---- calls of a store that transfers when it must
 
--- The calls made their changes by moves of the late store, of which as many carry a change as calls moved the map.
+-- The calls made their changes by moves of the late store, of which as many carry a change as
+-- calls moved the map.
 pub record IsLateOf (start : Situation) (calls : List Call) : Type 0 where
   pub moves : List Move
   pub changes_are : changes_of moves ≡ made_by_calls calls
@@ -132,7 +133,9 @@ carry_then : (old mid : Device) (start : Situation) (call : Call) (calls : List 
     → (is : Starts old start) → AreLive (meaning.map_after meant (state_of old).map) (live_after_one start.live change) → length (live_after_one start.live change) ≤ start.slots
     → Follows mid (after_move start (Carry change)) calls → IsLateOf start (call ∷ calls)
 carry_then old mid start call calls change meant one moved done is live fits follows =
-    let used : start.fill ≡ start.slots = let a = is.fill_is in let b = is.slots_are in let c = done.needed in omega arith in
+    let used : start.fill ≡ start.slots = let a = is.fill_is in
+    let b = is.slots_are in
+    let c = done.needed in omega arith in
     let kept : IsProper (after_move start (Carry change)) = record { held = omega arith; fits = fits } in
     let here = moves_on old.size (state_of old) (state_of mid) start change meant done.state_is live is in
     let there : Starts mid (after_move start (Carry change)) =

@@ -1,4 +1,5 @@
--- An image gives one start and a script one trace, so a plan and a check have one cause at most for which they fail.
+-- An image gives one start and a script one trace, so a plan and a check have one cause at most
+-- for which they fail.
 use Rattle.std.proofs.Common.{◌≡◌, ◌≢◌, ◌⊎◌, inl, inr, ℕ, Bool, true, None, List, refl, sym, ap, ◌∙◌, subst, rules}
 use Rattle.std.proofs.lemmas.Cmp.{nat_cmp_total}
 use Rattle.std.proofs.lemmas.List.Elements.{All-contains}
@@ -200,7 +201,8 @@ pub is_task : (image text : List ℕ) (store : Device) (start : Situation) (trac
     → IsTrace text trace → IsTask image text start trace
 is_task image text store start trace opened start_is trace_is = search rules
 
--- the trace, by another name; that they are one is found anew at each call, so that another trace leaves a goal open
+-- the trace, by another name; that they are one is found anew at each call, so that another
+-- trace leaves a goal open
 pub trace_renamed : (image text : List ℕ) (start : Situation) (trace other : List Change) → IsTask image text start trace → trace ≡ other → IsTask image text start other
 trace_renamed image text start trace other task same = subst (λ changes. IsTask image text start changes) same task
 

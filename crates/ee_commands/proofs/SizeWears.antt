@@ -9,7 +9,7 @@ use Rattle.ee_check.proofs.Public.{changed-le}
 use Rattle.ee_check.specs.declared.change.Change.{Change}
 use Rattle.ee_check.specs.Schedule.{Append, Carry, Copy, EachMove, IsAllowed, IsProper, Move, Situation, after_move, changes_of, cost}
 use Rattle.ee_plan.proofs.Public.{fewest_transfers_wear_lem}
-use Rattle.ee_planner.specs.Rounds.{IsFewest, fresh}
+use Rattle.ee_planner.specs.Rounds.{IsFewest, unused_situation}
 use Rattle.ee_planner.specs.declared.demand.Demand.{Demand}
 use Rattle.ee_planner.specs.declared.demand.Demand.TheVariants.{Transfers, NotFitting}
 use Rattle.ee_commands.specs.Sizing.{AreDemands, AreWears, EachWears, limit_for, least_for}
@@ -17,12 +17,17 @@ use Rattle.ee_commands.proofs.AskedRuns.{carried_fits}
 
 -- ---- how many changes so many transfers take
 
--- between its transfers a schedule makes no more changes than a set has slots, and each transfer carries one at the most
+-- between its transfers a schedule makes no more changes than a set has slots, and each transfer
+-- carries one at the most
 changes_in_slots : (moves : List Move) (start : Situation) → IsProper start → EachMove IsAllowed start moves
     → length (changes_of moves) + start.fill ≤ start.slots + (start.slots + 1) * cost moves
 changes_in_slots [] start proper allowed = omega (arith, proper.fits)
 changes_in_slots (Copy ∷ moves) start proper allowed =
-    let copied : IsProper (after_move start Copy) = record { held = omega arith; fits = let a = proper.held in let b = proper.fits in omega arith } in
+    let copied : IsProper (after_move start Copy) = record {
+      held = omega arith;
+      fits = let a = proper.held in
+          let b = proper.fits in omega arith;
+    } in
     let behind = changes_in_slots moves (after_move start Copy) copied allowed.1 in
     omega (arith, behind, proper.fits)
 changes_in_slots (Append change ∷ moves) start proper allowed =
@@ -58,9 +63,9 @@ limit_below pages words changes transfers few = search (rules, below, cases_eq, 
 
 -- ---- each size
 
-wears_of : (pages words : ℕ) (trace : List Change) (transfers : ℕ) → IsFewest (fresh (slot_count (size_of pages words))) trace transfers → AreWears pages words trace transfers
+wears_of : (pages words : ℕ) (trace : List Change) (transfers : ℕ) → IsFewest (unused_situation (slot_count (size_of pages words))) trace transfers → AreWears pages words trace transfers
 wears_of pages words trace transfers fewest =
-    let start = fresh (slot_count (size_of pages words)) in
+    let start = unused_situation (slot_count (size_of pages words)) in
     let reached = fewest.reached in
     let counted = changes_in_slots reached.0 start (record { held = omega arith; fits = omega arith }) reached.1.allowed in
     let whole : length (changes_of reached.0) ≡ length trace = ap length reached.1.changes in

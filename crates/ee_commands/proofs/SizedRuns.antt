@@ -1,4 +1,5 @@
--- A store that was just formatted wears as the line of its size tells, and makes what it is asked for.
+-- A store that was just formatted wears as the line of its size tells, and makes
+-- what it is asked for.
 use Rattle.std.proofs.Common.{◌≡◌, ◌∙◌, inl, inr, ℕ, ◌+◌, ◌<◌, ◌≤◌, Bool, false, None, leb, List, [], ◌∷◌, ◌++◌, length, refl, sym, subst, ap, arith, rules}
 use Rattle.std.proofs.lemmas.Bool.{and_parts, cases_eq, leb-true, ltb-false}
 use Rattle.std.specs.List.{All}
@@ -15,7 +16,7 @@ use Rattle.ee_check.specs.Live.{KeepsWithin}
 use Rattle.ee_check.specs.Schedule.{IsProper, Situation, cost}
 use Rattle.ee_planner.proofs.Public.{none_breaks}
 use Rattle.ee_plan.proofs.Public.{length_map, none_sorted}
-use Rattle.ee_planner.specs.Rounds.{IsDemand, fresh, repeated_trace}
+use Rattle.ee_planner.specs.Rounds.{IsDemand, repeated_trace, unused_situation}
 use Rattle.ee_plan.specs.Start.{AreLive, IsStartOf}
 use Rattle.ee_planner.specs.declared.demand.Demand.{Demand}
 use Rattle.ee_planner.specs.declared.demand.Demand.TheVariants.{Transfers, NotFitting}
@@ -34,17 +35,17 @@ record IsAmong (words pages first : ℕ) (trace : List Change) (demands : List D
   larger : List Demand
   parts : demands ≡ smaller ++ demand ∷ larger
   place : pages ≡ first + length smaller
-  demanded : IsDemand (fresh (slot_count (size_of pages words))) trace demand
+  demanded : IsDemand (unused_situation (slot_count (size_of pages words))) trace demand
 
 first_of : (words pages first : ℕ) (trace : List Change) (demand : Demand) (demands : List Demand) → pages ≡ first
-    → IsDemand (fresh (slot_count (size_of first words))) trace demand → IsAmong words pages first trace (demand ∷ demands)
+    → IsDemand (unused_situation (slot_count (size_of first words))) trace demand → IsAmong words pages first trace (demand ∷ demands)
 first_of words pages first trace demand demands here demanded = record {
   smaller = [];
   demand = demand;
   larger = demands;
   parts = refl;
   place = omega (arith, here);
-  demanded = subst (λ n. IsDemand (fresh (slot_count (size_of n words))) trace demand) (sym here) demanded;
+  demanded = subst (λ n. IsDemand (unused_situation (slot_count (size_of n words))) trace demand) (sym here) demanded;
 }
 
 further_of : (words pages first : ℕ) (trace : List Change) (demand : Demand) (demands : List Demand) → IsAmong words pages (first + 1) trace demands
@@ -68,12 +69,12 @@ among words pages first trace (demand ∷ demands) low high are = elim (cases_eq
 
 -- and what is demanded of a size, by its place among all
 demand_at : (words first : ℕ) (trace : List Change) (smaller larger : List Demand) (demand : Demand) → AreDemands words trace first (smaller ++ demand ∷ larger)
-    → IsDemand (fresh (slot_count (size_of (first + length smaller) words))) trace demand
+    → IsDemand (unused_situation (slot_count (size_of (first + length smaller) words))) trace demand
 demand_at words first trace [] larger demand are = search rules
 demand_at words first trace (one ∷ smaller) larger demand are = search (rules, (demand_at words (first + 1) trace smaller larger demand are.1))
 
 demanded_there : (words pages : ℕ) (trace : List Change) (most : ℕ) (demands : List Demand) → IsDemandOf pages demands (Transfers most) → AreDemands words trace 1 demands
-    → IsDemand (fresh (slot_count (size_of pages words))) trace (Transfers most)
+    → IsDemand (unused_situation (slot_count (size_of pages words))) trace (Transfers most)
 demanded_there words pages trace most demands line are = search (rules, demand_at)
 
 -- what the changes demand is what the calls did
@@ -93,15 +94,15 @@ did_so start trace (NotFitting n) calls proper late same demanded =
 none_live : AreLive (λ address. None) []
 none_live = search (rules, none_sorted)
 
-empty_start : (slots : ℕ) (state : State) → state ≡ formatted_state → IsStartOf slots state (fresh slots)
+empty_start : (slots : ℕ) (state : State) → state ≡ formatted_state → IsStartOf slots state (unused_situation slots)
 empty_start slots state same =
-    subst (λ (s : State). IsStartOf slots s (fresh slots)) (sym same) (record { slots_are = refl; fill_is = refl; are_live = none_live })
+    subst (λ (s : State). IsStartOf slots s (unused_situation slots)) (sym same) (record { slots_are = refl; fill_is = refl; are_live = none_live })
 
-empty_proper : (slots : ℕ) → IsProper (fresh slots)
+empty_proper : (slots : ℕ) → IsProper (unused_situation slots)
 empty_proper slots = record { held = omega arith; fits = omega arith }
 
 -- a store beside a schedule, before the first change
-both_begin : (device : Device) → state_of device ≡ formatted_state → IsBelow device 0 (fresh (slot_count device.size)) 0
+both_begin : (device : Device) → state_of device ≡ formatted_state → IsBelow device 0 (unused_situation (slot_count device.size)) 0
 both_begin device same = search (rules, empty_proper, none_live)
 
 -- where the calls moved the map no more often than a line tells
@@ -133,7 +134,7 @@ each_size_wears_as_told_lem text told cycles runs most some_enough calls blank o
     let are = subst AreProper (sym asked) (all_proper words cycles runs text told some_enough sized) in
     let demanded = demanded_there words old.size.pages trace most sized.demands line sized.demanded in
     let reached = demanded.1.reached in
-    let few = bounded calls old new whole.run (both_plain calls whole.without_cuts unlisted) are (fresh (slot_count old.size)) reached.0 0 0 reached.1.allowed (reached.1.changes ∙ sym asked)
+    let few = bounded calls old new whole.run (both_plain calls whole.without_cuts unlisted) are (unused_situation (slot_count old.size)) reached.0 0 0 reached.1.allowed (reached.1.changes ∙ sym asked)
     (both_begin old formats.state_is) in
     wears cycles most calls blank old new formats whole (omega (arith, few, reached.2))
 
@@ -147,9 +148,9 @@ each_size_moves_as_told_lem text told cycles runs some_enough calls blank old ne
     let trace = repeated_trace runs sized.trace in
     let limits = formats.store.legal.2.formed.within_limits in
     let are = subst AreProper (sym made) (all_proper words cycles runs text told some_enough sized) in
-    let late = late_calls calls old new (fresh slots) whole.run (both_plain calls whole.without_cuts unlisted) are (empty_start slots (state_of old) formats.state_is) (empty_proper slots) in
+    let late = late_calls calls old new (unused_situation slots) whole.run (both_plain calls whole.without_cuts unlisted) are (empty_start slots (state_of old) formats.state_is) (empty_proper slots) in
     let here = among words old.size.pages 1 trace sized.demands limits.some_pages (omega (arith, limits.few_pages, sized.each_size)) sized.demanded in
-    let did = did_so (fresh slots) trace here.demand calls (empty_proper slots) late made here.demanded in
+    let did = did_so (unused_situation slots) trace here.demand calls (empty_proper slots) late made here.demanded in
     let line : IsDemandOf old.size.pages sized.demands (Transfers (transfers calls)) = record { smaller = here.smaller; larger = here.larger; parts = here.parts ∙ ap (λ d. here.smaller ++ d ∷ here.larger) did; place = here.place } in
     (line, wears cycles (transfers calls) calls blank old new formats whole (omega arith))
 
@@ -164,7 +165,7 @@ pub each_size_is_made_as_told_lem : (text told : List ℕ) (cycles runs most : �
     → (made_by_calls calls ≡ repeated_trace runs sized.trace) × (transfers calls ≡ most)
 each_size_is_made_as_told_lem text told cycles runs most some_enough calls blank old new sized line formats on whole unlisted given asked held left =
     let words = old.size.words in
-    let start = fresh (slot_count old.size) in
+    let start = unused_situation (slot_count old.size) in
     let trace = repeated_trace runs sized.trace in
     let are = subst AreProper (sym asked) (all_proper words cycles runs text told some_enough sized) in
     let demanded = demanded_there words old.size.pages trace most sized.demands line sized.demanded in

@@ -5,7 +5,7 @@ use Rattle.std.proofs.lemmas.List.{take_more, length-take-le, append-nil}
 use Rattle.ee_flash.specs.Size.{size_of, slot_count}
 use Rattle.ee_text.specs.Line.{line_of}
 use Rattle.ee_check.specs.declared.change.Change.{Change}
-use Rattle.ee_planner.specs.Rounds.{IsDemand, fresh}
+use Rattle.ee_planner.specs.Rounds.{IsDemand, unused_situation}
 use Rattle.ee_planner.specs.declared.demand.Demand.{Demand}
 use Rattle.ee_script.specs.declared.session.ScriptFault.{ScriptFault}
 use Rattle.ee_faults.specs.Fault.{fault_of_script}
@@ -18,7 +18,7 @@ use Rattle.ee_commands.proofs.OneTask.{one_name, one_trace_fault, other_cause, t
 -- ---- one size further
 
 pub demands_grow : (words : ℕ) (trace : List Change) (pages next : ℕ) (demands : List Demand) (demand : Demand) → AreDemands words trace pages demands
-    → next ≡ pages + length demands → IsDemand (fresh (slot_count (size_of next words))) trace demand → AreDemands words trace pages (demands ++ demand ∷ [])
+    → next ≡ pages + length demands → IsDemand (unused_situation (slot_count (size_of next words))) trace demand → AreDemands words trace pages (demands ++ demand ∷ [])
 demands_grow words trace pages next [] demand are is one = search rules
 demands_grow words trace pages next (first ∷ demands) demand are is one =
     (are.0, demands_grow words trace (pages + 1) next demands demand are.1 (omega arith) one)

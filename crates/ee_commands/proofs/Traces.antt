@@ -14,7 +14,8 @@ use Rattle.ee_script.proofs.Public.{no_bad_line, one_bad_line}
 use Rattle.ee_commands.specs.Planning.{IsTrace, IsTraceCommand}
 use Rattle.ee_image_store.specs.Trace.{trace_of}
 
--- The lines of some commands were read off the text, and so much is left; their writes are the trace so far.
+-- The lines of some commands were read off the text, and so much is left; their writes
+-- are the trace so far.
 pub record HasRead (text rest : List ℕ) (trace : List Change) (lines : ℕ) : Type 0 where
   pub commands : List Command
   pub proper : AllByRecursion IsTraceCommand commands

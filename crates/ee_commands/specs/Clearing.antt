@@ -17,8 +17,8 @@ use Rattle.ee_image_store.specs.Opening.{IsStoreLeft, IsStoreText}
 abbrev pub cleared_text : ℕ → List ℕ
 cleared_text addresses = line_of (joined_fields (codes "cleared" ∷ decimal addresses ∷ []))
 
--- The store of the image was opened and cleared. So the image is left with no value: by one transfer that copied nothing, or
--- as the opening left it where no slot was used.
+-- The store of the image was opened and cleared. So the image is left with no value: by one
+-- transfer that copied nothing, or as the opening left it where no slot was used.
 pub record IsClearedImage (old_image new_image text : List ℕ) : Type 0 where
   pub device : Device
   pub store : Device

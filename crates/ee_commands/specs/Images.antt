@@ -13,8 +13,8 @@ use Rattle.ee_core.specs.Runs.{Cleaned, IsWholeRun}
 use Rattle.ee_core.specs.State.{Wears, formatted_state, pending_pages, state_of, with_pending}
 use Rattle.ee_image_store.specs.Opening.{IsStoreLeft, IsStoreText, SpellsDevice}
 
--- the text of a store with nothing in it, as formatting leaves a device of this size that was never used: no page of it
--- was erased
+-- the text of a store with nothing in it, as formatting leaves a device of this size that was never
+-- used: no page of it was erased
 pub record IsFormattedText (size : Size) (text : List ℕ) : Type 0 where
   pub device : Device
   pub left : IsStoreLeft size text device
@@ -26,9 +26,9 @@ pub record IsFormattedText (size : Size) (text : List ℕ) : Type 0 where
 abbrev pub cleaned_text : ℕ → List ℕ
 cleaned_text pages = line_of (joined_fields (codes "cleaned" ∷ decimal pages ∷ []))
 
--- The store of the image was opened, and took a clean step for each page that waited to be erased. So the image is left
--- with each value, as much used and of the same generation, and no page waits any more; those that waited were erased, each
--- once, and no other.
+-- The store of the image was opened, and took a clean step for each page that waited to be erased.
+-- So the image is left with each value, as much used and of the same generation, and no page waits
+-- any more; those that waited were erased, each once, and no other.
 pub record IsCleaned (old_image new_image text : List ℕ) : Type 0 where
   pub device : Device
   pub store : Device

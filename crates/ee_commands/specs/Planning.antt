@@ -50,8 +50,8 @@ KeepsPower command = Unit {0}
 abbrev pub IsTraceCommand : Command → Type 0
 IsTraceCommand command = IsCommand command × KeepsPower command
 
--- these are the writes and forgettings of the script that the text is, which neither cuts power nor turns it on; what it
--- reads and what it cleans changes no value
+-- these are the writes and forgettings of the script that the text is, which neither cuts power nor
+-- turns it on; what it reads and what it cleans changes no value
 pub record IsTrace (text : List ℕ) (trace : List Change) : Type 0 where
   pub commands : List Command
   pub proper : AllByRecursion IsTraceCommand commands
@@ -63,8 +63,9 @@ pub record IsTask (image text : List ℕ) (start : Situation) (trace : List Chan
   pub start_is : IsImageStart image start
   pub trace_is : IsTrace text trace
 
--- The text is that of the tight certificate of the image's start and the script's trace, which the checker accepts; some
--- store that transfers when it likes makes as many transfers as it has stretches, and none makes fewer.
+-- The text is that of the tight certificate of the image's start and the script's trace, which the
+-- checker accepts; some store that transfers when it likes makes as many transfers as it has
+-- stretches, and none makes fewer.
 pub record IsPlanned (image text planned : List ℕ) : Type 0 where
   pub start : Situation
   pub trace : List Change
@@ -80,8 +81,8 @@ pub record IsPlanned (image text planned : List ℕ) : Type 0 where
 abbrev pub proved_text : ℕ → List ℕ
 proved_text transfers = line_of (joined_fields (codes "proved" ∷ decimal transfers ∷ []))
 
--- The text of the certificate says a certificate of the image's start and the script's trace: each schedule transfers at
--- least as often as it has stretches, and their number is printed.
+-- The text of the certificate says a certificate of the image's start and the script's trace: each
+-- schedule transfers at least as often as it has stretches, and their number is printed.
 pub record IsProved (image text certificate proved : List ℕ) : Type 0 where
   pub start : Situation
   pub trace : List Change
@@ -98,19 +99,20 @@ pub record NamesFault {Cause : Type 0} (named : Cause → Fault) (Applies : Caus
   pub applies : Applies cause
   pub fault_is : fault ≡ named cause
 
--- why a text gives no trace: its first bad line, as is here one that cuts power or turns it on; or want of memory
+-- why a text gives no trace: its first bad line, as is here one that cuts power or turns it
+-- on; or want of memory
 abbrev pub IsTraceFault : List ℕ → ScriptFault → Type 0
 IsTraceFault text (BadLine n) = IsFirstBadLineOf IsTraceCommand text n
 IsTraceFault text Memory = Unit {0}
 
--- why a start and a trace can't be had, the first cause that applies: no store is opened from the image, or one is and the
--- script has a line that is bad for a trace; or memory ran out
+-- why a start and a trace can't be had, the first cause that applies: no store is opened from the
+-- image, or one is and the script has a line that is bad for a trace; or memory ran out
 abbrev pub IsTaskFault : List ℕ → List ℕ → Fault → Type 0
 IsTaskFault image text fault =
     IsOpeningFault image fault ⊎ (((device : Device) × IsStoreText image device) × NamesFault fault_of_script (IsTraceFault text) fault)
 
--- why there is no plan, the first cause that applies: the start and the trace can't be had, or they can and the trace does
--- not fit; or memory ran out
+-- why there is no plan, the first cause that applies: the start and the trace can't be had, or they
+-- can and the trace does not fit; or memory ran out
 abbrev pub IsPlanningFault : List ℕ → List ℕ → Fault → Type 0
 IsPlanningFault image text fault =
     IsTaskFault image text fault
@@ -120,14 +122,15 @@ IsPlanningFault image text fault =
 abbrev pub IsRefusal : Situation → List Change → Claim → CheckFault → Type 0
 IsRefusal start trace claim fault = IsCause start trace claim fault ⊎ (fault ≡ check.Memory)
 
--- why the text of a certificate isn't accepted, the first cause that applies: it says none, or what it says is refused
+-- why the text of a certificate isn't accepted, the first cause that applies: it says none, or
+-- what it says is refused
 abbrev pub IsCertificateFault : Situation → List Change → List ℕ → Fault → Type 0
 IsCertificateFault start trace certificate fault =
     NamesFault fault_of_certificate (IsCertificateTextFault certificate) fault
     ⊎ ((claim : Claim) × IsText certificate claim × NamesFault fault_of_check (IsRefusal start trace claim) fault)
 
--- why nothing is proved, the first cause that applies: the start and the trace can't be had, or they can and the certificate
--- isn't accepted; or memory ran out
+-- why nothing is proved, the first cause that applies: the start and the trace can't be had, or
+-- they can and the certificate isn't accepted; or memory ran out
 abbrev pub IsCheckingFault : List ℕ → List ℕ → List ℕ → Fault → Type 0
 IsCheckingFault image text certificate fault =
     IsTaskFault image text fault

@@ -37,8 +37,8 @@ abbrev pub rescued_text : Rescued → List ℕ
 rescued_text rescued =
     joined_fields (codes "rescued" ∷ codes "live" ∷ decimal rescued.live ∷ codes "bad" ∷ decimal rescued.bad_words ∷ [])
 
--- The image was rescued, whatever stood in it, and the new one is the store that this leaves. A line told each bad word of
--- the set that was rescued, and the last line what it came to.
+-- The image was rescued, whatever stood in it, and the new one is the store that this leaves. A
+-- line told each bad word of the set that was rescued, and the last line what it came to.
 pub record IsRescuedImage (old_image new_image text : List ℕ) : Type 0 where
   pub device : Device
   pub last : Device
@@ -48,7 +48,8 @@ pub record IsRescuedImage (old_image new_image text : List ℕ) : Type 0 where
   pub left : IsStoreLeft device.size new_image last
   pub text_is : text ≡ bad_lines device (rescued_side device) ++ line_of (rescued_text rescued)
 
--- why a device is not rescued: no set is begun, or the one that would be rescued names the greatest generation
+-- why a device is not rescued: no set is begun, or the one that would be rescued names the
+-- greatest generation
 abbrev pub IsNotRescued : Device → Fault → Type 0
 IsNotRescued device NothingToRescue = rescued_side device ≡ None
 IsNotRescued device Spent = (side : Side) × (rescued_side device ≡ Some side) × (named_generation (set_of side device) ≡ greatest_generation)

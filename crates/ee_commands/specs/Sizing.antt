@@ -1,4 +1,5 @@
--- How large a part must be for a script that is made many times over: what each number of pages in a set comes to.
+-- How large a part must be for a script that is made many times over: what each number of
+-- pages in a set comes to.
 use Rattle.std.specs.Prelude.{◌≡◌, ◌<◌, ◌≤◌, ℕ, ◌+◌, ◌-◌, ◌/◌, ◌&&◌, Bool, false, nat_le, nat_lt, if◌then◌else◌, List, [], ◌∷◌, ◌++◌, length, decimal, codes}
 use Rattle.std.specs.List.{list_any}
 use Rattle.ee_flash.specs.Device.{Device}
@@ -9,7 +10,7 @@ use Rattle.ee_core.specs.Changes.{greatest_generation}
 use Rattle.ee_text.specs.Field.{joined_fields}
 use Rattle.ee_text.specs.Line.{line_of}
 use Rattle.ee_check.specs.declared.change.Change.{Change}
-use Rattle.ee_planner.specs.Rounds.{IsDemand, fresh, repeated_trace}
+use Rattle.ee_planner.specs.Rounds.{IsDemand, repeated_trace, unused_situation}
 use Rattle.ee_plan.specs.Wearing.{NoneWearsLess}
 use Rattle.ee_planner.specs.declared.demand.Demand.{Demand}
 use Rattle.ee_planner.specs.declared.demand.Demand.TheVariants.{Transfers, NotFitting}
@@ -19,26 +20,26 @@ use Rattle.ee_commands.specs.Planning.{IsTrace, IsTraceFault, NamesFault}
 
 -- ---- how often pages are erased
 
--- how often any page is erased at the most, from a fresh image on: at every second transfer, rounded up (`ee_store`'s law
--- `each_page_wears_every_second_transfer`); a store that is asked for the changes keeps to it (the law
--- `each_size_wears_as_told`)
+-- how often any page is erased at the most, from a fresh image on: at every second transfer,
+-- rounded up (`ee_store`'s law `each_page_wears_every_second_transfer`); a store that is asked for
+-- the changes keeps to it (the law `each_size_wears_as_told`)
 abbrev pub erases_for : ℕ → ℕ
 erases_for transfers = (transfers + 1) / 2
 
--- how often some page is erased at the least, by any store that appends each change and transfers when it likes: at every
--- second transfer, rounded down (`ee_plan`'s law `fewest_transfers_wear`)
+-- how often some page is erased at the least, by any store that appends each change and transfers
+-- when it likes: at every second transfer, rounded down (`ee_plan`'s law `fewest_transfers_wear`)
 abbrev pub least_for : ℕ → ℕ
 least_for transfers = transfers / 2
 
--- how often some page of two sets is erased at the least, by any store that programs a word for each of so many changes
--- (`ee_flash`'s law `some_page_wears`)
+-- how often some page of two sets is erased at the least, by any store that programs a word for
+-- each of so many changes (`ee_flash`'s law `some_page_wears`)
 abbrev pub limit_for : ℕ → ℕ → ℕ → ℕ
 limit_for pages words changes = least_wear (size_of pages words) changes
 
--- What carries the two: no schedule of the trace erases less, on any device; no steps do, on a device of this size. And
--- neither is above the one that follows.
+-- What carries the two: no schedule of the trace erases less, on any device; no steps do, on a
+-- device of this size. And neither is above the one that follows.
 pub record AreWears (pages words : ℕ) (trace : List Change) (transfers : ℕ) : Type 0 where
-  pub least : NoneWearsLess (fresh (slot_count (size_of pages words))) trace transfers
+  pub least : NoneWearsLess (unused_situation (slot_count (size_of pages words))) trace transfers
   pub limit : (steps : List Step) (device : Device) → AreTaken steps device → device.size ≡ size_of pages words → length trace ≤ programs steps
       → (page : ℕ) × (page < page_count device.size) × (limit_for pages words (length trace) ≤ erases_of page steps)
   pub limit_below : limit_for pages words (length trace) ≤ least_for transfers
@@ -69,8 +70,9 @@ abbrev pub is_enough : ℕ → Demand → Bool
 is_enough cycles (Transfers transfers) = nat_le transfers most_transfers && nat_le (erases_for transfers) cycles
 is_enough cycles (NotFitting n) = false
 
--- the words for a size: the generations are used up; no page is erased more often than it bears; some page is, in every store
--- that programs a word for each change, in every store that transfers, or in this one
+-- the words for a size: the generations are used up; no page is erased more often than it bears;
+-- some page is, in every store that programs a word for each change, in every store that
+-- transfers, or in this one
 abbrev pub verdict : ℕ → ℕ → ℕ → List ℕ
 verdict cycles transfers limit =
     (if is_spent_by transfers then codes "spent"
@@ -97,7 +99,8 @@ abbrev pub not_fitting_text : ℕ → ℕ → ℕ → List ℕ
 not_fitting_text pages slots n =
     joined_fields (codes "pages" ∷ decimal pages ∷ codes "slots" ∷ decimal slots ∷ codes "not" ∷ codes "fitting" ∷ decimal n ∷ [])
 
--- what is told of a demand on sets of so many pages of so many words, where the trace has so many changes
+-- what is told of a demand on sets of so many pages of so many words, where the trace
+-- has so many changes
 abbrev pub sizing_text : ℕ → ℕ → ℕ → ℕ → Demand → List ℕ
 sizing_text words cycles changes pages (Transfers transfers) =
     fitting_text cycles pages (slot_count (size_of pages words)) transfers (limit_for pages words changes)
@@ -113,10 +116,11 @@ size_lines words cycles changes pages (demand ∷ demands) =
 abbrev pub AreDemands : ℕ → List Change → ℕ → List Demand → Type 0
 AreDemands words trace pages [] = Unit {0}
 AreDemands words trace pages (demand ∷ demands) =
-    IsDemand (fresh (slot_count (size_of pages words))) trace demand × AreDemands words trace (pages + 1) demands
+    IsDemand (unused_situation (slot_count (size_of pages words))) trace demand × AreDemands words trace (pages + 1) demands
 
--- The changes of the script, made so many times, demand this of the sets of 1 to 64 pages; a line is told of each, whose
--- numbers of erases no store has fewer of, and whether one of them is enough.
+-- The changes of the script, made so many times, demand this of the sets of 1 to 64
+-- pages; a line is told of each, whose numbers of erases no store has fewer of, and
+-- whether one of them is enough.
 pub record IsSized (words : ℕ) (text : List ℕ) (cycles runs : ℕ) (told : List ℕ) (some_enough : Bool) : Type 0 where
   pub trace : List Change
   pub trace_is : IsTrace text trace

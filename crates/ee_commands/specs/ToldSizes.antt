@@ -52,17 +52,19 @@ pub record IsDemandOf (pages : ℕ) (demands : List Demand) (demand : Demand) : 
   pub parts : demands ≡ smaller ++ demand ∷ larger
   pub place : pages ≡ 1 + length smaller
 
--- The calls moved the map no more often than so many transfers. No page was erased more often than the line of a size with
--- so many says; nor more often than so many cycles, where it says that this is enough.
+-- The calls moved the map no more often than so many transfers. No page was erased more often
+-- than the line of a size with so many says; nor more often than so many cycles, where it says
+-- that this is enough.
 pub record WearsAsTold (cycles most : ℕ) (calls : List Call) (old new : Device) : Type 0 where
   pub moves : transfers calls ≤ most
   pub wear : (page : ℕ) → page < page_count old.size → wear_at new page ≤ wear_at old page + erases_for most
   pub enough : is_enough cycles (Transfers most) ≡ true
       → (page : ℕ) → page < page_count old.size → wear_at new page ≤ wear_at old page + cycles
 
--- Sizes were told for a script that is made so many times. A device was formatted, and the line of its size tells so many
--- transfers. Calls of its store, none of a list, none a clear and none in which power is cut, asked for the changes of the
--- script so many times. Then it wears as was told, whatever the calls were answered, and whatever else they read and cleaned.
+-- Sizes were told for a script that is made so many times. A device was formatted, and the line of
+-- its size tells so many transfers. Calls of its store, none of a list, none a clear and none in
+-- which power is cut, asked for the changes of the script so many times. Then it wears as was told,
+-- whatever the calls were answered, and whatever else they read and cleaned.
 abbrev pub EachSizeWearsAsTold : Type 0
 EachSizeWearsAsTold =
     (text told : List ℕ) (cycles runs most : ℕ) (some_enough : Bool) (calls : List Call) (blank old new : Device)
@@ -70,8 +72,8 @@ EachSizeWearsAsTold =
     → IsFormatted blank old → IsWholeRun calls old new → All (λ call. is_of_several call ≡ false) calls
     → asked_by_calls calls ≡ repeated_trace runs sized.trace → WearsAsTold cycles most calls old new
 
--- Where they made the changes of the script so many times, and no others, the line of its size tells just as many transfers
--- as they made; and it wears as was told.
+-- Where they made the changes of the script so many times, and no others, the line of its size
+-- tells just as many transfers as they made; and it wears as was told.
 abbrev pub EachSizeMovesAsTold : Type 0
 EachSizeMovesAsTold =
     (text told : List ℕ) (cycles runs : ℕ) (some_enough : Bool) (calls : List Call) (blank old new : Device)
@@ -79,8 +81,9 @@ EachSizeMovesAsTold =
     → made_by_calls calls ≡ repeated_trace runs sized.trace
     → IsDemandOf old.size.pages sized.demands (Transfers (transfers calls)) × WearsAsTold cycles (transfers calls) calls old new
 
--- It makes all of them, by as many transfers as that line tells: where the line doesn't say that the generations are used up,
--- the device is on, each forgetting is of an address that has a value, and the store takes no memory, or is given it.
+-- It makes all of them, by as many transfers as that line tells: where the line doesn't say that
+-- the generations are used up, the device is on, each forgetting is of an address that has a value,
+-- and the store takes no memory, or is given it.
 abbrev pub EachSizeIsMadeAsTold : Type 0
 EachSizeIsMadeAsTold =
     (text told : List ℕ) (cycles runs most : ℕ) (some_enough : Bool) (calls : List Call) (blank old new : Device)

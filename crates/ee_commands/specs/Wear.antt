@@ -37,7 +37,8 @@ pub record AreWearCountsOf (text counts : List ℕ) : Type 0 where
   pub spelled : SpellsDevice text device
   pub counts_are : counts ≡ device.wear
 
--- these are the counts by which the wear of the image's device is above that of the one before, where no page has less
+-- these are the counts by which the wear of the image's device is above that of the one before,
+-- where no page has less
 pub record AreCountsSince (image before counts : List ℕ) : Type 0 where
   pub device : Device
   pub old : Device
@@ -67,8 +68,8 @@ pub record IsDifferenceFault (image before : List ℕ) (fault : Fault) : Type 0 
   pub applies : IsSinceFault old.wear device.wear cause
   pub fault_is : fault ≡ fault_of_since cause
 
--- Why no wear is told, the first cause that applies: the image is no device's; or it is, and the one before is none; or both
--- are, and there is no difference.
+-- Why no wear is told, the first cause that applies: the image is no device's; or it is, and the
+-- one before is none; or both are, and there is no difference.
 abbrev pub IsWearFault : List ℕ → Option (List ℕ) → Fault → Type 0
 IsWearFault image None fault = IsFileFault Image image fault
 IsWearFault image (Some before) fault =

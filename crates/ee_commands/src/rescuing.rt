@@ -18,17 +18,17 @@ use ee_pages::{RescuedSet, first_page, is_bad_word, rescued_set};
 use ee_text::push_number_behind;
 use std::alloc::{AllocError, Allocator};
 
-/// Makes a store of the image that a text spells, whatever stands in it, as `ee_core::rescue` does. Gives the text of
-/// the image that this leaves, and what there is to print: a line for each bad word of the set that was rescued, by page
-/// and place, `bad PAGE AT` and `header` or `slot`; then `rescued live N bad B`, N how many addresses have a value and B
-/// how many words were bad.
+/// Makes a store of the image that a text spells, whatever stands in it, as `ee_core::rescue` does.
+/// Gives the text of the image that this leaves, and what there is to print: a line for each bad
+/// word of the set that was rescued, by page and place, `bad PAGE AT` and `header` or `slot`; then
+/// `rescued live N bad B`, N how many addresses have a value and B how many words were bad.
 ///
 /// Source: ours.
 ///
 /// # Errors
 ///
-/// The image is no device's; no set of it is begun; or the set that would be rescued names the greatest generation.
-/// `Memory` can come in place of any answer.
+/// The image is no device's; no set of it is begun; or the set that would be rescued names the
+/// greatest generation. `Memory` can come in place of any answer.
 pub fn rescue_image<A: Allocator + Copy>(alloc: A, image: &[u8]) -> Result<ImageAndText<A>, Fault>
     ensures rescued { IfOk result
         (λ given. IsRescuedImage image.now given.image.items given.text.items) }
@@ -62,7 +62,8 @@ fn rescue_still<F: Flash + Drop>(flash: F) -> Result<(Store<F>, Rescued), Fault>
     }
 }
 
-/// Writes the lines of the bad words of the set that is rescued. After an error there may be a part of them.
+/// Writes the lines of the bad words of the set that is rescued. After an error there
+/// may be a part of them.
 fn push_bad<F: Flash, A: Allocator>(flash: &F, out: &mut Vec<u8, A>) -> Result<(), AllocError>
     ensures { let device = F.device flash.now in OnOk result
         (out.new.items ≡ out.old.items ++ bad_lines device (rescued_side device)) }
@@ -89,7 +90,8 @@ fn push_bad_in_set<F: Flash, A: Allocator>(
     Ok(())
 }
 
-/// Writes the lines of the bad words of a page of the set. After an error there may be a part of them.
+/// Writes the lines of the bad words of a page of the set. After an error there may be a part of
+/// them.
 fn push_bad_in_page<F: Flash, A: Allocator>(
     flash: &F,
     set: &RescuedSet,
@@ -143,7 +145,8 @@ fn name_of_part(at: usize) -> &'static [u8]
     }
 }
 
-/// Writes how many addresses have a value, and how many words were bad. After an error there may be a part of the line.
+/// Writes how many addresses have a value, and how many words were bad. After an error there may be
+/// a part of the line.
 fn push_rescued<A: Allocator>(out: &mut Vec<u8, A>, rescued: Rescued) -> Result<(), AllocError>
     ensures { OnOk result (out.new.items ≡ out.old.items ++ line_of (rescued_text rescued)) }
 {

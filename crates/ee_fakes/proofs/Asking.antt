@@ -1,4 +1,5 @@
--- `is_refused` at a call. It is handed a `&` to the cell and the token of the lifetime, and gives the token back beside its answer.
+-- `is_refused` at a call. It is handed a `&` to the cell and the token of the lifetime, and gives
+-- the token back beside its answer.
 use Rattle.ee_fakes.proofs.Walking.{◌≡◌, ℕ, Bool, [], ◌∷◌, refl, ap, Ura, Val, vbool, vptr, List, SProp, ent, ex, sep, guard, id⊢, Lft, Share, ftrue, fsep, flft, Memory, Routine, Logic, sem, Fun, ‵, raw, ◌⊛◌, some, later, ◌$◌, ◌∵◌, !, qed, move, keep, use1, split, join, pick, fjoin, feq_i, feq_l, show, check, await, updating, at_once, done, u64, bool, hidden_shr, RattleType, nothing, only, Contract, triple_of}
 use Rattle.std.specs.contracts.cell.Cell as cell
 use Rattle.ee_fakes.specs.contracts.refusing.is_refused as asked

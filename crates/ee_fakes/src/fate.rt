@@ -9,8 +9,8 @@ use ee_flash::Word;
 pub enum Fate<'a> {
     /// It is done.
     Done,
-    /// Power is cut in it. The list says what is left of the programmed word, or of each word of the erased page by its
-    /// place. A word past its end is as before.
+    /// Power is cut in it. The list says what is left of the programmed word, or of each word of
+    /// the erased page by its place. A word past its end is as before.
     Cut(&'a [Left]),
 }
 

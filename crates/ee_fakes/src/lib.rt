@@ -1,14 +1,16 @@
 //! What tests need beside the product.
 //!
 //! - `Refusing`: an allocator that refuses one request for memory.
-//! - `FailingReader`, `FailingWriter`: streams that give or take a few bytes a call and fail at one call.
-//! - `ListFlash`: a flash device whose steps are done or cut as a list says, each word of a cut step by itself, and that
-//!   counts the words that are read.
-//! - `ListNor`: the same of a flash of plain numbers, each bit of a cut step by itself; it counts its steps.
+//! - `FailingReader`, `FailingWriter`: streams that give or take a few bytes a call
+//!   and fail at one call.
+//! - `ListFlash`: a flash device whose steps are done or cut as a list says, each word of a cut
+//!   step by itself, and that counts the words that are read.
+//! - `ListNor`: the same of a flash of plain numbers, each bit of a cut step by itself;
+//!   it counts its steps.
 //! - `images`: the texts that several tests read.
 //!
-//! Only tests stand on this crate. So the product's crates hold no unsafe code and no help for tests; the one `unsafe impl`
-//! stands here, with its proof.
+//! Only tests stand on this crate. So the product's crates hold no unsafe code and no help for
+//! tests; the one `unsafe impl` stands here, with its proof.
 #![tactic(auto)]
 
 mod fate;

@@ -10,9 +10,11 @@ use ee_flash::{Cut, Flash, Shape, Word};
 use std::alloc::{AllocError, Allocator, Global};
 use std::cell::Cell;
 
-/// A flash device in memory whose steps are done or cut as a list says, each word of a cut step by itself.
+/// A flash device in memory whose steps are done or cut as a list says, each word of a
+/// cut step by itself.
 ///
-/// Any number of cuts may come. Once the list has ended, every step is done. It counts how many words of it are read.
+/// Any number of cuts may come. Once the list has ended, every step is done. It counts how many
+/// words of it are read.
 #[derive(Drop)]
 pub struct ListFlash<'a, A: Allocator = Global> {
     shape: Shape,
@@ -35,7 +37,8 @@ impl<'a, A: Allocator + Copy> ListFlash<'a, A> {
     ghost use Rattle.ee_fakes.specs.Listed.{state_of_list};
     ghost use Rattle.ee_flash.specs.Device.{blank_device};
 
-    /// A device that is on, with every word erased, no wear and no cuts, whose steps meet these fates.
+    /// A device that is on, with every word erased, no wear and no cuts, whose steps meet these
+    /// fates.
     ///
     /// # Errors
     ///

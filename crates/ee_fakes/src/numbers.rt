@@ -14,9 +14,10 @@ use std::alloc::{AllocError, Allocator, Global};
 pub enum NumberFate<'a> {
     /// It is done.
     Done,
-    /// Power is cut in it. A mask has the ones that are left beside those that stay: a programmed number keeps the ones of
-    /// the number asked for and has the first mask's too, and each number of an erased page keeps its own and has those of
-    /// the mask at its place. Past the end of the masks there are none.
+    /// Power is cut in it. A mask has the ones that are left beside those that stay: a programmed
+    /// number keeps the ones of the number asked for and has the first mask's too, and each number
+    /// of an erased page keeps its own and has those of the mask at its place. Past the end of the
+    /// masks there are none.
     Cut(&'a [u64]),
 }
 
@@ -38,7 +39,8 @@ fn set_bits(numbers: &mut [u64], masks: &[u64])
     }
 }
 
-/// A flash of plain numbers in memory whose steps are done or cut as a list says, each bit of a cut step by itself.
+/// A flash of plain numbers in memory whose steps are done or cut as a list says, each bit of a
+/// cut step by itself.
 ///
 /// Any number of cuts may come. Once the list has ended, every step is done. It counts its steps.
 #[derive(Drop)]
@@ -62,7 +64,8 @@ pub struct ListNor<'a, A: Allocator = Global> {
 impl<'a, A: Allocator + Copy> ListNor<'a, A> {
     ghost use Rattle.ee_fakes.specs.Numbers.{blank_nor, nor_of_list};
 
-    /// A device that is on, with every number `u64::MAX`, no wear and no cuts, whose steps meet these fates.
+    /// A device that is on, with every number `u64::MAX`, no wear and no cuts, whose
+    /// steps meet these fates.
     ///
     /// # Errors
     ///

@@ -4,7 +4,8 @@ ghost use Rattle.std.specs.Prelude.{◌<◌};
 use std::alloc::{AllocError, Allocator};
 use std::cell::Cell;
 
-/// An allocator that passes each request on to another and refuses one, which its maker names by number.
+/// An allocator that passes each request on to another and refuses one, which its
+/// maker names by number.
 ///
 /// A `&` to it is an allocator that is `Copy`. A growth is a request of its own, as is a shrinking.
 pub struct Refusing<B: Allocator> {

@@ -115,7 +115,8 @@ pub enum Fault {
     /// No set of the image is begun: it has nothing that could be rescued.
     #[error("nothing to rescue")]
     NothingToRescue,
-    /// This change of the trace, counted from 1, is the first that makes more addresses live than there are slots.
+    /// This change of the trace, counted from 1, is the first that makes more addresses live
+    /// than there are slots.
     #[error("not fitting {0}")]
     NotFitting(u64),
     /// The certificate's header is not that of the start and the trace.
@@ -143,7 +144,8 @@ pub enum Fault {
     /// The dump has not as many bytes as a part of the size has.
     #[error("dump length")]
     DumpLength,
-    /// The first word of the dump whose two numbers sum to less than all ones, by its page and its place.
+    /// The first word of the dump whose two numbers sum to less than all ones, by its
+    /// page and its place.
     #[error("dump pair {page} {at}")]
     LowPair { page: usize, at: usize },
     /// The first torn word of the image, by its page and its place: no dump has one.
@@ -411,7 +413,8 @@ pub fn fault_line<A: Allocator + Copy>(alloc: A, fault: &Fault) -> Result<Vec<u8
     Ok(line.into_bytes())
 }
 
-/// The status that the program ends with at a fault: 3 for a bad file, 4 for what is refused, 5 for want of memory.
+/// The status that the program ends with at a fault: 3 for a bad file, 4 for what is refused, 5
+/// for want of memory.
 pub fn status_of(fault: &Fault) -> u8
     ensures { result ≡ status fault.now }
 {

@@ -22,8 +22,8 @@ pub enum ReplayFault {
     /// Memory ran out.
     #[error("out of memory")]
     Memory,
-    /// The reader that gives the script failed, or the most read calls were made and the end had not
-    /// come. No script that is given whole is refused so.
+    /// The reader that gives the script failed, or the most read calls were made and the end had
+    /// not come. No script that is given whole is refused so.
     #[error("cannot read script")]
     Read,
 }

@@ -1,4 +1,5 @@
--- Why no device is found in a file: there is one cause at most but for want of memory, and none where the text is a device's.
+-- Why no device is found in a file: there is one cause at most but for want of memory, and none
+-- where the text is a device's.
 use Rattle.std.proofs.Common.{◌≡◌, ◌≢◌, ◌∙◌, ◌⊎◌, ℕ, List, inl, inr, sym, ap, rules}
 use Rattle.ee_flash.specs.Device.{Device}
 use Rattle.ee_image.specs.Fault.{IsImageFault}

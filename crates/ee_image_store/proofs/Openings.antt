@@ -1,4 +1,5 @@
--- A command finds no store in an image for one cause at most, but for want of memory, and for none where a store is opened.
+-- A command finds no store in an image for one cause at most, but for want of memory, and for none
+-- where a store is opened.
 use Rattle.std.proofs.Common.{◌≡◌, ◌≢◌, ◌⊎◌, ◌∙◌, ℕ, List, inl, inr, refl, sym, ap, rules}
 use Rattle.ee_flash.specs.Device.{Device}
 use Rattle.ee_faults.specs.Fault.{fault_of_replay}

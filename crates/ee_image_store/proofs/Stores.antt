@@ -18,8 +18,8 @@ use Rattle.ee_image_store.proofs.Erasing.{by_wear, unworn}
 -- a device in memory is formed
 pub formed_of : {A : Type 0} (flash : MemFlash A) → IsFormed (device_of flash)
 formed_of flash =
-    IsFormed-pages_of flash.shape flash.cells.items flash.wear.items flash.cuts flash.fuse flash.on flash.within_limits
-    (sym flash.cells.ok.0 ∙ flash.cells_length) flash.below_all_ones (sym flash.wear.ok.0 ∙ flash.wear_length) flash.wear_fits flash.cuts_fit
+    IsFormed-pages_of flash.shape flash.cells flash.wear.items flash.cuts flash.fuse flash.on flash.within_limits
+    flash.cells_length flash.below_all_ones (sym flash.wear.ok.0 ∙ flash.wear_length) flash.wear_fits flash.cuts_fit
 
 -- a device whose power goes on
 stays : (old new : Device) → StaysOn old → new.on ≡ old.on → new.cuts_left ≡ old.cuts_left → StaysOn new

@@ -16,8 +16,8 @@ erases_left_by size answer = 0
 abbrev pub erases_of_all : Size → List Answer → ℕ
 erases_of_all size answers = sum_by (erases_left_by size) answers
 
--- So many pages came to be erased, at once or later: those that were erased between, as the wear of each page tells, and
--- those that wait now are together as many more than those that waited before.
+-- So many pages came to be erased, at once or later: those that were erased between, as the wear of
+-- each page tells, and those that wait now are together as many more than those that waited before.
 pub record ErasesRise (pages : ℕ) (old new : Device) : Type 0 where
   pub erased : ℕ
   pub wear : WearRises erased old new

@@ -1,4 +1,5 @@
--- Why no device is found in a file, and why no store is opened from an image, under the names that the program gives.
+-- Why no device is found in a file, and why no store is opened from an image, under the names
+-- that the program gives.
 use Rattle.std.specs.Prelude.{◌≡◌, List, ℕ}
 use Rattle.ee_image.specs.Fault.{IsImageFault}
 use Rattle.ee_image.specs.declared.fault.ImageFault.{ImageFault}

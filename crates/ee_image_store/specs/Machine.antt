@@ -1,4 +1,5 @@
--- The report machine: what a script's commands are answered, and what they leave of a store's state.
+-- The report machine: what a script's commands are answered, and what they leave of a store's
+-- state.
 use Rattle.std.specs.Prelude.{◌≡◌, ◌≢◌, ◌⊎◌, ◌<◌, ◌≤◌, ◌-◌, Bool, true, false, List, [], ◌∷◌, Some, None}
 use Rattle.std.specs.List.{list_any}
 use Rattle.ee_flash.specs.Size.{Size, slot_count}
@@ -15,8 +16,8 @@ use Rattle.ee_script.specs.declared.answer.Answer.TheVariants.{Appended, Moved, 
 
 -- On a device of this size: from old, the machine answers the command so, and goes on to new.
 abbrev pub MachineStep : Size → State → Command → Answer → State → Type 0
--- A write is refused, for the first cause that applies, and changes nothing; or it is appended where a slot is free; or
--- it is moved with the map to the other set.
+-- A write is refused, for the first cause that applies, and changes nothing; or it is appended
+-- where a slot is free; or it is moved with the map to the other set.
 MachineStep size old (Write address value) Full new = IsFull (slot_count size) old address × (new ≡ old)
 MachineStep size old (Write address value) Spent new = ¬ IsFull (slot_count size) old address × IsSpent (slot_count size) old × (new ≡ old)
 MachineStep size old (Write address value) Appended new =
@@ -36,7 +37,8 @@ MachineStep size old (Read address) NoValue new = (old.map address ≡ None) × 
 -- A clean step erases a page that waits, if one does.
 MachineStep size old Clean Cleaned new = (0 < old.pending) × (new ≡ with_pending (old.pending - 1) old)
 MachineStep size old Clean Idle new = (old.pending ≡ 0) × (new ≡ old)
--- A line that arms a cut changes nothing yet, nor does one that turns power on and opens what is open.
+-- A line that arms a cut changes nothing yet, nor does one that turns power on and
+-- opens what is open.
 MachineStep size old (Arm fuse) Armed new = new ≡ old
 MachineStep size old PowerOn Opened new = new ≡ old
 -- No other answer is given.
@@ -44,7 +46,8 @@ MachineStep size old command answer new = ⊥
 
 -- ---- power that is cut and comes back
 
--- a desk: the state that the image on it says, whether a store is open, and whether a cut is to come
+-- a desk: the state that the image on it says, whether a store is open, and whether a cut is to
+-- come
 pub record Desk : Type 0 where
   pub state : State
   pub serving : Bool
@@ -54,8 +57,8 @@ pub record Desk : Type 0 where
 abbrev pub desk_with : State → Desk
 desk_with state = record { state = state; serving = true; armed = false }
 
--- A change that is not refused is cut: it is made or not, a slot may be torn, and of a move no more may be done than some
--- erases.
+-- A change that is not refused is cut: it is made or not, a slot may be torn, and of a move no more
+-- may be done than some erases.
 pub record CutsChange (size : Size) (old : State) (change : Change) (new : State) : Type 0 where
   pub accepted : IsAccepted (slot_count size) old (change ∷ [])
   pub within : old.fill ≤ slot_count size
@@ -87,20 +90,22 @@ is_cut_answer answer = false
 abbrev pub was_cut : List Answer → Bool
 was_cut answers = list_any is_cut_answer answers
 
--- A call of an open store is cut, if a cut is to come: then no store is open, and none is to come. Or it is answered.
+-- A call of an open store is cut, if a cut is to come: then no store is open, and none is to
+-- come. Or it is answered.
 abbrev pub CallStep : Bool → Size → Desk → Command → Answer → Desk → Type 0
 CallStep true size old command answer new =
     (old.serving ≡ true) × (old.armed ≡ true) × CutStep size old.state command new.state × (new ≡ record { state = new.state; serving = false; armed = false })
 CallStep false size old command answer new = StoreStep size old.serving old.state command answer new.state × (new ≡ record old { state = new.state })
 
--- Power comes on, and a store is open, which holds what was held; or that is cut, where none was open.
+-- Power comes on, and a store is open, which holds what was held; or that is cut,
+-- where none was open.
 abbrev pub PowerStep : Desk → Answer → Desk → Type 0
 PowerStep old Opened new = new ≡ record old { serving = true }
 PowerStep old Cut new = (old.serving ≡ false) × (old.armed ≡ true) × (new ≡ record old { armed = false })
 PowerStep old answer new = ⊥
 
--- From old, on a device of this size, the desk answers the command so, and is new afterwards: a cut is armed, power comes
--- on, or the store is called.
+-- From old, on a device of this size, the desk answers the command so, and is new afterwards: a cut
+-- is armed, power comes on, or the store is called.
 abbrev pub DeskStep : Size → Desk → Command → Answer → Desk → Type 0
 DeskStep size old (Arm fuse) answer new = (answer ≡ Armed) × (new ≡ record old { armed = true })
 DeskStep size old PowerOn answer new = PowerStep old answer new

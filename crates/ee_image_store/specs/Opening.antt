@@ -1,4 +1,5 @@
--- The stores that the commands work on, the texts that they are opened from, and the texts that they leave.
+-- The stores that the commands work on, the texts that they are opened from, and the
+-- texts that they leave.
 use Rattle.std.specs.Prelude.{◌≡◌, Some, List, ℕ, replicate}
 use Rattle.ee_flash.specs.Device.{Device, IsFormed, IsOn, blank_device}
 use Rattle.ee_flash.specs.Size.{Size, page_count}
@@ -32,7 +33,8 @@ pub record IsStoreText (text : List ℕ) (device : Device) : Type 0 where
 abbrev pub HasStore : List ℕ → Type 0
 HasStore image = (device : Device) × IsStoreText image device
 
--- the store of the image that the text spells, with its state; the same pages wait, and none was erased
+-- the store of the image that the text spells, with its state; the same pages wait,
+-- and none was erased
 pub record IsOpened (text : List ℕ) (new : Device) : Type 0 where
   pub device : Device
   pub old : IsStoreText text device
@@ -44,7 +46,8 @@ pub record IsOpened (text : List ℕ) (new : Device) : Type 0 where
   pub no_wear : new.wear ≡ device.wear
   pub erases : ErasesRise 0 device new
 
--- The text is that of a store's device, which is on and of this size: its image is legal, and no mark is left to set.
+-- The text is that of a store's device, which is on and of this size: its image is legal, and no
+-- mark is left to set.
 pub record IsStoreLeft (size : Size) (text : List ℕ) (device : Device) : Type 0 where
   pub spelled : SpellsDevice text device
   pub store : IsStore device
@@ -59,8 +62,8 @@ pub record IsNewStore (size : Size) (new : Device) : Type 0 where
   pub state_is : state_of new ≡ formatted_state
   pub no_wear : new.wear ≡ replicate (page_count size) 0
 
--- why no store is opened from an image's text: the text is no device's, or the device has no legal image; or memory ran
--- out
+-- why no store is opened from an image's text: the text is no device's, or the device has no legal
+-- image; or memory ran out
 abbrev pub IsOpenFault : List ℕ → ReplayFault → Type 0
 IsOpenFault text (Image fault) = IsImageTextFault text fault
 IsOpenFault text (Open fault) = (device : Device) × SpellsDevice text device × IsScanFault device fault

@@ -7,8 +7,8 @@ use Rattle.ee_script.specs.declared.answer.Answer.{Answer}
 use Rattle.ee_image_store.specs.Erases.{ErasesRise, erases_left_by}
 use Rattle.ee_image_store.specs.Machine.{MachineStep}
 
--- The report machine answers the command so, the device keeps its size, and a move leaves the pages of a set to be erased, any
--- other answer none.
+-- The report machine answers the command so, the device keeps its size, and a move leaves the pages
+-- of a set to be erased, any other answer none.
 pub record Steps (old : Device) (command : Command) (answer : Answer) (new : Device) : Type 0 where
   pub step : MachineStep old.size (state_of old) command answer (state_of new)
   pub same_size : new.size ≡ old.size

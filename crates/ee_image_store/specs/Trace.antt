@@ -1,4 +1,5 @@
--- The changes that a script makes, as a trace, and what is shown of the moves among them: none of them could be spared.
+-- The changes that a script makes, as a trace, and what is shown of the moves among them: none of
+-- them could be spared.
 use Rattle.std.specs.Prelude.{◌≡◌, ◌≢◌, ◌⊎◌, ◌+◌, ◌<◌, ◌≤◌, ℕ, List, [], ◌∷◌, None, length, map}
 use Rattle.ee_pages.specs.Meaning as meaning
 use Rattle.ee_core.specs.Changes.{greatest_generation}
@@ -45,23 +46,25 @@ map_changes (Write address value ∷ commands) = meaning.Put address value ∷ m
 map_changes (Forget address ∷ commands) = meaning.Forget address ∷ map_changes commands
 map_changes (command ∷ commands) = map_changes commands
 
--- each forgetting is of an address that has a value: in this map of values, changed by what stands before it
+-- each forgetting is of an address that has a value: in this map of values, changed by
+-- what stands before it
 abbrev pub ForgetsWhatIsHeld : meaning.Map → List Command → Type 0
 ForgetsWhatIsHeld values [] = Unit {0}
 ForgetsWhatIsHeld values (Write address value ∷ commands) = ForgetsWhatIsHeld (meaning.map_after (meaning.Put address value) values) commands
 ForgetsWhatIsHeld values (Forget address ∷ commands) = (values address ≢ None) × ForgetsWhatIsHeld (meaning.map_after (meaning.Forget address) values) commands
 ForgetsWhatIsHeld values (command ∷ commands) = ForgetsWhatIsHeld values commands
 
--- Each change of the script is made: never are more addresses live than there are slots, each forgetting is of an address
--- that has a value, and a generation is left for each change, were it to move.
+-- Each change of the script is made: never are more addresses live than there are slots,
+-- each forgetting is of an address that has a value, and a generation is left for each
+-- change, were it to move.
 pub record TraceFits (start : Situation) (state : State) (commands : List Command) : Type 0 where
   pub keeps : KeepsWithin start.slots start.live (trace_of commands)
   pub held : ForgetsWhatIsHeld state.map commands
   pub generations : state.generation + length (trace_of commands) ≤ greatest_generation
 
--- From a start, the moves among the answers are the fewest: they stand exactly where the stretches of the trace's one
--- tight certificate end, which the checker accepts; some store that transfers when it likes makes as many transfers, and
--- none makes fewer.
+-- From a start, the moves among the answers are the fewest: they stand exactly where the stretches
+-- of the trace's one tight certificate end, which the checker accepts; some store that transfers
+-- when it likes makes as many transfers, and none makes fewer.
 pub record AreFewest (start : Situation) (trace : List Change) (answers : List Answer) (claim : Claim) : Type 0 where
   pub tight : IsTight start trace claim
   pub certificate : IsCertificate start trace claim
@@ -69,7 +72,8 @@ pub record AreFewest (start : Situation) (trace : List Change) (answers : List A
   pub reached : (schedule : List Move) × IsSchedule start trace schedule × (cost schedule ≡ moves answers)
   pub fewest : (schedule : List Move) → IsSchedule start trace schedule → moves answers ≤ cost schedule
 
--- Each store makes more transfers than these, or as many, and has at least so many slots used at the end.
+-- Each store makes more transfers than these, or as many, and has at least so many
+-- slots used at the end.
 abbrev pub NoneEndsWithMoreRoom : Situation → List Change → ℕ → ℕ → Type 0
 NoneEndsWithMoreRoom start trace transfers fill = (schedule : List Move) → IsSchedule start trace schedule
     → (transfers < cost schedule) ⊎ ((cost schedule ≡ transfers) × (fill ≤ (after_moves start schedule).fill))

@@ -1,4 +1,5 @@
--- There is one cause at most for which nothing moves, but for want of memory; and none where something did.
+-- There is one cause at most for which nothing moves, but for want of memory; and none
+-- where something did.
 use Rattle.std.proofs.Common.{◌≡◌, ◌≢◌, ◌⊎◌, inl, inr, ◌∙◌, refl, sym, ap, ℕ, List, length, Result, Ok, Err, IfErr, IfOk, MatchResult, rules}
 use Rattle.ee_flash.specs.Device.{Device, IsFormed}
 use Rattle.ee_flash.specs.Size.{Size}

@@ -8,7 +8,7 @@ use Rattle.std.proofs.lemmas.Bool.{cases_Bool, cases_eq, cases_order, cond-false
 use Rattle.ee_codec.specs.Words.{IsAddress}
 use Rattle.ee_flash.specs.declared.word.Word.{Word}
 use Rattle.ee_flash.specs.declared.word.Word.TheVariants.{Erased}
-use Rattle.ee_pages.specs.Meaning.{Map, Put, later, latest_in, live_in, map_after, meaning, says, value_said}
+use Rattle.ee_pages.specs.Meaning.{Map, Put, later_of, latest_in, live_in, map_after, meaning, says, value_said}
 use Rattle.ee_pages.proofs.Public.{change_counts, gap_to, latest_in-append, live_to-zero}
 use Rattle.ee_part.specs.Inspecting.{AreSpoken, gives_to, speaks_of, up_to_last}
 use Rattle.ee_part.proofs.Inspections.{live_alike, some_last}
@@ -16,7 +16,7 @@ use Rattle.ee_part.proofs.Doubts.{is_none, last_within, parted, said_by_some, up
 
 -- ---- what the last slot says that speaks of an address
 
-later_said : (old new : Option (Option ℕ)) → is_some new ≡ true → later old new ≡ new
+later_said : (old new : Option (Option ℕ)) → is_some new ≡ true → later_of old new ≡ new
 later_said old None some = absurd (cc some)
 later_said old (Some new) some = refl
 
@@ -33,7 +33,7 @@ said_last slots address slot word last here =
     let silent = is_none (latest_in parts.behind address) (said_by_some parts.behind address ∙ parts.none_behind) in
     ap (λ l. latest_in l address) parts.slots_are
     ∙ latest_in-append parts.before (parts.at ∷ parts.behind) address
-    ∙ ap (λ said. later (latest_in parts.before address) (later (says parts.at address) said)) silent
+    ∙ ap (λ said. later_of (latest_in parts.before address) (later_of (says parts.at address) said)) silent
     ∙ later_said (latest_in parts.before address) (says parts.at address) parts.of_kind
     ∙ ap (λ (word : Word). says word address) there
 
@@ -126,7 +126,8 @@ some_value : (value : Option ℕ) → is_some value ≡ true → (given : ℕ) �
 some_value None some = absurd (cc some)
 some_value (Some given) some = (given, refl)
 
--- one slot more, which gives an address a value or doesn't, and is or isn't the last that speaks of it
+-- one slot more, which gives an address a value or doesn't, and is or isn't the last that speaks of
+-- it
 pub counted_more : (slots : List Word) (slot : ℕ) (word : Word) (spoken : List ℕ) (given : Option ℕ) (is_last : Bool) (count : ℕ)
     → word ≡ get_or slots slot Erased → AreSpoken slots spoken → IfSome given (λ named. IsAddress named)
     → MatchOption given ((address : ℕ) → gives_to address word ≡ false)

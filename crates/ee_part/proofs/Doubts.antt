@@ -1,4 +1,5 @@
--- An address is told to be in doubt exactly where a torn slot stands between the last slot that speaks of it and the end.
+-- An address is told to be in doubt exactly where a torn slot stands between the last slot that
+-- speaks of it and the end.
 use Rattle.std.proofs.Common.{◌≡◌, ◌≢◌, ◌∙◌, ◌+◌, ◌<◌, ◌≤◌, ℕ, suc, Bool, true, false, cond, is_some, Option, Some, None, List, [], ◌∷◌, ◌++◌, length, refl, sym, ap, arith, inl, inr, rules}
 use Rattle.std.specs.Prelude.{◌||◌}
 use Rattle.std.specs.List.{list_any}
@@ -6,7 +7,7 @@ use Rattle.std.proofs.lemmas.Bool.{and_from, and_parts, both_ways, cases_Bool, l
 use Rattle.std.proofs.lemmas.List.{length-append}
 use Rattle.ee_flash.specs.declared.word.Word.{Word}
 use Rattle.ee_flash.specs.declared.word.Word.TheVariants.{Torn}
-use Rattle.ee_pages.specs.Meaning.{later, latest_in, says}
+use Rattle.ee_pages.specs.Meaning.{later_of, latest_in, says}
 use Rattle.ee_pages.specs.Page.{is_torn}
 use Rattle.ee_part.specs.Inspecting.{speaks_of, up_to_last}
 use Rattle.ee_part.specs.InspectLaws.{DoubtsAreTold, IsDoubted}
@@ -14,7 +15,7 @@ use Rattle.ee_part.proofs.Inspections.{last_before, last_behind, no_last, some_l
 
 -- ---- what is said, and by which slot
 
-later_some : (old new : Option (Option ℕ)) → is_some (later old new) ≡ (is_some old || is_some new)
+later_some : (old new : Option (Option ℕ)) → is_some (later_of old new) ≡ (is_some old || is_some new)
 later_some None None = refl
 later_some (Some old) None = refl
 later_some None (Some new) = refl

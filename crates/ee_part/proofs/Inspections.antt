@@ -12,7 +12,7 @@ use Rattle.ee_flash.specs.Size.{slot_count}
 use Rattle.ee_flash.specs.declared.word.Word.{Word}
 use Rattle.ee_flash.specs.declared.word.Word.TheVariants.{Erased, Held, Torn}
 use Rattle.ee_pages.specs.Layout.{IsLayout}
-use Rattle.ee_pages.specs.Meaning.{Map, later, latest_in, live_in, live_to, meaning, value_said}
+use Rattle.ee_pages.specs.Meaning.{Map, later_of, latest_in, live_in, live_to, meaning, value_said}
 use Rattle.ee_pages.specs.Page.{is_torn, is_written}
 use Rattle.ee_pages.specs.Sets.{fill_of, front, torn_of}
 use Rattle.ee_pages.specs.declared.find.Layout.{Layout}
@@ -157,7 +157,7 @@ whole slots = filter (λ word. not (is_torn word)) slots
 
 whole_says : (slots : List Word) (address : ℕ) → latest_in (whole slots) address ≡ latest_in slots address
 whole_says [] address = refl
-whole_says (Erased ∷ slots) address = ap (λ said. later None said) (whole_says slots address)
+whole_says (Erased ∷ slots) address = ap (λ said. later_of None said) (whole_says slots address)
 whole_says (Held number ∷ slots) address = rw (whole_says slots address) refl
 whole_says (Torn ∷ slots) address = whole_says slots address ∙ sym (later-none (latest_in slots address))
 

@@ -55,15 +55,18 @@ pub record IsHexDumpFault (form : Form) (size : Size) (base : ℕ) (text : List 
   pub says : IsHexOf text base (dump_length form size) dump
   pub wrong : IsImportFault form size dump fault
 
--- why there is no image from a text: the part ends behind the last address, the text is bad, or what it says is no dump
+-- why there is no image from a text: the part ends behind the last address, the text is bad, or
+-- what it says is no dump
 abbrev pub IsHexImportFault : Form → Size → ℕ → List ℕ → Fault → Type 0
 IsHexImportFault form size base text fault =
     ((¬ PartFits form base size) × (fault ≡ Base)) ⊎ IsHexTextFault form size base text fault ⊎ IsHexDumpFault form size base text fault
 
--- why a device's dump is not told from this address on: it ends behind the last one, or there is none
+-- why a device's dump is not told from this address on: it ends behind the last one, or there is
+-- none
 abbrev pub IsPlacedFault : Form → Device → ℕ → Fault → Type 0
 IsPlacedFault form device base fault = ((¬ PartFits form base device.size) × (fault ≡ Base)) ⊎ (PartFits form base device.size × IsDeviceFault device fault)
 
--- why there is no text from an image: it spells no device, or one whose dump is not told from this address on
+-- why there is no text from an image: it spells no device, or one whose dump is not told
+-- from this address on
 abbrev pub IsHexExportFault : Form → List ℕ → ℕ → Fault → Type 0
 IsHexExportFault form image base fault = IsReadingFault image fault ⊎ ((device : Device) × SpellsDevice image device × IsPlacedFault form device base fault)

@@ -12,7 +12,8 @@ use Rattle.ee_part.specs.Inspecting.{is_in_doubt, scan_words}
 abbrev pub ScanIsToldAsItsFault : Type 0
 ScanIsToldAsItsFault = (fault : ScanFault) → cause (fault_of_scan fault) ≡ codes "image " ++ scan_words fault
 
--- the slots that give an address its value and the torn ones are used, and none is both: the others are superseded
+-- the slots that give an address its value and the torn ones are used, and none is both: the
+-- others are superseded
 abbrev pub UsedSlotsAddUp : Type 0
 UsedSlotsAddUp = (slots : List Word) → live_in (meaning slots) + torn_of slots ≤ fill_of slots
 

@@ -1,5 +1,5 @@
--- What `inspect` tells of an image: what a scan finds, how the live set is used, which words are torn, and of which
--- addresses the latest change may be lost.
+-- What `inspect` tells of an image: what a scan finds, how the live set is used, which words are
+-- torn, and of which addresses the latest change may be lost.
 use Rattle.std.specs.Prelude.{◌≡◌, ◌<◌, ◌+◌, ◌-◌, ◌&&◌, ℕ, suc, nat_le, nat_lt, if◌then◌else◌, is_some, Bool, List, [], ◌∷◌, ◌++◌, length, slice_index_or, Option, Some, None, Result, Ok, Err, MatchResult, codes, decimal}
 use Rattle.std.specs.List.{list_any}
 use Rattle.ee_text.specs.Field.{joined_fields}
@@ -41,9 +41,9 @@ set_number Second = 1
 abbrev pub live_slots : Device → Layout → List Word
 live_slots device layout = slots_of (set_of layout.side device)
 
--- The live set: which it is, its generation, how many slots are used and how many are free, how many addresses have a value,
--- how many pages wait to be erased; and of the used slots, how many neither give an address its value nor are torn, and how
--- many are torn.
+-- The live set: which it is, its generation, how many slots are used and how many are free, how
+-- many addresses have a value, how many pages wait to be erased; and of the used slots, how many
+-- neither give an address its value nor are torn, and how many are torn.
 abbrev pub usage_in : Device → Layout → Usage
 usage_in device layout =
     let state = state_with device layout.side layout.generation in
@@ -112,12 +112,14 @@ speaks_of address slot = is_some (says slot address)
 abbrev pub gives_to : ℕ → Word → Bool
 gives_to address slot = is_some (value_said (says slot address))
 
--- the table tells for each number below 65535 how many slots there are up to the last one that speaks of it as an address
+-- the table tells for each number below 65535 how many slots there are up to the last one that
+-- speaks of it as an address
 pub record AreSpoken (slots : List Word) (spoken : List ℕ) : Type 0 where
   pub long : length spoken ≡ 65535
   pub each : (address : ℕ) → address < 65535 → slice_index_or spoken address 0 ≡ up_to_last (speaks_of address) slots
 
--- the last slot that speaks of an address stands before the last torn one, which may have been another change of it
+-- the last slot that speaks of an address stands before the last torn one, which may have been
+-- another change of it
 abbrev pub is_before : ℕ → ℕ → Bool
 is_before spoken torn = nat_lt 0 spoken && nat_lt spoken torn
 

@@ -13,8 +13,8 @@ use Rattle.ee_part.specs.Faults.{IsImportFault}
 use Rattle.ee_part.specs.Hex.{IsHexExported, IsHexImportFault, IsHexImported}
 use Rattle.ee_part.specs.Moving.{IsExported, IsImported}
 
--- where the dump of an image was exported, its import is refused for want of memory alone, and makes the image of the same
--- device, unworn
+-- where the dump of an image was exported, its import is refused for want of memory alone, and
+-- makes the image of the same device, unworn
 abbrev pub ImportOfExport : Type 0
 ImportOfExport =
     (form : Form) (image dump : List ℕ) (device : Device) → SpellsDevice image device → IsExported form image dump

@@ -32,8 +32,8 @@ pub fn used_slots_add_up()
     ensures { UsedSlotsAddUp }
 {}
 
-/// `inspect` tells an address to be in doubt exactly where some slot in front of a torn one speaks of it,
-/// and none behind that torn one does.
+/// `inspect` tells an address to be in doubt exactly where some slot in front of a torn one speaks
+/// of it, and none behind that torn one does.
 pub fn doubts_are_told()
     ensures { DoubtsAreTold }
 {}

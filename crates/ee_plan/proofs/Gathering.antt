@@ -71,7 +71,8 @@ pushed map above address value live so_far proper next =
           | inr less ↦ Contains-append_left live (address ∷ []) k (so_far.all k less has)
         ]
       ];
-      count = let e = live_to-next map above address value next in let f = so_far.count in omega (arith, length-append live (address ∷ []));
+      count = let e = live_to-next map above address value next in
+          let f = so_far.count in omega (arith, length-append live (address ∷ []));
     }
 
 -- the addresses of a batch, one after another

@@ -15,8 +15,8 @@ use Rattle.ee_plan.specs.Lasting.{FirstWaits, LastsAsLong, MakesFewest}
 abbrev no_slots : Situation
 no_slots = record { slots = 0; fill = 0; live = [] }
 
--- `fewest_moves_last_as_long` needs that no clean step erases: a page that one erases wears, where a schedule of no change
--- wears none
+-- `fewest_moves_last_as_long` needs that no clean step erases: a page that one erases wears, where
+-- a schedule of no change wears none
 pub fewest_moves_last_as_long_needs_no_clean_step : ((start : Situation) (trace : List Change) (calls : List Call) (old new : Device)
     → MakesFewest start trace calls old new → ((state_of old).pending ≡ 0) ⊎ FirstWaits old → LastsAsLong 0 start trace old new)
     → (old new : Device) → IsFormed old → FirstWaits old → CountsWear old → Cleans old (Ok true) new → ⊥

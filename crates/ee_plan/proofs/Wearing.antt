@@ -85,7 +85,8 @@ entry : (size : Size) (side : Side) (step : Step) → is_entry size side step �
 entry size side (Program page at value) e = search (rules, cases_Bool, eqb-true, true≢false)
 entry size side (Erase page) e = absurd (true≢false (sym e))
 
--- How often the first pages of the sets are erased at least, where this one is entered next, and so many are entered in all.
+-- How often the first pages of the sets are erased at least, where this one is entered next, and so
+-- many are entered in all.
 record WearFrom (count : ℕ) (next : Side) (steps : List Step) (device : Device) : Type 0 where
   here : (count + 1) / 2 ≤ erases_of (first_page device.size next) steps + blank_count device (first_page device.size next)
   there : count / 2 ≤ erases_of (first_page device.size (other next)) steps + blank_count device (first_page device.size (other next))

@@ -1,5 +1,6 @@
--- How long a part lasts with a store whose moves are the fewest, beside any other store of its kind: how often the most worn
--- page of each is erased. Each law is proved by the function of its name.
+-- How long a part lasts with a store whose moves are the fewest, beside any other store of
+-- its kind: how often the most worn page of each is erased. Each law is proved by the
+-- function of its name.
 use Rattle.std.specs.Prelude.{◌≡◌, ◌<◌, ◌≤◌, ◌⊎◌, ℕ, ◌+◌, Bool, true, false, Some, Ok, List}
 use Rattle.std.specs.List.{All}
 use Rattle.ee_flash.specs.Device.{Device, page_at, wear_at}
@@ -15,15 +16,17 @@ use Rattle.ee_check.specs.declared.change.Change.{Change}
 use Rattle.ee_check.specs.Schedule.{IsSchedule, Move, Situation, cost}
 use Rattle.ee_plan.specs.Wearing.{Transfer}
 
--- A store's calls led from the old device to the new one. Whatever schedule of the trace is made on the old device, by
--- whatever steps, these erase some page as often as any page was erased in the calls, but for so many erases.
+-- A store's calls led from the old device to the new one. Whatever schedule of the trace is made on
+-- the old device, by whatever steps, these erase some page as often as any page was erased in the
+-- calls, but for so many erases.
 abbrev pub LastsAsLong : ℕ → Situation → List Change → Device → Device → Type 0
 LastsAsLong fewer start trace old new =
     (schedule : List Move) (side : Side) (generation : ℕ) (steps : List Step) (page : ℕ) → IsSchedule start trace schedule
     → live_of old ≡ Some (side, generation) → Transfer (cost schedule) side steps old → page < page_count old.size
     → (worn : ℕ) × (worn < page_count old.size) × (wear_at new page ≤ wear_at old page + erases_of worn steps + fewer)
 
--- Calls of a store, in which power is not cut, made no more transfers than any schedule of the trace.
+-- Calls of a store, in which power is not cut, made no more transfers than any
+-- schedule of the trace.
 pub record MakesFewest (start : Situation) (trace : List Change) (calls : List Call) (old new : Device) : Type 0 where
   pub run : IsWholeRun calls old new
   pub fewest : (schedule : List Move) → IsSchedule start trace schedule → transfers calls ≤ cost schedule
@@ -46,8 +49,8 @@ pub record FirstWaits (device : Device) : Type 0 where
   pub live : live_of device ≡ Some (side, generation)
   pub not_blank : is_blank (page_at device (first_page device.size (other side))) ≡ false
 
--- And none lasts longer at all, where no clean step erased a page, and at the start no page of the set that isn't live
--- waited, or its first page did.
+-- And none lasts longer at all, where no clean step erased a page, and at the start no page of the
+-- set that isn't live waited, or its first page did.
 abbrev pub FewestMovesLastAsLong : Type 0
 FewestMovesLastAsLong =
     (start : Situation) (trace : List Change) (calls : List Call) (old new : Device)

@@ -20,7 +20,8 @@ abbrev pub with_addresses : List ℕ → List (ℕ × ℕ) → List ℕ
 with_addresses live [] = live
 with_addresses live (found ∷ more) = with_addresses (live ++ found.0 ∷ []) more
 
--- In a set of so many slots, as many are used as in the store's state, and the addresses that have a value are live.
+-- In a set of so many slots, as many are used as in the store's state, and the addresses that
+-- have a value are live.
 pub record IsStartOf (slots : ℕ) (state : State) (start : Situation) : Type 0 where
   pub slots_are : start.slots ≡ slots
   pub fill_is : start.fill ≡ state.fill

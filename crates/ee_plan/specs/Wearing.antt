@@ -1,4 +1,5 @@
--- How often a schedule erases, on any device and by whatever steps: what its transfers ask of the first page of each set.
+-- How often a schedule erases, on any device and by whatever steps: what its transfers ask of the
+-- first page of each set.
 use Rattle.std.specs.Prelude.{◌≡◌, ◌≤◌, ℕ, ◌+◌, ◌-◌, ◌/◌, ◌==◌, ◌&&◌, if◌then◌else◌, Bool, true, false, Some, List, [], ◌∷◌, zero, suc}
 use Rattle.std.specs.List.{All, flat_map}
 use Rattle.ee_flash.specs.Device.{Device, page_at}
@@ -39,8 +40,9 @@ EnterBlank (step ∷ steps) device =
     All (λ side. is_blank (page_at device (first_page device.size side)) ≡ true) (entered_by device.size step)
     × EnterBlank steps (device_after step device)
 
--- Steps that a device takes, and that make so many transfers, if this set of it is live at the start: each enters the set that
--- isn't live then, so the sets take turns, and the other one is the first. Whatever else they program and erase is free.
+-- Steps that a device takes, and that make so many transfers, if this set of it is live at the
+-- start: each enters the set that isn't live then, so the sets take turns, and the other one is the
+-- first. Whatever else they program and erase is free.
 pub record Transfer (transfers : ℕ) (side : Side) (steps : List Step) (device : Device) : Type 0 where
   pub taken : AreTaken steps device
   pub turns : entered_sets device.size steps ≡ by_turns (other side) transfers
@@ -48,8 +50,9 @@ pub record Transfer (transfers : ℕ) (side : Side) (steps : List Step) (device 
 
 -- ---- what they erase
 
--- So often at least is the first page of each set erased: that of the set that was live, and that of the other, which was blank
--- or was not. A word is programmed once between two erases of its page, so a set is entered once.
+-- So often at least is the first page of each set erased: that of the set that was live, and that
+-- of the other, which was blank or was not. A word is programmed once between two erases of its
+-- page, so a set is entered once.
 pub record WearsAtLeast (transfers : ℕ) (side : Side) (steps : List Step) (device : Device) : Type 0 where
   pub live : transfers / 2 ≤ erases_of (first_page device.size side) steps
   pub spare : is_blank (page_at device (first_page device.size (other side))) ≡ true
@@ -57,14 +60,15 @@ pub record WearsAtLeast (transfers : ℕ) (side : Side) (steps : List Step) (dev
   pub pending : is_blank (page_at device (first_page device.size (other side))) ≡ false
       → (transfers + 1) / 2 ≤ erases_of (first_page device.size (other side)) steps
 
--- No schedule of the trace wears the first pages of its sets less than so many transfers ask, by whatever steps, on whatever
--- device it starts.
+-- No schedule of the trace wears the first pages of its sets less than so many transfers ask, by
+-- whatever steps, on whatever device it starts.
 abbrev pub NoneWearsLess : Situation → List Change → ℕ → Type 0
 NoneWearsLess start trace transfers =
     (schedule : List Move) (side : Side) (generation : ℕ) (steps : List Step) (device : Device) → IsSchedule start trace schedule
     → live_of device ≡ Some (side, generation) → Transfer (cost schedule) side steps device → WearsAtLeast transfers side steps device
 
--- It is so of as many transfers as no schedule spares. The law is proved by the function of its name.
+-- It is so of as many transfers as no schedule spares. The law is proved by the
+-- function of its name.
 abbrev pub FewestTransfersWear : Type 0
 FewestTransfersWear =
     (start : Situation) (trace : List Change) (transfers : ℕ) → ((schedule : List Move) → IsSchedule start trace schedule → transfers ≤ cost schedule)

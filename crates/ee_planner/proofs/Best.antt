@@ -1,4 +1,5 @@
--- A schedule reaches a tight certificate and none betters it, and so it is wherever the trace is broken off.
+-- A schedule reaches a tight certificate and none betters it, and so it is wherever the
+-- trace is broken off.
 use Rattle.std.proofs.Common.{◌≡◌, ℕ, List, length, map, ap, ◌∙◌, rules}
 use Rattle.ee_check.specs.declared.change.Change.{Change}
 use Rattle.ee_check.specs.Schedule.{Situation, IsProper}

@@ -41,7 +41,11 @@ carried start trace n change old h made is fits used =
     let place : Place = last_place start trace (first_place start) old.stretches in
     let stretch : Stretch = record { to = n + 1; from = old.from } in
     let live_is = one_made start.live old.now.live (live_after_one old.now.live change) trace n change h made.live is refl in
-    let a = made.behind in let b = made.fill in let c = made.fits in let d = made.slots in let f = made.from in
+    let a = made.behind in
+    let b = made.fill in
+    let c = made.fits in
+    let d = made.slots in
+    let f = made.from in
     let tight : IsTightStretch start trace place stretch = record { forced = record { rising = omega arith; within = omega arith; from_is = f; forced = omega arith }; tight = omega arith } in
     let e : last_place start trace (first_place start) (old.stretches ++ stretch ∷ []) ≡ place_at start trace (n + 1) =
     last_place-append start trace (first_place start) old.stretches stretch in
@@ -64,11 +68,13 @@ pub made_more : (start : Situation) (trace : List Change) (n number : ℕ) (chan
     → HasMade start trace (n + 1) new
 made_more start trace n number change old new numbered h made is (inl appends) fits =
     let e = appends.new_is in
-    let live_fits : length (live_after_one old.now.live change) ≤ start.slots = let a = ap (λ s. length s.now.live) e in let b = made.slots in omega arith in
+    let live_fits : length (live_after_one old.now.live change) ≤ start.slots = let a = ap (λ s. length s.now.live) e in
+    let b = made.slots in omega arith in
     subst (λ s. HasMade start trace (n + 1) s) (sym e) (appended start trace n change old h made is live_fits appends.free)
 made_more start trace n number change old new numbered h made is (inr carries) fits =
     let e = carries.new_is in
-    let live_fits : length (live_after_one old.now.live change) ≤ start.slots = let a = ap (λ s. length s.now.live) e in let b = made.slots in omega arith in
+    let live_fits : length (live_after_one old.now.live change) ≤ start.slots = let a = ap (λ s. length s.now.live) e in
+    let b = made.slots in omega arith in
     let numbers : new ≡ record {
       now = record { slots = old.now.slots; fill = length (live_after_one old.now.live change); live = live_after_one old.now.live change };
       from = length (live_after_one old.now.live change);
@@ -89,8 +95,11 @@ refused start trace n number change old (NotFitting m) numbered h made is why =
     let parts : trace ≡ take n trace ++ change ∷ drop (n + 1) trace =
     sym (take-append-drop n trace) ∙ ap (λ l. take n trace ++ l) (behind ∙ ap (λ c. c ∷ drop (n + 1) trace) (sym is)) in
     let held : length (live_after start.live (take n trace)) ≤ start.slots =
-    let a = ap length made.live in let b = made.held in let c = made.fits in omega arith in
+    let a = ap length made.live in
+    let b = made.held in
+    let c = made.fits in omega arith in
     let breaks : start.slots < length (live_after_one (live_after start.live (take n trace)) change) =
-    subst (λ l. start.slots < length (live_after_one l change)) made.live (let a = made.slots in let b = why.1 in omega arith) in
+    subst (λ l. start.slots < length (live_after_one l change)) made.live (let a = made.slots in
+    let b = why.1 in omega arith) in
     let before : length (take n trace) ≡ n = length-take-le n trace (omega arith) in
     first_breaks start trace (take n trace) (drop (n + 1) trace) change m parts made.keeps held breaks (let a = why.0 in omega arith)

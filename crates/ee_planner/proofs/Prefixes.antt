@@ -50,7 +50,10 @@ tight_within start prefix rest place (stretch ∷ stretches) here each fits =
           )
       | inr behind ↦
           let none = none_within start (prefix ++ rest) (place_at start (prefix ++ rest) stretch.to) stretches (length prefix) each.1 (let h = behind.1 in omega arith) in
-          let a = behind.1 in let b = forced.from_is in let c = each.0.tight in let d = forced.rising in
+          let a = behind.1 in
+          let b = forced.from_is in
+          let c = each.0.tight in
+          let d = forced.rising in
           rw (behind.0, none) (tt, omega arith)
     ]
 

@@ -28,7 +28,8 @@ shifted count slots from d k later same behind e (suc j) =
     ap (place_in_round count slots) (omega arith) ∙ place_next count slots (k + j) in
     let c : count (place_in_round count slots (later + j)) ≡ count (place_in_round count slots (k + j)) =
     ap count so_far.0 ∙ same (place_in_round count slots (k + j)) so_far.1 in
-    let f = so_far.0 in let g = so_far.1 in
+    let f = so_far.0 in
+    let g = so_far.1 in
     (omega arith, omega arith)
 
 -- as often as one likes
@@ -60,7 +61,8 @@ leapt count slots total from periods mark walk far same behind marked walked fur
     let behind_mark : from ≤ place_in_round count slots mark.made = omega arith in
     let again : place_in_round count slots (walk.made + gain) ≡ place_in_round count slots walk.made + d =
     let a = (shifted count slots from d mark.made walk.made same behind_mark (let a = walked.place in omega arith) gain).0 in
-    let b = ap (place_in_round count slots) ends in let c = walked.place in
+    let b = ap (place_in_round count slots) ends in
+    let c = walked.place in
     omega arith in
     let on = periods_on count slots from d walk.made gain same behind_walk again periods in
     let there = ap (place_in_round count slots) made in

@@ -20,7 +20,8 @@ whole_keeps start trace store made = subst (λ l. KeepsWithin start.slots start.
 
 pub used_now : (start : Situation) (trace : List Change) (store : LateStore) → HasMade start trace (length trace) store
     → used_at_end start trace store.stretches ≡ store.now.fill
-used_now start trace store made = let a = made.fill in let b = made.from in omega arith
+used_now start trace store made = let a = made.fill in
+    let b = made.from in omega arith
 
 pub whole_tight : (start : Situation) (trace : List Change) (store : LateStore) (claim : Claim) → HasMade start trace (length trace) store
     → claim.stretches ≡ store.stretches → IsCertificateHeader start trace claim → IsTight start trace claim
@@ -45,7 +46,8 @@ whole_reached start trace store transfers free proper made counted left =
       moves = reached.moves;
       schedule = reached.schedule;
       cost_is = let a = reached.cost_is in omega arith;
-      free_is = let a = reached.free_is in let b = used_now start trace store made in omega arith;
+      free_is = let a = reached.free_is in
+          let b = used_now start trace store made in omega arith;
     }
 
 pub whole_best : (start : Situation) (trace : List Change) (store : LateStore) (moments : List ℕ) → IsProper start → HasMade start trace (length trace) store

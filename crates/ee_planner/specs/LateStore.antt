@@ -40,8 +40,8 @@ pub record Carries (old : LateStore) (change : Change) (n : ℕ) (new : LateStor
 abbrev pub Makes : LateStore → Change → ℕ → LateStore → Type 0
 Makes old change n new = TakesFreeSlot old change new ⊎ Carries old change n new
 
--- After n changes of the trace its stretches are tight, and as many slots are used as were where the last of them ended, and one for each
--- change since.
+-- After n changes of the trace its stretches are tight, and as many slots are used as were where
+-- the last of them ended, and one for each change since.
 pub record HasMade (start : Situation) (trace : List Change) (n : ℕ) (store : LateStore) : Type 0 where
   pub slots : store.now.slots ≡ start.slots
   pub live : store.now.live ≡ live_after start.live (take n trace)

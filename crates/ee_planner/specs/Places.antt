@@ -1,4 +1,5 @@
--- Where the late store transfers in a trace that is made many times over, and what its addresses are counted by.
+-- Where the late store transfers in a trace that is made many times over, and what its
+-- addresses are counted by.
 use Rattle.std.specs.Prelude.{◌≡◌, ℕ, ◌+◌, ◌-◌, ◌%◌, ◌<◌, ◌≤◌, List, [], ◌∷◌, length, slice_index, nat_lt, if◌then◌else◌, zero, suc}
 use Rattle.ee_check.specs.declared.change.Change.{Change}
 use Rattle.ee_check.specs.Live.{live_after_one, live_after}
@@ -16,8 +17,8 @@ pub record AreFlats (counts flats : List ℕ) : Type 0 where
   pub same : (i j : ℕ) → i < length counts → j ≤ slice_index flats i
       → (i + j < length counts) × (slice_index counts (i + j) ≡ slice_index counts i)
 
--- the counts of the first round, and those of each later one: whatever a trace finds, it leaves the same addresses the
--- second time as the first
+-- the counts of the first round, and those of each later one: whatever a trace finds, it leaves the
+-- same addresses the second time as the first
 pub record AreRoundCounts {A : Type 0} (trace : List Change) (counts : Counts A) : Type 0 where
   pub first : counts.first.items ≡ counts_before [] trace
   pub later : counts.later.items ≡ counts_before (live_after [] trace) trace
@@ -35,8 +36,8 @@ count_after counts n =
     (if nat_lt n (length counts.later.items) then slice_index counts.first.items n
     else slice_index counts.later.items (n % length counts.later.items))
 
--- just after change n was a transfer, so each live address uses a slot: the next transfer comes with the first change that
--- finds none free
+-- just after change n was a transfer, so each live address uses a slot: the next transfer comes
+-- with the first change that finds none free
 abbrev pub next_place : (ℕ → ℕ) → ℕ → ℕ → ℕ
 next_place count slots n = n + (slots - count n) + 1
 

@@ -28,8 +28,8 @@ abbrev pub NoneIsBetter : Situation → List Change → ℕ → ℕ → Type 0
 NoneIsBetter start trace transfers free = (moves : List Move) → IsSchedule start trace moves
     → (transfers < cost moves) ⊎ ((cost moves ≡ transfers) × (start.slots - free ≤ (after_moves start moves).fill))
 
--- these are the changes at which the stretches of a tight certificate of the trace end, which a schedule reaches and none
--- betters
+-- these are the changes at which the stretches of a tight certificate of the trace end, which a
+-- schedule reaches and none betters
 pub record IsBest (start : Situation) (trace : List Change) (moments : List ℕ) : Type 0 where
   pub claim : Claim
   pub tight : IsTight start trace claim
@@ -46,7 +46,8 @@ abbrev pub IsBestThroughout : Situation → List Change → List ℕ → Type 0
 IsBestThroughout start trace moments = (prefix rest : List Change) → trace ≡ prefix ++ rest
     → IsBest start prefix (moments_within (length prefix) moments)
 
--- Change n, counted from 1, is the first that doesn't fit: a write that makes more addresses live than there are slots.
+-- Change n, counted from 1, is the first that doesn't fit: a write that makes more addresses live
+-- than there are slots.
 pub record IsFirstNotFitting (start : Situation) (trace : List Change) (n : ℕ) : Type 0 where
   pub before : List Change
   pub address : ℕ

@@ -16,10 +16,11 @@ repeated_trace zero trace = []
 repeated_trace (suc more) trace = trace ++ repeated_trace more trace
 
 -- a set of so many slots of which none is used
-abbrev pub fresh : ℕ → Situation
-fresh slots = record { slots = slots; fill = 0; live = [] }
+abbrev pub unused_situation : ℕ → Situation
+unused_situation slots = record { slots = slots; fill = 0; live = [] }
 
--- The tight certificate of the trace has so many stretches; some schedule transfers as often, and none less often.
+-- The tight certificate of the trace has so many stretches; some schedule transfers as often,
+-- and none less often.
 pub record IsFewest (start : Situation) (trace : List Change) (transfers : ℕ) : Type 0 where
   pub claim : Claim
   pub tight : IsTight start trace claim
@@ -27,7 +28,8 @@ pub record IsFewest (start : Situation) (trace : List Change) (transfers : ℕ) 
   pub reached : (moves : List Move) × IsSchedule start trace moves × (cost moves ≡ transfers)
   pub fewest : (moves : List Move) → IsSchedule start trace moves → transfers ≤ cost moves
 
--- the trace fits and takes so many transfers at least, or this change of it is the first that doesn't fit
+-- the trace fits and takes so many transfers at least, or this change of it is the
+-- first that doesn't fit
 abbrev pub IsDemand : Situation → List Change → Demand → Type 0
 IsDemand start trace (Transfers transfers) = KeepsWithin start.slots start.live trace × IsFewest start trace transfers
 IsDemand start trace (NotFitting n) = IsFirstNotFitting start trace n

@@ -8,7 +8,8 @@ use ee_check::{Change, LiveSet, Start, Stretch};
 use std::alloc::{AllocError, Allocator};
 use std::marker::Model;
 
-/// A store that transfers exactly when each slot is used, on its way through a trace. It has no flash: it only counts.
+/// A store that transfers exactly when each slot is used, on its way through a trace. It has no
+/// flash: it only counts.
 #[derive(Drop)]
 pub(crate) struct LateStore<A: Allocator> {
     slots: u64,

@@ -10,15 +10,15 @@ use super::planned::{Plan, PlanFault};
 use ee_check::{Certificate, Change, Start};
 use std::alloc::Allocator;
 
-/// The fewest transfers that the trace takes of any store that appends each change and transfers by copying
-/// the live addresses, when it makes them, and how many slots they leave free.
+/// The fewest transfers that the trace takes of any store that appends each change and transfers by
+/// copying the live addresses, when it makes them, and how many slots they leave free.
 ///
 /// Source: ours.
 ///
 /// # Errors
 ///
-/// The first change that makes more addresses live than there are slots; want of memory can come in place of
-/// any answer.
+/// The first change that makes more addresses live than there are slots; want of memory can come in
+/// place of any answer.
 pub fn plan<A: Allocator + Copy, B: Allocator>(
     alloc: A,
     start: &Start<B>,
@@ -30,13 +30,14 @@ pub fn plan<A: Allocator + Copy, B: Allocator>(
     ensures certificate { IfOk result (λ plan. IsCertificate start.now trace.now (claim_of plan.certificate)) }
     // A schedule of this cost and this room exists.
     ensures reached { IfOk result (λ plan. IsReached start.now trace.now plan.transfers plan.room) }
-    // Wherever the trace is broken off, its moments so far are those of the tight certificate, which a
-    // schedule reaches and none betters.
+    // Wherever the trace is broken off, its moments so far are those of the tight certificate,
+    // which a schedule reaches and none betters.
     ensures best { IfOk result
         (λ plan. IsBestThroughout start.now trace.now plan.moments.items) }
     ensures keeps { IfOk result (λ _. KeepsWithin start.now.slots start.now.live trace.now) }
     ensures refused { IfErr result (IsPlanFault start.now trace.now) }
-    // Every trace that keeps within the slots is planned, and the first change that doesn't is named.
+    // Every trace that keeps within the slots is planned, and the first change that doesn't is
+    // named.
     ensures fits { KeepsWithin start.now.slots start.now.live trace.now → IfErr result (λ fault. fault ≡ PlanFault.Memory) }
     ensures names { (n : ℕ) → IsFirstNotFitting start.now trace.now n
         → MatchResult result (λ _. ⊥) (λ fault. (fault ≡ PlanFault.NotFitting n) ⊎ (fault ≡ PlanFault.Memory)) }

@@ -3,7 +3,7 @@ ghost use Rattle.std.specs.Prelude.{◌≡◌, ℕ, ◌*◌, ◌^◌, ◌<◌, �
 ghost use Rattle.ee_check.specs.Live.{KeepsWithin};
 ghost use Rattle.ee_planner.specs.Places.{AreRoundCounts};
 ghost use Rattle.ee_planner.specs.Plan.{IsFirstNotFitting};
-ghost use Rattle.ee_planner.specs.Rounds.{IsDemand, IsRoundsFault, fresh, repeated_trace};
+ghost use Rattle.ee_planner.specs.Rounds.{IsDemand, IsRoundsFault, repeated_trace, unused_situation};
 
 use super::counts::Counts;
 use super::demand::{Demand, RoundsFault};
@@ -12,8 +12,8 @@ use ee_check::Change;
 use std::alloc::{Allocator, Global};
 use std::marker::Model;
 
-/// A trace that is made so many times, one after another. It takes three numbers of memory for each change
-/// of the trace, however often it is made.
+/// A trace that is made so many times, one after another. It takes three numbers of memory for each
+/// change of the trace, however often it is made.
 ///
 /// Source: ours.
 #[derive(Drop)]
@@ -44,7 +44,8 @@ impl<A: Allocator + Copy> Rounds<A> {
     ///
     /// # Errors
     ///
-    /// `TooMany` exactly where the changes of all rounds are 2^63 or more; otherwise memory can run out.
+    /// `TooMany` exactly where the changes of all rounds are 2^63 or more; otherwise
+    /// memory can run out.
     pub fn new(alloc: A, trace: Vec<Change, A>, runs: u64) -> Result<Rounds<A>, RoundsFault>
         ensures rounds { IfOk result (λ rounds. rounds ≡ repeated_trace runs trace.items) }
         ensures fault { IfErr result (IsRoundsFault runs trace.items) }
@@ -75,17 +76,19 @@ impl<A: Allocator> Rounds<A> {
         self.runs * self.trace.as_slice().len() as u64
     }
 
-    /// What the rounds demand of a set of so many slots that starts empty: the fewest transfers of any
-    /// store that appends each change and transfers by copying the live addresses, when it likes; or the
-    /// first change that doesn't fit.
+    /// What the rounds demand of a set of so many slots that starts empty: the fewest transfers of
+    /// any store that appends each change and transfers by copying the live addresses, when it
+    /// likes; or the first change that doesn't fit.
     ///
     /// Source: ours.
     pub fn demand(&self, slots: u32) -> Demand
-        ensures demand { IsDemand (fresh slots) self.now result }
-        // Every trace that keeps within the slots has its number of transfers, and of every other one the
-        // first change that doesn't fit is named.
-        ensures fits { KeepsWithin slots (fresh slots).live self.now → (n : ℕ) × (result ≡ Demand.Transfers n) }
-        ensures names { (n : ℕ) → IsFirstNotFitting (fresh slots) self.now n → result ≡ Demand.NotFitting n }
+        ensures demand { IsDemand (unused_situation slots) self.now result }
+        // Every trace that keeps within the slots has its number of transfers, and of every other
+        // one the first change that doesn't fit is named.
+        ensures fits { KeepsWithin slots (unused_situation slots).live self.now
+            → (n : ℕ) × (result ≡ Demand.Transfers n) }
+        ensures names { (n : ℕ) → IsFirstNotFitting (unused_situation slots) self.now n
+            → result ≡ Demand.NotFitting n }
     {
         demand_of(&self.trace, self.runs, &self.counts, slots as u64)
     }
@@ -96,7 +99,7 @@ fn demand_of<A: Allocator>(trace: &[Change], runs: u64, counts: &Counts<A>, slot
     requires counts { AreRoundCounts trace.now counts.now }
     requires runs { runs * length trace.now < 2 ^ 63 }
     requires slots { slots < 2 ^ 32 }
-    ensures { IsDemand (fresh slots) (repeated_trace runs trace.now) result }
+    ensures { IsDemand (unused_situation slots) (repeated_trace runs trace.now) result }
 {
     if trace.is_empty() {
         return Demand::Transfers(0);

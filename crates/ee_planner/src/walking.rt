@@ -32,9 +32,9 @@ pub(crate) fn transfers<A: Allocator>(counts: &Counts<A>, slots: u64, total: u64
     }
 }
 
-/// Walks until it comes to a change of the trace at which it has transferred before, and from there by as
-/// many whole periods at once as there are changes for. Where it has been is remembered of one place only,
-/// each time that the transfers have doubled.
+/// Walks until it comes to a change of the trace at which it has transferred before, and from there
+/// by as many whole periods at once as there are changes for. Where it has been is remembered of
+/// one place only, each time that the transfers have doubled.
 fn leap<A: Allocator>(counts: &Counts<A>, slots: u64, total: u64) -> Walk
     requires rounds { AreRounds counts.now }
     requires slots { slots < 2 ^ 32 }
@@ -79,8 +79,8 @@ fn by_periods(mark: Walk, walk: Walk, total: u64) -> Walk
     }
 }
 
-/// One transfer further, or as many at once as come while as many addresses are live; none, where the
-/// next one would come behind the last change.
+/// One transfer further, or as many at once as come while as many addresses are live; none, where
+/// the next one would come behind the last change.
 fn onward<A: Allocator>(counts: &Counts<A>, slots: u64, total: u64, walk: Walk) -> Walk
     requires rounds { AreRounds counts.now }
     requires slots { slots < 2 ^ 32 }

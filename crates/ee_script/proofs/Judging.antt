@@ -1,5 +1,5 @@
--- Every text is a script or has a first bad line: whether a good line stands at its front can be found out, since there
--- are only so many addresses, values and steps.
+-- Every text is a script or has a first bad line: whether a good line stands at its front can be
+-- found out, since there are only so many addresses, values and steps.
 use Rattle.std.proofs.Common.{◌≡◌, ◌⊎◌, ◌∙◌, ◌+◌, ◌<◌, ◌≤◌, ◌^◌, ◌++◌, ℕ, zero, suc, List, [], ◌∷◌, length, inl, inr, refl, sym, ap, arith, append_assoc, rules}
 use Rattle.std.proofs.lemmas.Grind.{common_steps}
 use Rattle.std.proofs.lemmas.Bool.{cases_lt}

@@ -1,4 +1,5 @@
--- What comes of a script that a reader gives. What the reader has left to give is seen before and after, where it is known.
+-- What comes of a script that a reader gives. What the reader has left to give is seen before and
+-- after, where it is known.
 use Rattle.std.specs.Prelude.{◌≡◌, ◌⊎◌, ◌<◌, ◌^◌, ℕ, Option, List, ◌++◌, length}
 use Rattle.std.specs.Io.KnownBytes.{Consumes, IsAtEnd}
 use Rattle.ee_script.specs.declared.command.Command.{Command}
@@ -20,8 +21,8 @@ pub record TakesText {S : Type 0} (step : S → Command → Answer → S → Typ
   pub countable : length text < 2 ^ 64
   pub went : Goes step old text new
 
--- Why it is not fed to the end. A read failed, or there were too many: all that was given before was judged, and what no
--- line feed ended yet is less than a line. Or what was given has a fault.
+-- Why it is not fed to the end. A read failed, or there were too many: all that was given before
+-- was judged, and what no line feed ended yet is less than a line. Or what was given has a fault.
 abbrev pub StopsReading : {S : Type 0} → (S → Command → Answer → S → Type 0) → Progress S → Option (List ℕ) → Option (List ℕ) → StreamFault → Type 0
 StopsReading {S} step old before after Read = (held : Progress S) × TakesText step old before after held × IsUnfinished held.unfinished
 StopsReading step old before after (Script fault) = (text : List ℕ) × Consumes before after text × (length text < 2 ^ 64) × IsFault old text fault
@@ -47,8 +48,8 @@ pub record IsGoodSoFar (text : List ℕ) : Type 0 where
 abbrev pub IsBadAlready : List ℕ → ℕ → Type 0
 IsBadAlready text n = (more : List ℕ) → IsFirstBadCommandLine (text ++ more) n
 
--- What was met first, behind a text that the reader gave: a read that failed, with no bad line judged before it; a line that
--- is bad whatever follows; a bad line at the end; or memory ran out.
+-- What was met first, behind a text that the reader gave: a read that failed, with no bad line
+-- judged before it; a line that is bad whatever follows; a bad line at the end; or memory ran out.
 abbrev pub IsMet : Option (List ℕ) → List ℕ → StreamFault → Type 0
 IsMet after text Read = IsGoodSoFar text
 IsMet after text (Script (BadLine n)) = IsBadAlready text n ⊎ (IsAtEnd after × IsFirstBadCommandLine text n)

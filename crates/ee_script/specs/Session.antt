@@ -7,8 +7,8 @@ use Rattle.ee_script.specs.Script.{script, AreCommands, NoLine}
 use Rattle.ee_script.specs.Answer.{report}
 use Rattle.ee_script.specs.Run.{Run}
 
--- a session between two pieces: what serves it, the report, how many lines were judged (no further than a u64 counts),
--- and the line that no line feed ended yet
+-- a session between two pieces: what serves it, the report, how many lines were judged (no further
+-- than a u64 counts), and the line that no line feed ended yet
 pub record Progress (S : Type 0) : Type 0 where
   pub server : S
   pub report : List ℕ
@@ -24,8 +24,8 @@ pub record IsUnfinished (text : List ℕ) : Type 0 where
   pub one_line : IsLine text
   pub short : length text ≤ 24
 
--- The piece was judged: with what was unfinished before, it is the lines of some commands and what is unfinished now;
--- the report grew by the answers to them, which what serves may give.
+-- The piece was judged: with what was unfinished before, it is the lines of some commands and what
+-- is unfinished now; the report grew by the answers to them, which what serves may give.
 pub record Goes {S : Type 0} (step : S → Command → Answer → S → Type 0) (old : Progress S) (piece : List ℕ) (new : Progress S) : Type 0 where
   pub commands : List Command
   pub answers : List Answer
@@ -43,7 +43,8 @@ pub record Answered {S : Type 0} (step : S → Command → Answer → S → Type
   pub lines_are : new.lines ≡ saturating_count (old.lines + 1)
   pub unfinished_is : new.unfinished ≡ old.unfinished
 
--- A bad line was met in the piece, and n is its number: whatever follows the piece, no good line stands there.
+-- A bad line was met in the piece, and n is its number: whatever follows the piece, no
+-- good line stands there.
 pub record MeetsBadLine {S : Type 0} (old : Progress S) (piece : List ℕ) (n : ℕ) : Type 0 where
   pub good : List Command
   pub rest : List ℕ

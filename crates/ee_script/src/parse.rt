@@ -26,8 +26,8 @@ pub fn read_command(line: &[u8]) -> Option<Command>
     }
 }
 
-/// The command whose line stands at the front of a text, and what stands behind the line. None where
-/// no good line stands there.
+/// The command whose line stands at the front of a text, and what stands behind the line. None
+/// where no good line stands there.
 #[inline(always)]
 pub fn next_command(text: &[u8]) -> Option<(Command, &[u8])>
     ensures found { IfSome result (λ parts. IsCommand parts.0
@@ -40,8 +40,8 @@ pub fn next_command(text: &[u8]) -> Option<(Command, &[u8])>
     }
 }
 
-/// The command that is spelled at the front of a text, and what stands behind it: a number that ends
-/// it goes up to the first byte that is no digit.
+/// The command that is spelled at the front of a text, and what stands behind it: a number that
+/// ends it goes up to the first byte that is no digit.
 #[inline(always)]
 fn leading_command(text: &[u8]) -> Option<(Command, &[u8])>
     ensures found { IfSome result (λ parts. IsCommand parts.0

@@ -127,8 +127,9 @@ impl<S: Serve + Drop, A: Allocator> Session<S, A> {
         }
     }
 
-    /// Takes the next piece of the script: each line that ends in it is answered. A line is judged
-    /// when its line feed comes, or at the end of the piece that makes it longer than any good line.
+    /// Takes the next piece of the script: each line that ends in it is answered. A line is
+    /// judged when its line feed comes, or at the end of the piece that makes it longer
+    /// than any good line.
     pub fn feed(mut self, piece: &[u8]) -> Result<Session<S, A>, ScriptFault>
         ensures { MatchResult result
             (λ session. Goes S.serves self piece.now session)
@@ -147,8 +148,8 @@ impl<S: Serve + Drop, A: Allocator> Session<S, A> {
         Ok(self)
     }
 
-    /// Takes what a reader gives, to its end. What one read call gives is judged before the next, and
-    /// a read that was interrupted is tried again. No more than `most` read calls are made.
+    /// Takes what a reader gives, to its end. What one read call gives is judged before the next,
+    /// and a read that was interrupted is tried again. No more than `most` read calls are made.
     pub fn feed_all<R: Read>(self, reader: &mut R, most: u32) -> Result<Session<S, A>, StreamFault>
         ensures fed { IfOk result (TakesText S.serves self (R.remaining reader.old)
             (R.remaining reader.new)) }
@@ -174,7 +175,8 @@ impl<S: Serve + Drop, A: Allocator> Session<S, A> {
         Err(StreamFault::Read)
     }
 
-    /// Ends the script, and gives what served it and the report. A line that no line feed ended is bad.
+    /// Ends the script, and gives what served it and the report. A line that no line feed ended is
+    /// bad.
     pub fn finish(self) -> Result<(S, Vec<u8, A>), ScriptFault>
         ensures { MatchResult result (λ done. EndsScript self done.0 done.1.items) (EndsBadly self) }
     {
@@ -229,8 +231,8 @@ impl<S: Serve + Drop, A: Allocator> Session<S, A> {
         Ok(())
     }
 
-    /// Keeps the bytes of a line that isn't ended yet. They make it a bad line if they end it, since
-    /// no good line begins so, or if they make it too long.
+    /// Keeps the bytes of a line that isn't ended yet. They make it a bad line if they end it,
+    /// since no good line begins so, or if they make it too long.
     #[tactic(auto, using(crate::proofs::Steps::goes_keeping, crate::proofs::Faults::fault_when_long, crate::proofs::Faults::fault_within))]
     fn keep(&mut self, bytes: &[u8]) -> Result<(), ScriptFault>
         requires before { IsLine self.old.unfinished }

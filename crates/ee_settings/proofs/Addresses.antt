@@ -33,4 +33,5 @@ at_is a q = grind (arith, common_steps)
 pub one_taken : (settings : List Setting) (setting : Setting) (numbers : Numbers) (before after : BTreeSet ℕ) → numbers ≡ setting.numbers
     → ((a : ℕ) → contains nat_cmp after a ≡ cond (is_at (nat_cmp numbers.address) a) true (contains nat_cmp before a)) → ((a : ℕ) → contains nat_cmp before a ≡ has_address settings a)
     → (a : ℕ) → contains nat_cmp after a ≡ has_address (settings ++ setting ∷ []) a
-one_taken settings setting numbers before after is updates so_far a = let one = updates a in let old = so_far a in grind (arith, common_steps)
+one_taken settings setting numbers before after is updates so_far a = let one = updates a in
+    let old = so_far a in grind (arith, common_steps)

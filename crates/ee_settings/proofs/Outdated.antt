@@ -28,7 +28,8 @@ stale_within stored (setting ∷ settings) n = search (rules, (stale_within stor
 -- ---- exactly those
 
 not_in_range : (numbers : Numbers) (value : ℕ) → is_in_range numbers value ≡ false → ¬ IsInRange numbers value
-not_in_range numbers value test within = let low = within.0 in let high = within.1 in grind (arith, nat_tests)
+not_in_range numbers value test within = let low = within.0 in
+    let high = within.1 in grind (arith, nat_tests)
 
 out_of_range : (numbers : Numbers) (value : ℕ) → ¬ IsInRange numbers value → is_in_range numbers value ≡ false
 out_of_range numbers value outside = search (rules, cases_lt, nat_tests)

@@ -15,7 +15,8 @@ use Rattle.ee_settings.specs.declared.reading.Reading.TheVariants.{Stored}
 
 -- a value in the range is what is read
 in_range_read : (numbers : Numbers) (value : ℕ) → IsInRange numbers value → reading_of numbers (Some value) ≡ Stored value
-in_range_read numbers value h = let a = h.0 in let b = h.1 in grind (arith, nat_tests)
+in_range_read numbers value h = let a = h.0 in
+    let b = h.1 in grind (arith, nat_tests)
 
 pub changed_elsewhere : (address value other : ℕ) (map : Map) → address ≢ other → map_after (Put address value) map other ≡ map other
 changed_elsewhere address value other map apart = grind (arith, nat_tests)

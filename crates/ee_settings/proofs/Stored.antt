@@ -8,7 +8,7 @@ use Rattle.ee_flash.specs.Device.{Device}
 use Rattle.ee_pages.specs.Meaning.{Map, Put, map_after}
 use Rattle.ee_pages.specs.LiveOrder.{AreLiveThrough, AreNextLive, IsNextLive, IsNoneLive, last_of}
 use Rattle.ee_pages.proofs.Public.{put_there}
-use Rattle.ee_core.specs.Parts.{map_to}
+use Rattle.ee_core.specs.CallSteps.{map_to}
 use Rattle.ee_core.specs.State.{state_of}
 use Rattle.ee_settings.proofs.Addresses.{at_is}
 use Rattle.ee_settings.proofs.Proper.{none_outside}

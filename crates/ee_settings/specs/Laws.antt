@@ -41,7 +41,8 @@ abbrev pub KeepsAll : List Setting → Device → Device → Type 0
 KeepsAll settings old new = (setting : Setting) → Contains settings setting
     → reading_in (state_of new).map setting ≡ reading_in (state_of old).map setting
 
--- A setting that was set reads as that value, and no other reading changes, whether the store moved or not.
+-- A setting that was set reads as that value, and no other reading changes, whether the
+-- store moved or not.
 abbrev pub SetIsRead : Type 0
 SetIsRead = (settings : List Setting) → IsSchema settings → (old new : Device) (name : List ℕ) (value : ℕ) (written : Written)
     → Sets settings old name value (Ok written) new → ReadsStored settings name value new × KeepsOthers settings name old new
@@ -97,8 +98,8 @@ StaleIsExact = (settings : List Setting) (stored : Map) → IsStaleExact setting
 
 -- ---- what is listed
 
--- What is listed rises by address, so each is listed once; what is said of each is so; and each that has a value or a
--- setting is listed.
+-- What is listed rises by address, so each is listed once; what is said of each is so; and each
+-- that has a value or a setting is listed.
 pub record IsListedExact (settings : List Setting) (stored : Map) : Type 0 where
   pub rising : IsStrictlySortedBy nat_cmp (map (λ (listed : Listed). listed.address) (listed_in settings stored))
   pub each : All (IsListedSo settings stored) (listed_in settings stored)
@@ -115,7 +116,8 @@ abbrev pub TidyKeepsReadings : Type 0
 TidyKeepsReadings = (settings : List Setting) (old new : Device) (answer : Result ℕ TidyFault) → IsFormed old
     → Tidies settings old answer new → KeepsAll settings old new
 
--- Each address has what it had, but some that no setting has have nothing now, whatever tidying answers.
+-- Each address has what it had, but some that no setting has have nothing now,
+-- whatever tidying answers.
 abbrev pub TidyTakesTheUnnamed : Type 0
 TidyTakesTheUnnamed = (settings : List Setting) (old new : Device) (answer : Result ℕ TidyFault) → IsFormed old
     → Tidies settings old answer new → (address : ℕ)
@@ -127,7 +129,8 @@ abbrev pub TidyLeavesTheNamed : Type 0
 TidyLeavesTheNamed = (settings : List Setting) (old new : Device) (count : ℕ) → Tidies settings old (Ok count) new
     → (address : ℕ) → (state_of new).map address ≡ kept_map settings (state_of old).map address
 
--- Its state is what those forgettings make of the state before: so far used, of this generation, and so many pages waiting.
+-- Its state is what those forgettings make of the state before: so far used, of this generation,
+-- and so many pages waiting.
 abbrev pub TidyLeavesThisState : Type 0
 TidyLeavesThisState = (settings : List Setting) (old new : Device) (count : ℕ) → Tidies settings old (Ok count) new
     → state_of new ≡ after_forgettings old.size (unnamed_in settings (state_of old).map) (state_of old)

@@ -12,7 +12,8 @@ use Rattle.ee_settings.specs.declared.listing.Held.TheVariants.{Value, Stale, De
 use Rattle.ee_settings.specs.declared.listing.Listed.{Listed}
 use Rattle.ee_settings.specs.declared.numbers.Numbers.{Numbers}
 
--- the entry whose setting has the address, and the setting's numbers, where the first setting is the entry of this number
+-- the entry whose setting has the address, and the setting's numbers, where the first setting is
+-- the entry of this number
 abbrev pub named_from : ℕ → List Setting → ℕ → Option (ℕ × Numbers)
 named_from entry [] address = None
 named_from entry (setting ∷ settings) address =
@@ -48,14 +49,15 @@ abbrev pub IsToldOf : List Setting → Map → ℕ → Type 0
 IsToldOf settings stored address =
     IsAddress address × ((stored address ≢ None) ⊎ (has_address settings address ≡ true))
 
--- what the address of a setting with these numbers holds: a value in the range, one that is not, or none
+-- what the address of a setting with these numbers holds: a value in the range, one
+-- that is not, or none
 abbrev pub IsHeld : Numbers → Option ℕ → Held → Type 0
 IsHeld numbers stored (Value value) = (stored ≡ Some value) × IsInRange numbers value
 IsHeld numbers stored (Stale value) = (stored ≡ Some value) × ¬ IsInRange numbers value
 IsHeld numbers stored (Default value) = (stored ≡ None) × (value ≡ numbers.default)
 
--- What is said of an address is so: by no entry, where no setting has the address, and it has a value; or by the entry of
--- the setting that has it.
+-- What is said of an address is so: by no entry, where no setting has the address, and it has a
+-- value; or by the entry of the setting that has it.
 abbrev pub IsSaidOf : List Setting → Map → ℕ → Option ℕ → Held → Type 0
 IsSaidOf settings stored address None held =
     (has_address settings address ≡ false) × (value : ℕ) × (stored address ≡ Some value) × (held ≡ Value value)

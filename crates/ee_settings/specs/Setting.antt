@@ -10,8 +10,8 @@ use Rattle.ee_settings.specs.declared.numbers.Numbers.{Numbers}
 use Rattle.ee_settings.specs.declared.reading.Reading.{Reading}
 use Rattle.ee_settings.specs.declared.reading.Reading.TheVariants.{Stored, Default}
 
--- a value under a name, with its numbers: the address that it is stored at, the least and the greatest that it may be, and
--- what it is otherwise
+-- a value under a name, with its numbers: the address that it is stored at, the least and the
+-- greatest that it may be, and what it is otherwise
 pub record Setting : Type 0 where
   pub name : List ℕ
   pub numbers : Numbers

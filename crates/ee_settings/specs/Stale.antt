@@ -22,7 +22,8 @@ abbrev pub stale_at : ℕ → Numbers → Option ℕ → List Stale
 stale_at entry numbers None = []
 stale_at entry numbers (Some value) = if is_in_range numbers value then [] else record { entry = entry; value = value } ∷ []
 
--- those of the settings that are stale, with their values, where the first setting is the entry of this number
+-- those of the settings that are stale, with their values, where the first setting is the
+-- entry of this number
 abbrev pub stale_from : ℕ → Map → List Setting → List Stale
 stale_from entry stored [] = []
 stale_from entry stored (setting ∷ settings) =

@@ -34,7 +34,8 @@ ForgetsEach [] old new = new ≡ old
 ForgetsEach (address ∷ addresses) old new =
     (written : Written) × (between : Device) × Forgets old address (Ok written) between × ForgetsEach addresses between new
 
--- a front of these addresses was forgotten, and the forgetting of the next one was answered with this fault
+-- a front of these addresses was forgotten, and the forgetting of the next one was
+-- answered with this fault
 pub record StopsForgetting (addresses : List ℕ) (fault : ForgetFault) (old new : Device) : Type 0 where
   pub front : List ℕ
   pub address : ℕ
@@ -50,8 +51,9 @@ Stops addresses old tidy.Spent new = StopsForgetting addresses forget.Spent old 
 Stops addresses old tidy.Cut new = StopsForgetting addresses forget.Cut old new
 Stops addresses old tidy.Off new = ⊥
 
--- The addresses with a value that no setting has were forgotten, by rising address, and the answer is how many; or the
--- device was off, and nothing changed; or a front of them was, and the forgetting of the next one was refused or cut.
+-- The addresses with a value that no setting has were forgotten, by rising address, and the answer
+-- is how many; or the device was off, and nothing changed; or a front of them was, and the
+-- forgetting of the next one was refused or cut.
 abbrev pub Tidies : List Setting → Device → Result ℕ TidyFault → Device → Type 0
 Tidies settings old (Ok count) new =
     IsOn old × (count ≡ length (unnamed_in settings (state_of old).map))

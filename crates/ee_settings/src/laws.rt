@@ -43,13 +43,14 @@ pub fn each_table_is_judged()
     ensures { EachTableIsJudged }
 {}
 
-/// The entries that are told as stale are rising, and are exactly those whose stored value isn't in their range.
+/// The entries that are told as stale are rising, and are exactly those whose stored value
+/// isn't in their range.
 pub fn stale_is_exact()
     ensures { StaleIsExact }
 {}
 
-/// What is listed rises by address; what is said of each address is so, with its setting's entry, if
-/// it has one; and each address that has a value or a setting is listed.
+/// What is listed rises by address; what is said of each address is so, with its setting's entry,
+/// if it has one; and each address that has a value or a setting is listed.
 pub fn listed_is_exact()
     ensures { ListedIsExact }
 {}
@@ -59,7 +60,8 @@ pub fn tidy_keeps_readings()
     ensures { TidyKeepsReadings }
 {}
 
-/// Whatever it answers, each address has what it had, but for some that no setting has: they have nothing now.
+/// Whatever it answers, each address has what it had, but for some that no setting has:
+/// they have nothing now.
 pub fn tidy_takes_the_unnamed()
     ensures { TidyTakesTheUnnamed }
 {}
@@ -69,7 +71,8 @@ pub fn tidy_leaves_the_named()
     ensures { TidyLeavesTheNamed }
 {}
 
-/// What is used of it, its generation and the pages that wait are what the forgettings make of the state before.
+/// What is used of it, its generation and the pages that wait are what the forgettings make
+/// of the state before.
 pub fn tidy_leaves_this_state()
     ensures { TidyLeavesThisState }
 {}

@@ -1,4 +1,5 @@
-//! The numbers of a setting: its address, its range and its default, and what a stored value is to them.
+//! The numbers of a setting: its address, its range and its default, and what a
+//! stored value is to them.
 ghost use Rattle.std.specs.Prelude.{◌≡◌, ◌≢◌, ◌<◌, ◌^◌, ℕ, IfSome, IfNone, option_and_then, pos};
 ghost use Rattle.ee_codec.specs.Words.{IsAddress};
 ghost use Rattle.toml.specs.Data.{as_integer, get_member};

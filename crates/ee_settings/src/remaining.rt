@@ -11,8 +11,8 @@ use std::collections::BTreeMap;
 use std::collections::btree_map::Iter;
 use std::marker::Model;
 
-/// The entries of a map that are left to go over, by rising address. The first of them is at hand, so
-/// that it can be compared to that of another map before it is taken.
+/// The entries of a map that are left to go over, by rising address. The first of them is at hand,
+/// so that it can be compared to that of another map before it is taken.
 #[derive(Drop)]
 pub(crate) struct Remaining<'a, T: Copy> {
     first: Option<(Address, T)>,

@@ -1,7 +1,7 @@
 //! What no clause says, each once, and what several modules make their values with.
 //!
-//! What goes wrong while a test is prepared ends it by `expect`. So a function has no path on which it drops what it owns,
-//! and each such path costs the prover time.
+//! What goes wrong while a test is prepared ends it by `expect`. So a function has no path on which
+//! it drops what it owns, and each such path costs the prover time.
 mod commands;
 mod index_behind_a_cut;
 mod prefixes;
@@ -18,8 +18,8 @@ use std::alloc::Global;
 use std::fmt::Debug;
 use std::process::Abort;
 
-/// A value is the one that is wanted. A failure names its place in a table or a loop. Each assertion that stands in a test
-/// is proved there; a call of this one costs next to nothing.
+/// A value is the one that is wanted. A failure names its place in a table or a loop. Each
+/// assertion that stands in a test is proved there; a call of this one costs next to nothing.
 fn same<P: Debug + Copy, T: PartialEq + Debug + Copy>(
     rt: &impl Abort,
     place: P,

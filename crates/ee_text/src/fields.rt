@@ -6,7 +6,8 @@ ghost use Rattle.ee_text.specs.Field.{IsField, joined_fields, space};
 
 use crate::cuts::cut_at_first;
 
-/// The first field of `rest`, and what stands after its space: None where the field is all of `rest`.
+/// The first field of `rest`, and what stands after its space: None where the field is all of
+/// `rest`.
 pub fn next_field(rest: &[u8]) -> (&[u8], Option<&[u8]>)
     ensures field { IsField result.0.now }
     ensures last { IfNone result.1 (rest.now ≡ result.0.now) }

@@ -20,11 +20,13 @@ abbrev pub ProgramsWearNothing : Type 0
 ProgramsWearNothing =
     (page at value : ℕ) (old new : Device) → IsStep (Program page at value) old new → total_wear_of new ≡ total_wear_of old
 
--- whatever an erase leaves that starts on a page below the greatest wear, the total wear is one more
+-- whatever an erase leaves that starts on a page below the greatest wear, the total wear is one
+-- more
 abbrev pub ErasesWearOne : Type 0
 ErasesWearOne =
     (page : ℕ) (old new : Device) → IsStep (Erase page) old new → IsOn old → wear_at old page < all_ones → total_wear_of new ≡ total_wear_of old + 1
 
--- where no page has less wear than at a point between, and there none less than before, none has less than before
+-- where no page has less wear than at a point between, and there none less than before, none
+-- has less than before
 abbrev pub NoneFellThroughout : Type 0
 NoneFellThroughout = (before between now : List ℕ) → NoneFell before between → NoneFell between now → NoneFell before now

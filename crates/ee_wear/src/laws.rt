@@ -1,7 +1,8 @@
 //! Laws of totals and differences, each the contract of a function that does nothing.
 ghost use Rattle.ee_wear.specs.Laws.{DifferencesAddUp, ErasesWearOne, NoWearFalls, NoneFellThroughout, ProgramsWearNothing};
 
-/// Where no page has less wear than before, the differences together are the difference of the totals.
+/// Where no page has less wear than before, the differences together are the
+/// difference of the totals.
 pub fn differences_add_up()
     ensures { DifferencesAddUp }
 {}
@@ -22,7 +23,8 @@ pub fn programs_wear_nothing()
     ensures { ProgramsWearNothing }
 {}
 
-/// An erase that starts raises the total wear by one, also where it is cut, while the page's wear is below `u64::MAX`.
+/// An erase that starts raises the total wear by one, also where it is cut, while the page's wear
+/// is below `u64::MAX`.
 pub fn erases_wear_one()
     ensures { ErasesWearOne }
 {}

@@ -21,8 +21,8 @@ pub const JOBS: [Job; 6] = [
 ];
 
 impl Job {
-    /// Its name, and its part: how many pages each set has, how many words a page, and how many variables have
-    /// a value.
+    /// Its name, and its part: how many pages each set has, how many words a page, and how many
+    /// variables have a value.
     pub fn facts(self) -> (&'static str, usize, usize, u32) {
         match self {
             Job::Run => ("run", 8, 512, 1000),

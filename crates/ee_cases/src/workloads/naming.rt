@@ -61,7 +61,7 @@ pub fn settings(part: &mut Part) {
 fn give_values(part: &mut Part) {
     let alloc = part.alloc;
     let header = header_text(alloc, alloc, part.schema.as_slice(), Language::C);
-    part.note(header);
+    part.take_text(header);
     let (schema, values) = (part.schema.as_slice(), part.text.as_slice());
     let applied = apply_values(alloc, alloc, part.image.as_slice(), schema, values);
     part.change(applied);
@@ -73,8 +73,8 @@ fn tell_values(part: &mut Part) {
     let (image, schema) = (part.image.as_slice(), part.schema.as_slice());
     let listed = list_text(alloc, alloc, image, Some(schema));
     let gain = get_setting(alloc, alloc, image, schema, "channel_7_gain");
-    part.note(listed);
-    part.note(gain);
+    part.take_text(listed);
+    part.take_text(gain);
 }
 
 /// Tells what is stale by a schema, and forgets what it has no setting for.
@@ -83,6 +83,6 @@ fn tidy(part: &mut Part) {
     let (image, schema) = (part.image.as_slice(), part.schema.as_slice());
     let stale = stale_text(alloc, alloc, image, schema);
     let tidied = tidy_image(alloc, alloc, image, schema);
-    part.note(stale);
+    part.take_text(stale);
     part.change(tidied);
 }

@@ -10,8 +10,8 @@ use std::alloc::Global;
 
 /// A part, as the text of its image, and all that a job has beside it.
 ///
-/// Like a stream it keeps its fault, which the job tells at its end: no step of a job asks whether the one
-/// before it failed.
+/// Like a stream it keeps its fault, which the job tells at its end: no step of a job asks whether
+/// the one before it failed.
 #[derive(Drop)]
 pub struct Part {
     pub alloc: Global,
@@ -99,7 +99,7 @@ impl Part {
     }
 
     /// Takes what a command tells.
-    pub fn note(&mut self, told: Result<Vec<u8>, Fault>) {
+    pub fn take_text(&mut self, told: Result<Vec<u8>, Fault>) {
         match told {
             Ok(told) => {
                 self.digest.take(told.as_slice());

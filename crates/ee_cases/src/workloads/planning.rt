@@ -7,7 +7,7 @@ pub fn certify(part: &mut Part) {
     part.write(40000, 0, 0, 70);
     let (image, script) = (part.image.as_slice(), part.text.as_slice());
     let certificate = plan_script(part.alloc, image, script);
-    part.note(certificate);
+    part.take_text(certificate);
     check(part);
     choose_size(part);
 }
@@ -16,14 +16,14 @@ pub fn certify(part: &mut Part) {
 fn check(part: &mut Part) {
     let (image, script) = (part.image.as_slice(), part.text.as_slice());
     let proved = check_script(part.alloc, image, script, part.told.as_slice());
-    part.note(proved);
+    part.take_text(proved);
 }
 
 /// Asks how large a part must be.
 fn choose_size(part: &mut Part) {
     let runs = part.dice.below(10000).saturating_add(1);
     match size_parts(part.alloc, 256, part.text.as_slice(), 10000, runs) {
-        Ok(sizes) => part.note(Ok(sizes.text)),
-        Err(fault) => part.note(Err(fault)),
+        Ok(sizes) => part.take_text(Ok(sizes.text)),
+        Err(fault) => part.take_text(Err(fault)),
     }
 }

@@ -18,18 +18,18 @@ pub fn parts(part: &mut Part) {
 /// Exports an image as Intel HEX, and takes what an import makes of that.
 fn through_hex(part: &mut Part) {
     let hex = export_hex(part.alloc, Form::Words, part.image.as_slice(), BASE);
-    part.note(hex);
+    part.take_text(hex);
     let hex = part.told.as_slice();
     let further = import_hex(part.alloc, part.shape, Form::Words, BASE, hex);
     let inside = inspect_text(part.alloc, part.image.as_slice());
-    part.note(inside);
+    part.take_text(inside);
     part.put(further);
 }
 
 /// Exports an image as a part's bytes, and takes what an import makes of them.
 fn through_bytes(part: &mut Part) {
     let dump = export_image(part.alloc, Form::Words, part.image.as_slice());
-    part.note(dump);
+    part.take_text(dump);
     let dump = part.told.as_slice();
     let further = import_image(part.alloc, part.shape, Form::Words, dump);
     look(part);
@@ -39,7 +39,7 @@ fn through_bytes(part: &mut Part) {
 /// Looks at the states of a part's pages, and at their wear.
 fn look(part: &mut Part) {
     let states = states_text(part.alloc, part.image.as_slice());
-    part.note(states);
+    part.take_text(states);
     let wear = wear_text(part.alloc, part.image.as_slice(), None);
-    part.note(wear);
+    part.take_text(wear);
 }

@@ -1,15 +1,16 @@
 //! Scripts about a part's variables, whose addresses are spread evenly.
 use super::part::Part;
 
-/// The address of a variable by its number, the variables being so many: they rise, and are spread evenly.
+/// The address of a variable by its number, the variables being so many: they rise,
+/// and are spread evenly.
 pub fn address_of(number: u32, live: u32) -> u64 {
     let gap = 65534 / live.max(1);
     1 + u64::from(number % 65534) * u64::from(gap) % 65534
 }
 
 impl Part {
-    /// Writes a script of so many lines: of a hundred lines some read, of a hundred of the others some
-    /// forget, and of a hundred some are about the first variables, a sixteenth of all.
+    /// Writes a script of so many lines: of a hundred lines some read, of a hundred of the others
+    /// some forget, and of a hundred some are about the first variables, a sixteenth of all.
     pub fn write(&mut self, lines: u32, reads: u32, forgets: u32, often: u32) {
         self.text.clear();
         self.write_lines(lines, reads, forgets, often);
@@ -47,7 +48,8 @@ impl Part {
         address_of(self.dice.below(among.max(1)), self.live)
     }
 
-    /// Writes a script that gives each variable a value, in an order that is neither rising nor falling.
+    /// Writes a script that gives each variable a value, in an order that is neither
+    /// rising nor falling.
     pub fn write_filling(&mut self) {
         for place in 0..self.live {
             // 7919 is a prime that divides none of the numbers of variables that are used here.

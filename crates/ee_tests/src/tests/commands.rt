@@ -1,4 +1,5 @@
-//! The table of commands, built with `clap`, which finds in each line the command and the values that `job` gives.
+//! The table of commands, built with `clap`, which finds in each line the command and the
+//! values that `job` gives.
 use crate::tests::same;
 use Said::{Flag, No, Number, Text};
 use clap::builder::ValueParser;
@@ -141,7 +142,8 @@ fn text_or_no<'a>(text: Option<&'a str>) -> Said<'a> {
     }
 }
 
-/// What `clap` found of a word of a row. A base is spelled in one of two ways here, and `clap` reads no hexadecimal.
+/// What `clap` found of a word of a row. A base is spelled in one of two ways here, and `clap`
+/// reads no hexadecimal.
 fn value<'a>(matches: &ArgMatches<'a>, id: &str) -> Said<'a> {
     match id {
         "--indexed" | "--pairs" | "--rust" => Flag(matches.get_flag(id)),

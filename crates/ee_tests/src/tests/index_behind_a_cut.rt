@@ -6,8 +6,8 @@ use ee_text::push_number_behind;
 use std::alloc::Global;
 use std::process::Abort;
 
-// A script in which a write is cut and power turned on, and then forty addresses are given a value: an index of them takes
-// several requests for memory.
+// A script in which a write is cut and power turned on, and then forty addresses are given a value:
+// an index of them takes several requests for memory.
 fn script(rt: &impl Abort, memory: Global) -> Vec<u8> {
     let mut script = Vec::new(memory);
     script

@@ -1,4 +1,5 @@
-//! Each proper prefix of a text: the line that it breaks off in is bad, and a script alone may end with any of its lines.
+//! Each proper prefix of a text: the line that it breaks off in is bad, and a script alone may end
+//! with any of its lines.
 use crate::tests::same;
 use ee_check::{TextFault, read_certificate};
 use ee_fakes::images::{CERTIFICATE, FORMATTED, SCRIPT, TWO_MOVES};
@@ -36,7 +37,8 @@ fn bad_line(memory: Global, kind: Kind, text: &[u8]) -> Option<u64> {
     }
 }
 
-// The number of the line that a text breaks off in, and whether it breaks off behind the line before it.
+// The number of the line that a text breaks off in, and whether it breaks off behind
+// the line before it.
 fn last_line(text: &[u8]) -> (u64, bool) {
     let mut line = 1u64;
     let mut is_whole = true;

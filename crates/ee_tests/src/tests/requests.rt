@@ -1,4 +1,5 @@
-//! Each call that allocates: its answer with ample memory, and want of memory wherever one of its requests is refused.
+//! Each call that allocates: its answer with ample memory, and want of memory wherever one of its
+//! requests is refused.
 mod certificates;
 mod commands;
 mod indexes;
@@ -59,7 +60,7 @@ const BAD_LINE: Fault = Fault::BadLine {
 const CALLS: &[(Call, u64)] = &[
     (Call::BlankList, 2),
     (Call::Drive, 2),
-    (Call::OpenIndex, 2),
+    (Call::OpenIndex, 1),
     (Call::WriteIndexed, 2),
     (Call::WriteAllIndexed, 2),
     (Call::CheckThousand, 2),
@@ -176,8 +177,8 @@ fn script_read(alloc: &Refusing<Global>) -> Option<bool> {
     }
 }
 
-// What is wrong with a run, if something is: with its answer, with a request refused or none, and with enough of them made
-// or too few.
+// What is wrong with a run, if something is: with its answer, with a request refused or none, and
+// with enough of them made or too few.
 fn complaint(answer: Option<bool>, is_refused: bool, are_enough: bool) -> Option<&'static str> {
     match answer {
         Some(false) => Some("another answer"),
@@ -211,8 +212,9 @@ fn each_complaint(rt: HostRuntime) {
     }
 }
 
-// Makes a call with its first request for memory refused, then with its second, and so on to a run in which none is, which
-// is to make `least` requests or more. A failure names the call by its place in the table, from 0, and the request.
+// Makes a call with its first request for memory refused, then with its second, and so on to a run
+// in which none is, which is to make `least` requests or more. A failure names the call by its
+// place in the table, from 0, and the request.
 fn refuse_each(rt: &impl Abort, memory: Global, place: usize, row: &(Call, u64)) {
     let (call, least) = *row;
     for nth in 1..u64::MAX {

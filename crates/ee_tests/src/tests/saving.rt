@@ -1,5 +1,6 @@
-//! How an image's file is replaced: in which order, with each call failing, with another run at each call, and on a disk
-//! that is full. What a user sees of it `bench/files.py` tries: links, modes, locks, what broken runs left.
+//! How an image's file is replaced: in which order, with each call failing, with another run at
+//! each call, and on a disk that is full. What a user sees of it `bench/files.py` tries: links,
+//! modes, locks, what broken runs left.
 use super::trail::Trail;
 use crate::tests::same;
 use ee_fakes::images::{CLEANED, FORMATTED, ONE_MOVE, TWO_MOVES};
@@ -49,8 +50,8 @@ fn the_calls_in_their_order(rt: HostRuntime) {
     }
 }
 
-// Whether a run over the old image is answered so, and the new one stands or the old one, as is answered, and nothing
-// beside it.
+// Whether a run over the old image is answered so, and the new one stands or the old one, as is
+// answered, and nothing beside it.
 fn saves(rt: &HostRuntime, trail: &Trail<'_>, wanted: Answer) -> bool {
     let stands = if wanted.is_ok() { CLEANED } else { ONE_MOVE };
     is_old(rt)
@@ -59,8 +60,9 @@ fn saves(rt: &HostRuntime, trail: &Trail<'_>, wanted: Answer) -> bool {
         && fs::metadata(rt, "image.ee-saving-0").is_err()
 }
 
-// Whether a call goes on that fails: where the path isn't resolved, and no file is made beside it or given a mode, the image
-// is written in place; where there are no locks it is replaced all the same.
+// Whether a call goes on that fails: where the path isn't resolved, and no file is made
+// beside it or given a mode, the image is written in place; where there are no locks it is
+// replaced all the same.
 fn goes_on(is_bare: bool, call: u64) -> bool {
     match call {
         2 | 4 => true,
@@ -99,7 +101,8 @@ fn a_full_disk_leaves_the_old_image(rt: HostRuntime) {
     }
 }
 
-// Whether one of the two images stands behind two runs, and the run that has the lock first is the one that is done.
+// Whether one of the two images stands behind two runs, and the run that has the lock first is
+// the one that is done.
 fn is_crossed(rt: &HostRuntime, trail: &Trail<'_>, is_other_first: bool) -> bool {
     let changed = Err(SaveFault::Changed);
     let (wanted, others, stands) = if is_other_first {
@@ -125,7 +128,8 @@ fn another_run_before_each_call(rt: HostRuntime) {
     }
 }
 
-// Whether saving a first image of which this call fails is answered so, and the file is there, to be removed, if it is done.
+// Whether saving a first image of which this call fails is answered so, and the file is there, to
+// be removed, if it is done.
 fn begins(rt: &HostRuntime, call: u64, wanted: Answer) -> bool {
     let mut trail = Trail::new(rt, "none", false, "");
     trail.fails_at = call;

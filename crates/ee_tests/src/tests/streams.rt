@@ -68,8 +68,8 @@ fn each_failed_read_is_told(rt: HostRuntime) {
     }
 }
 
-/// What is met first is told. No good line has more than 24 bytes, so the second of the last script is judged before its
-/// end. That of the others has no line feed.
+/// What is met first is told. No good line has more than 24 bytes, so the second of the last script
+/// is judged before its end. That of the others has no line feed.
 #[test]
 fn a_bad_line_or_a_failed_read(rt: HostRuntime) {
     let unended = b"w 1 10\nw 1".as_slice();
@@ -231,8 +231,8 @@ impl Read for Interrupted {
     }
 }
 
-// Moments in a compiled test, minutes in an interpreter: `rt try --test` gives up on these two unless it is given
-// `--seconds`.
+// Moments in a compiled test, minutes in an interpreter: `rt try --test` gives up on these two
+// unless it is given `--seconds`.
 #[test]
 fn a_reader_that_never_gives_is_left(rt: HostRuntime) {
     let mut reader = Interrupted { calls: 0 };

@@ -1,5 +1,5 @@
-//! The host's files for tests, with each call noted. One call may fail, the disk may be full, and before one call another
-//! run may save.
+//! The host's files for tests, with each call noted. One call may fail, the disk may be full, and
+//! before one call another run may save.
 ghost use Rattle.std.specs.Prelude.{◌≤◌};
 
 use ee_fakes::images::{ONE_MOVE, TWO_MOVES};
@@ -31,7 +31,8 @@ pub struct Trail<'a> {
     pub calls: Cell<u64>,
     /// What the other run was answered, if it saved.
     pub other: Cell<Option<Result<(), SaveFault>>>,
-    /// What is left of the calls that are awaited, a word for each, from the first on that didn't come in its turn.
+    /// What is left of the calls that are awaited, a word for each, from the first on that
+    /// didn't come in its turn.
     pub awaited: Cell<&'static str>,
 }
 
@@ -61,7 +62,8 @@ impl<'a> Trail<'a> {
         save(&Tracked { trail: self }, self.image, old, new)
     }
 
-    /// Counts a call and takes it from those that are awaited, lets the other run go before it, and gives whether it fails.
+    /// Counts a call and takes it from those that are awaited, lets the other run go before it, and
+    /// gives whether it fails.
     fn fails(&self, word: &str) -> bool {
         let call = self.calls.get().saturating_add(1);
         self.calls.set(call);
@@ -252,7 +254,8 @@ impl<'a> Files for Tracked<'a> {
         self.trail.rt.remove_dir_all(alloc, path)
     }
 
-    // `save` calls none of the others. A call that is left out costs the prover more than one that is handed on.
+    // `save` calls none of the others. A call that is left out costs the prover more than
+    // one that is handed on.
     fn read_link<B: Allocator>(&self, alloc: B, path: &str) -> io::Result<PathBuf<B>> {
         self.trail.rt.read_link(alloc, path)
     }

@@ -6,7 +6,8 @@ use Rattle.ee_commands.proofs.rescuing.rescue_image.Goals as goal
 
 pub returns-clause-rescued : goal.returns-clause-rescued
 returns-clause-rescued g c =
-    let image = c.args.image.now in let device = device_of c.in-Ok.flash in
+    let image = c.args.image.now in
+    let device = device_of c.in-Ok.flash in
     let made = λ (new_image text : List ℕ). is_rescued_image image new_image c.new-text.result.items c.push_bad.new.out.items text device c.in_ok-store.store c.in_ok-store.rescued
     (is_spelled image c.in-Ok.flash c.in-Ok.ensures.found) c.in_ok-store.ensures.rescued in
     search (rules, made)

@@ -14,8 +14,8 @@ slots-preserved g c =
     let long = length-slots c.args.layout.now.side device c.requires.live.formed in
     let within : c.slots.slot < length slots =
     omega (arith, long, slot_in_range device c.args.layout.now c.requires c.slots.slot c.slots-test.true) in
-    spoken_more slots c.slots.slot c.slot_word.result c.slots.spoken.items c.note.new.spoken.items within c.slot_word.ensures
-    c.note.ensures.long c.note.ensures.each c.slots.invariant
+    spoken_more slots c.slots.slot c.slot_word.result c.slots.spoken.items c.note_address.new.spoken.items within c.slot_word.ensures
+    c.note_address.ensures.long c.note_address.ensures.each c.slots.invariant
 
 pub returns : goal.returns
 returns g c = search (rules, last_in_fill)

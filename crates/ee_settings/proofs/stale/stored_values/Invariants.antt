@@ -1,7 +1,7 @@
 use Rattle.std.proofs.Common.{◌≡◌, ◌<◌, ◌-◌, nat_cmp}
 use Rattle.std.specs.BTreeMap.{get}
 use Rattle.ee_pages.specs.LiveOrder.{above_of}
-use Rattle.ee_core.specs.Parts.{map_to}
+use Rattle.ee_core.specs.CallSteps.{map_to}
 use Rattle.ee_core.specs.State.{state_of}
 use Rattle.ee_settings.proofs.stale.stored_values.Given as goal
 

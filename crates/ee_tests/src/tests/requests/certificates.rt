@@ -24,7 +24,8 @@ fn thousand(rt: &impl Abort, memory: Global) -> Certificate {
     }
 }
 
-/// Behind a thousand changes the checker asks for memory once more, and goes on without where that is refused.
+/// Behind a thousand changes the checker asks for memory once more, and goes on without
+/// where that is refused.
 pub fn thousand_checked(alloc: &Refusing<Global>, rt: &impl Abort, memory: Global) -> Option<bool> {
     let start = Start::new(1, 0, BTreeSet::new(memory)).expect(rt, "no start");
     let trace = vec![in memory; Change::Write(address(rt, 1)); 1101].expect(rt, "no trace");

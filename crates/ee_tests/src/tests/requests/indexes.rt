@@ -1,4 +1,5 @@
-//! A script for which an index pays: `replay` makes one, and answers without it where a request for memory is refused.
+//! A script for which an index pays: `replay` makes one, and answers without it where a request
+//! for memory is refused.
 use super::commands::replays;
 use crate::tests::{same, shape};
 use ee_fakes::Refusing;
@@ -11,7 +12,8 @@ use std::process::Abort;
 const ROUND: &[u8] = b"w 1 7\nw 2 8\nr 1\nf 2\nr 2
 r 3\nr 4\nr 5\nr 6\nr 7\nr 8\nr 9\nr 10\nr 11\nr 12\nr 13\nr 14\n";
 
-// A script of 150 rounds, which make several moves, with a line behind 60 of them and power on near the end.
+// A script of 150 rounds, which make several moves, with a line behind 60 of them and
+// power on near the end.
 fn long_script(rt: &impl Abort, memory: Global, line: &[u8]) -> Vec<u8> {
     let mut script = Vec::new(memory);
     for (rounds, end) in [(60, line), (80, b"p\n"), (10, b"")] {
@@ -24,7 +26,8 @@ fn long_script(rt: &impl Abort, memory: Global, line: &[u8]) -> Vec<u8> {
     script
 }
 
-// The image that a script leaves that gives forty addresses a value: an index of them takes several requests for memory.
+// The image that a script leaves that gives forty addresses a value: an index of them takes several
+// requests for memory.
 fn filled_image(rt: &impl Abort, memory: Global) -> Vec<u8> {
     let mut script = Vec::new(memory);
     for address in 300..340u64 {
@@ -53,8 +56,8 @@ fn requests_by_index(
     requests(&heap)
 }
 
-// Replays a script with each request refused in turn, which gives this report and this image all the same. Gives how many
-// requests there are.
+// Replays a script with each request refused in turn, which gives this report and this image all
+// the same. Gives how many requests there are.
 fn refused_behind(
     rt: &impl Abort,
     memory: Global,
@@ -72,14 +75,14 @@ fn refused_behind(
     panic!(rt; "requests without end")
 }
 
-// Where `replay` makes an index it answers as a store without one does, also where a request is refused: it begins anew
-// without an index then. An index of forty addresses takes several nodes.
+// Where `replay` makes an index it answers as a store without one does, also where a request is
+// refused: it begins anew without an index then. An index takes two requests or more.
 fn pays(rt: &impl Abort, memory: Global, image: &[u8], script: &[u8]) {
     let mut reader = script;
     let plain = Refusing::new(memory, u64::MAX);
     let replayed = replay_reader(&plain, image, &mut reader).expect(rt, "no replay");
     let wanted = (replayed.report.as_slice(), replayed.image.as_slice());
-    let least = requests(&plain).saturating_add(5);
+    let least = requests(&plain).saturating_add(2);
     let indexed = requests_by_index(rt, memory, (image, script), wanted);
     same(rt, indexed, least <= indexed, true);
     let count = refused_behind(rt, memory, (image, script), wanted);

@@ -195,7 +195,8 @@ fn start_of_nine(rt: &impl Abort, memory: Global) -> Start {
     Start::new(2, 1, live).expect(rt, "no start")
 }
 
-// What a change of address 2 leaves: two live addresses, or the one of before where there is no memory.
+// What a change of address 2 leaves: two live addresses, or the one of before where
+// there is no memory.
 fn added(change: Result<(), AllocError>, count: u64) -> Option<bool> {
     match change {
         Ok(()) => Some(count == 2),

@@ -1,5 +1,5 @@
-//! Devices, stores with an index, and events that drive a store. That their device is as it was where memory is refused is
-//! said by their clauses.
+//! Devices, stores with an index, and events that drive a store. That their device is as it was
+//! where memory is refused is said by their clauses.
 use crate::tests::{address, device, same, shape};
 use ee_codec::Address;
 use ee_fakes::images::ONE_MOVE;

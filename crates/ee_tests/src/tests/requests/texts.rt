@@ -91,7 +91,8 @@ fn in_pieces<'a>(
     Ok(report)
 }
 
-// What is given as bytes. A fault that the call can't meet here is told as any that is no want of memory.
+// What is given as bytes. A fault that the call can't meet here is told as any that
+// is no want of memory.
 fn bytes_of<'a>(
     what: Bytes,
     alloc: &'a Refusing<Global>,
@@ -177,7 +178,8 @@ fn push(
     }
 }
 
-// What may stand there after a want of memory: a number with a word before it, and an answer, may be there in part.
+// What may stand there after a want of memory: a number with a word before it, and an answer,
+// may be there in part.
 fn stays(what: Pushed, out: &[u8], wanted: &[u8]) -> bool {
     match what {
         Pushed::NumberBehind | Pushed::Answer => out.starts_with(FRONT) && wanted.starts_with(out),

@@ -14,7 +14,9 @@ returns g c =
     let image : pages_of flash.shape (set cells (c.page_start-start.result + c.args.at) c.args.word) ≡ _ =
     ap (λ place. pages_of flash.shape (set cells place c.args.word)) (ap (λ (start : ℕ). start + c.args.at) c.page_start-start.ensures.value)
     ∙ pages_of-set flash.shape cells c.args.page c.args.at c.args.word (sym flash.cells.ok.0 ∙ flash.cells_length) c.requires.page_in_range c.requires.place_in_range in
-    ap (λ (pages : List (List Word)). let old : Listed = state_of_list flash in let device : Device = device_of_list flash in let now : Listed = record old { device = record device { image = pages } } in now) image
+    ap (λ (pages : List (List Word)). let old : Listed = state_of_list flash in
+    let device : Device = device_of_list flash in
+    let now : Listed = record old { device = record device { image = pages } } in now) image
 
 pub overflow_add-start : goal.overflow_add-start
 overflow_add-start g c = omega (arith, c.args.self.now.cells.ok.0)

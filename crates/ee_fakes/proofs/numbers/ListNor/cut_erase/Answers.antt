@@ -44,6 +44,7 @@ returns g c =
     let keeps : KeepsBits (numbers_at (nor_of_list flash) c.args.page) numbers = rw (is ∙ sym c.deref_mut.ensures.value) c.set_bits.ensures.keeps in
     let as_long : length numbers ≡ length found.items = c.set_bits.ensures.keeps.as_long ∙ ap length c.deref_mut.ensures.value in
     let image = numbers_of-set flash.pages.items c.args.page (with_items found numbers) ∙ ap (set (nor_of_list flash).image c.args.page) (written_through found numbers as_long) in
-    let left = ap (λ (image : List (List ℕ)). let old : NorDevice = nor_of_list flash in let now : NorDevice = record old { image = image } in now) image in
+    let left = ap (λ (image : List (List ℕ)). let old : NorDevice = nor_of_list flash in
+    let now : NorDevice = record old { image = image } in now) image in
     IsNorCutIn-erase c.args.page numbers (nor_of_list flash) (nor_of_list c.cut_power.new.self) c.requires.on refl within refl keeps
     (c.cut_power.ensures ∙ ap with_power_lost (c.wear_out.ensures ∙ ap (with_nor_page_worn c.args.page) left))

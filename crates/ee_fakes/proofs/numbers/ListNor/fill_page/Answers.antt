@@ -33,5 +33,6 @@ returns g c =
     let image = map (λ page. page.items) flash.pages.items in
     let count = length_found flash.pages.items (number_count flash.shape) c.args.page found (omega (arith, flash.image_length)) c.index_mut.ensures.value flash.page_lengths in
     let is : c.fill.new.self.items ≡ replicate (number_count flash.shape) all_ones = c.fill.ensures.items (λ y e. e) ∙ ap (λ (count : ℕ). replicate count all_ones) (found.ok.0 ∙ count) in
-    ap (λ (image : List (List ℕ)). let old : NorDevice = nor_of_list flash in let now : NorDevice = record old { image = image } in now)
+    ap (λ (image : List (List ℕ)). let old : NorDevice = nor_of_list flash in
+    let now : NorDevice = record old { image = image } in now)
     (numbers_of-set flash.pages.items c.args.page _ ∙ ap (set image c.args.page) is)

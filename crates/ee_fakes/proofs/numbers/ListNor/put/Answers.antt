@@ -38,5 +38,6 @@ returns g c =
     let found = c.index_mut.result.now in
     let image = map (λ page. page.items) flash.pages.items in
     let is = numbers_in flash.pages.items c.args.page found (omega (arith, flash.image_length)) c.index_mut.ensures.value in
-    ap (λ (image : List (List ℕ)). let old : NorDevice = nor_of_list flash in let now : NorDevice = record old { image = image } in now)
+    ap (λ (image : List (List ℕ)). let old : NorDevice = nor_of_list flash in
+    let now : NorDevice = record old { image = image } in now)
     (numbers_of-set flash.pages.items c.args.page _ ∙ ap (λ (numbers : List ℕ). set image c.args.page (set numbers c.args.at c.args.number)) (sym is))

@@ -1,4 +1,5 @@
--- The request is counted, and then refused or answered as the inner allocator answers it. Assumes `Logic`.
+-- The request is counted, and then refused or answered as the inner allocator answers
+-- it. Assumes `Logic`.
 use Rattle.ee_fakes.proofs.Walking.{◌^◌, List, ◌<◌, ◌≡◌, ℕ, ◌+◌, Bool, true, false, [], ◌∷◌, Ok, Err, refl, w64, proved, Al, α, seen, token, Answer, answer_val, Answer-typed, Answer-Ok, Answer-err, Takes, at_takes, Answered, Takes-goes, Takes-gives, answers, Ty, Args, Fn, a_type, dnil, dcons, Val, vbool, inst_fn, id⊢, ftrue, flft, size, align, capped, up, ‵, raw, ◌⊛◌, some, later, given, prop, at_ret, Sq, ◌$◌, ◌∵◌, !, qed, move, keep, use0, use1, use2, split, join, group, pick, learn, fsplit, fjoin, suffices, await, done, agg, enter, lit, addr, stop, fld, no_more, and_then, first, branches, skips, exec, returns, returns_within, alloc_all, pass_all, free_all, look_at, get, through, sets, lands_as, env, ◌⊑◌, ⊑_trans, fact, tables, usize, RefOf, yes, unhide, bounded, param, uint_vals, uint_Tells, owns, block_ptr, shr_vals, Slot, plain, types_at, heard, nothing, calls_at, Ended, Clauses, Contract, Triple, Item, Lft, Share, Bor, Ura, ent, WpFn, vint, Logic, Model, Running, MachineTables, takes_key, framed, Stays, stay_dropped, walk_of, ends_at, Goes-dropped}
 use Rattle.std.specs.Allocator.{block_if_ok}
 use Rattle.ee_fakes.proofs.Asking.{Asks, asks_at, is-asked, has-answered}
@@ -82,7 +83,8 @@ module _ (Z : Al) {M : Type 1} {𝓤 : Ura M} (𝓛 : Logic 𝓤) (𝓜 : Model 
         move ! (1 ∷ []) $ split ! $ heard ! _ (λ outlives. heard ! Said (λ said.
         split ! $ split ! $ move ! (2 ∷ []) $ fsplit ! $ fsplit ! $ move ! (1 ∷ []) $ unhide ! $ fsplit ! $ fsplit ! $
         use1 𝓛 (‵ (seen Z κ at inner)) (id⊢ 𝓤 _) $ move ! (1 ∷ []) $ fsplit ! $
-        -- [the count; nothing; the inner allocator; what pads them; the rest of the parameters, twice; the tokens]
+        -- [the count; nothing; the inner allocator; what pads them; the rest of the
+        -- parameters, twice; the tokens]
         keep ! (0 ∷ 6 ∷ 2 ∷ 7 ∷ []) $
         enter ! _ _ _ _ _ $ alloc_all ! (λ l. pass_all ! refl ((tt, tt), ((tt, record { fits = fn }), ((tt, record { fits = fal }), tt))) $
         sets ! (addr ! (through ! refl (fld ! refl (stop !)))) refl (tt, tt) $

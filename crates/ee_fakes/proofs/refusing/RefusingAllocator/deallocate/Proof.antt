@@ -73,7 +73,8 @@ module _ (Z : Al) {M : Type 1} {𝓤 : Ura M} (𝓛 : Logic 𝓤) (𝓜 : Model 
         move ! (1 ∷ []) $ split3 ! $ heard ! _ (λ outlives. heard ! Said (λ said. fsplit ! $
         move ! (2 ∷ []) $ split ! $ split ! $ move ! (2 ∷ []) $ fsplit ! $ fsplit ! $ move ! (1 ∷ []) $ unhide ! $ fsplit ! $ fsplit ! $
         use1 𝓛 (‵ (seen Z κ at inner)) (id⊢ 𝓤 _) $
-        -- [the inner allocator; the count; what pads them; the rest of the parameters, twice; the tokens; the block; the right to free it]
+        -- [the inner allocator; the count; what pads them; the rest of the parameters, twice; the
+        -- tokens; the block; the right to free it]
         keep ! (7 ∷ 8 ∷ 0 ∷ 5 ∷ 6 ∷ []) $
         enter ! _ _ _ _ _ $ alloc_all ! (λ l. pass_all ! refl ((tt, tt), ((tt, tt), ((tt, record { fits = fn }), ((tt, record { fits = fal }), tt)))) $
         sets ! (addr ! (through ! refl (fld ! refl (stop !)))) refl (tt, tt) $
