@@ -100,18 +100,19 @@ def own_library(tally, library, target):
     return folder
 
 
-def library_for(tally, own, target, level, *emit):
+def library_for(tally, own, target, level, *emit, calls="plain"):
     """Builds the C library for a target at a level of optimisation, with Rust's own library from a folder, if one is named.
-    Gives the archive; with more words to rustc its assembly stands beside it."""
+    Its calls are those of ee.h, or with `index` those of ee_indexed.h. Gives the archive; with more words to rustc its
+    assembly stands beside it."""
     flags = ["--edition", "2021", "-C", f"opt-level={level}", "-C", "codegen-units=1", *(["-L", own] if own else [])]
     if level == "s":
         flags += SMALL
-    store, archive = tally.folder / "libee_store.rlib", tally.folder / f"{target}-{level}.a"
+    store, archive = tally.folder / "libee_store.rlib", tally.folder / f"{target}-{level}-{calls}.a"
     if rustc(tally, f"ee_store for {target}", target, *flags, "--crate-name", "ee_store", "--crate-type", "lib",
              "-o", store, STORE) is None:
         return None
     if rustc(tally, f"the library for {target}", target, *flags, "-C", "lto=fat", "--crate-name", "ee",
-             "--crate-type", "staticlib", "--extern", f"ee_store={store}",
+             "--cfg", f'feature="{calls}"', "--crate-type", "staticlib", "--extern", f"ee_store={store}",
              *(emit or ["-o", archive]), "src/lib.rs") is None:
         return None
     return archive

@@ -41,6 +41,9 @@
 /* How many words are asked for at once. */
 #define STRETCH 16u
 
+/* How many words commit a set: the first ones of its first page. */
+#define COMMITTING 2u
+
 /* What a word of flash holds, as it reads.
  *
  * Source: words of 64 bits, some of them unreadable, AN4894; the rest is ours. */
@@ -164,8 +167,7 @@ typedef struct ScanFault {
 } ScanFault;
 
 /* Addresses with their values, up to `BATCH`, in the value itself. While it is filled an address
- * may
- * stand in it that has no value. */
+ * may stand in it that has no value. */
 typedef struct Batch {
     /* The words of elements and forgettings, in the order of their addresses. */
     uint64_t numbers[BATCH];
@@ -177,8 +179,8 @@ typedef struct MaybeAddress {
     Address value;
 } MaybeAddress;
 
-/* The live addresses of a stretch of addresses, with their values: as many as are found in one look
- * through the slots. */
+/* The live addresses of a stretch of addresses, with their values: as many as are found in one
+ * look through the slots. */
 typedef struct LiveBatch {
     /* By rising address. */
     Batch found;
@@ -204,9 +206,8 @@ typedef struct Change {
     uint32_t value; /* of Put and Forget */
 } Change;
 
-/* Goes over the live addresses of a set, by rising address. It looks through the slots once for
- * each
- * batch. */
+/* Goes over the live addresses of a set, by rising address. It looks through the slots
+ * once for each batch. */
 typedef struct Cursor {
     LiveBatch batch;
     /* How many of the batch it gave. */
@@ -248,9 +249,8 @@ typedef enum WriteFault {
     WriteFault_Cut
 } WriteFault;
 
-/* Why no value of a list is written, the first cause that applies. All but `Cut` leave the device
- * as
- * it was. */
+/* Why no value of a list is written, the first cause that applies. All but `Cut` leave
+ * the device as it was. */
 typedef enum WriteAllFaultTag {
     /* The device is off. */
     WriteAllFault_Off,
@@ -299,6 +299,9 @@ typedef enum ClearFault {
     ClearFault_Cut
 } ClearFault;
 
+/* What a store keeps in memory beside its device. */
+typedef struct ee_known Known;
+
 /* By hand. The device that the store works on, of words or of numbers. It is on while the pointer
  * to its flash, which stands in the memory that the caller lends, is not NULL. */
 typedef struct ee_device Device;
@@ -311,8 +314,8 @@ typedef struct Numbers {
     Shape shape;
 } Numbers;
 
-/* Variables in a flash device. It keeps in memory where the live set is and how far it is used, and
- * finds values by a look-up: `Slots` keeps nothing, and reads all else from the flash.
+/* Variables in a flash device. It keeps in memory where the live set is and how far it is used,
+ * and finds values by a look-up: `Slots` keeps nothing, and reads all else from the flash.
  *
  * Source: two sets, of which one takes the writes, AN4894; the rest is ours. */
 typedef struct ee_kept Store;
@@ -368,6 +371,11 @@ typedef enum Step {
     DONE,
     CUT
 } Step;
+
+typedef struct U32AndU32 {
+    uint32_t first;
+    uint32_t second;
+} U32AndU32;
 
 typedef struct Live {
     Address first;
@@ -516,6 +524,12 @@ typedef struct FormatResult {
     FormatRefusal error;
 } FormatResult;
 
+typedef struct LayoutOrOpenFault {
+    bool ok;
+    Layout value;
+    OpenFault error;
+} LayoutOrOpenFault;
+
 typedef struct ScanResult {
     bool ok;
     Layout value;
@@ -545,11 +559,6 @@ typedef struct UsedResult {
     uint32_t error;
 } UsedResult;
 
-typedef struct BlankResult {
-    bool ok;
-    IndexPair error;
-} BlankResult;
-
 /* What makes a value of a type with a tag. */
 static inline MaybeAddress maybe_address_none(void) {
     return (MaybeAddress){ .some = false, .value = 0u };
@@ -567,12 +576,12 @@ static inline MaybeShape maybe_shape_none(void) {
     return (MaybeShape){ .some = false, .value = { .pages = 0u, .words = 0u } };
 }
 
-static inline Word word_erased(void) {
-    return (Word){ .tag = Word_Erased, .held = 0u };
-}
-
 static inline Word word_torn(void) {
     return (Word){ .tag = Word_Torn, .held = 0u };
+}
+
+static inline Word word_erased(void) {
+    return (Word){ .tag = Word_Erased, .held = 0u };
 }
 
 static inline Word word_held(uint64_t held) {
@@ -778,8 +787,8 @@ static inline MaybeSide maybe_side_some(Side value) {
 
 static inline RescueResult rescue_result_err(RescueRefusal error) {
     return (RescueResult){ .ok = false, .value = { .first = { .flash = { .power = NULL,
-            .shape = { .pages = 0u, .words = 0u } }, .layout = { .side = Side_First,
-            .generation = 0u, .fill = 0u, .current = 0u } }, .second = 0u }, .error = error };
+            .shape = { .pages = 0u, .words = 0u } }, .known = { .layout = { .side = Side_First,
+            .generation = 0u, .fill = 0u, .current = 0u } } }, .second = 0u }, .error = error };
 }
 
 static inline RescueResult rescue_result_ok(RescuedStore value) {
@@ -804,8 +813,8 @@ static inline OpenResult open_result_ok(Store value) {
 
 static inline OpenResult open_result_err(OpenRefusal error) {
     return (OpenResult){ .ok = false, .value = { .flash = { .power = NULL, .shape = { .pages = 0u,
-            .words = 0u } }, .layout = { .side = Side_First, .generation = 0u, .fill = 0u,
-            .current = 0u } }, .error = error };
+            .words = 0u } }, .known = { .layout = { .side = Side_First, .generation = 0u,
+            .fill = 0u, .current = 0u } } }, .error = error };
 }
 
 static inline OpenFault open_fault_cut(void) {
@@ -820,12 +829,22 @@ static inline FormatResult format_result_ok(Store value) {
 
 static inline FormatResult format_result_err(FormatRefusal error) {
     return (FormatResult){ .ok = false, .value = { .flash = { .power = NULL,
-            .shape = { .pages = 0u, .words = 0u } }, .layout = { .side = Side_First,
-            .generation = 0u, .fill = 0u, .current = 0u } }, .error = error };
+            .shape = { .pages = 0u, .words = 0u } }, .known = { .layout = { .side = Side_First,
+            .generation = 0u, .fill = 0u, .current = 0u } } }, .error = error };
 }
 
 static inline OpenFault open_fault_scan(ScanFault scan) {
     return (OpenFault){ .tag = OpenFault_Scan, .scan = scan };
+}
+
+static inline LayoutOrOpenFault layout_or_open_fault_err(OpenFault error) {
+    return (LayoutOrOpenFault){ .ok = false, .value = { .side = Side_First, .generation = 0u,
+            .fill = 0u, .current = 0u }, .error = error };
+}
+
+static inline LayoutOrOpenFault layout_or_open_fault_ok(Layout value) {
+    return (LayoutOrOpenFault){ .ok = true, .value = value, .error = { .tag = OpenFault_Scan,
+            .scan = { .tag = ScanFault_Unformatted, .page = 0u, .at = 0u } } };
 }
 
 static inline ScanFault scan_fault_unformatted(void) {
@@ -852,14 +871,6 @@ static inline FrontResult front_result_err(IndexPair error) {
 
 static inline FrontResult front_result_ok(IndexPair value) {
     return (FrontResult){ .ok = true, .value = value, .error = { .first = 0u, .second = 0u } };
-}
-
-static inline BlankResult blank_result_err(IndexPair error) {
-    return (BlankResult){ .ok = false, .error = error };
-}
-
-static inline BlankResult blank_result_ok(void) {
-    return (BlankResult){ .ok = true, .error = { .first = 0u, .second = 0u } };
 }
 
 static inline UsedResult used_result_err(uint32_t error) {
@@ -898,6 +909,11 @@ static inline uint32_t u32_wrapping_sub(uint32_t a, uint32_t b) {
     return a - b;
 }
 
+/* By hand. The sum, modulo 2 to the power of 32. */
+static inline uint32_t u32_wrapping_add(uint32_t a, uint32_t b) {
+    return a + b;
+}
+
 /* By hand. The difference, modulo 2 to the power of 16. */
 static inline uint16_t u16_wrapping_sub(uint16_t a, uint16_t b) {
     return (uint16_t)((uint32_t)a - b);
@@ -909,7 +925,6 @@ static inline uint32_t u32_least(uint32_t a, uint32_t b) {
 }
 
 /* The functions below, by their sources. */
-static uint64_t word_number(Word self);
 EE_IN_PLACE MaybeShape shape_new(uint32_t pages, uint32_t words);
 static uint32_t shape_slots(Shape self);
 EE_IN_PLACE MaybeAddress address_new(uint16_t number);
@@ -939,22 +954,24 @@ static bool says_something(uint64_t number);
 static bool gives_value(uint64_t number);
 static TablePlace place_of(uint32_t page, uint32_t at);
 EE_IN_PLACE bool fits(uint32_t generation, TablePlace place, Word word);
+static bool fits_header(uint32_t generation, uint32_t at, Word word);
 static ScanResult scan(const Device *flash);
 static bool is_unformatted(const Device *flash);
 static LiveSetResult live_set(const Device *flash);
 static FrontResult front_of(const Device *flash, Side side, uint32_t generation);
-static FrontResult front_in(const Device *flash, Side side, uint32_t page, uint32_t used);
-static BlankResult blank_behind(const Device *flash, Side side, uint32_t page);
-static UsedResult front_of_page(const Device *flash, Side side, uint32_t generation, uint32_t page);
+static UsedResult used_of_page(const Device *flash, Side side, uint32_t generation, uint32_t page,
+        bool full);
+static UsedResult unused_from(const Device *flash, Side side, uint32_t generation, uint32_t page,
+        bool full);
 static MaybeIndex foreign_in_header(const Device *flash, Side side, uint32_t generation,
         uint32_t page);
+static uint32_t first_told(uint32_t page);
 EE_APART uint32_t used_to(const Device *flash, uint32_t page);
 static uint32_t slots_in(ListOfU64 numbers);
 static void batch_new(Batch *made);
 EE_IN_PLACE MaybeLive batch_get(const Batch *self, uint32_t place);
 static void batch_take_out(Batch *self);
-EE_IN_PLACE bool batch_note_last(Batch *self, uint64_t number);
-EE_APART bool batch_note(Batch *self, uint64_t number);
+EE_IN_PLACE bool batch_note_any(Batch *self, uint64_t number);
 static bool batch_put(Batch *self, uint64_t number);
 static uint32_t batch_place_through(const Batch *self, uint16_t address);
 static bool batch_has(const Batch *self, uint32_t place, uint16_t address);
@@ -975,7 +992,7 @@ static void gather(const Device *flash, Side side, uint16_t above, Batch *neares
 static void gather_page(const Device *flash, Side side, uint32_t page, uint16_t above,
         Batch *nearest);
 EE_APART uint32_t note_all(uint16_t above, uint32_t span, ListOfU64 numbers, Batch *nearest);
-static uint32_t note(uint16_t above, uint32_t span, uint64_t number, Batch *nearest);
+static uint32_t note_within(uint16_t above, uint32_t span, uint64_t number, Batch *nearest);
 static uint32_t span_of(const Batch *nearest, uint16_t above);
 static bool is_within(uint16_t address, uint16_t above, uint32_t span);
 static MaybeU32 latest(const Device *flash, const Layout *layout, Address address);
@@ -1018,6 +1035,8 @@ static Step erase_other(Device *flash, Side side, uint32_t page);
 static MaybeIndex first_pending(const Device *flash, Side side);
 static uint32_t count_pending(const Device *flash, Side side);
 static void cursor_new(const Device *flash, const Layout *layout, Cursor *made);
+static void cursor_unread(Cursor *made);
+static void cursor_begin(Cursor *self, const Device *flash, const Layout *layout);
 static MaybeLive cursor_next(Cursor *self, const Device *flash, const Layout *layout);
 static MaybeLive next_given(const Device *flash, const Layout *layout, LiveBatch *batch,
         uint32_t *given);
@@ -1028,6 +1047,8 @@ static IndexOrCut copy_others(Device *flash, const Layout *layout, ListOfPut put
         CopyingPlace place, Cursor *cursor);
 static Step copy_one(Device *flash, const Layout *layout, bool passed, CopyingPlace *place,
         Address address, uint32_t value);
+EE_APART Step stage_put(Device *flash, const Layout *layout, CopyingPlace *place, Address address,
+        uint32_t value);
 static Step stage(Device *flash, const Layout *layout, CopyingPlace *place, Change change);
 static Step receive(Device *flash, const Layout *layout, CopyingPlace place);
 static Step copying_put_in(Device *flash, const Layout *layout, CopyingPlace place, Change change);
@@ -1062,15 +1083,18 @@ EE_IN_PLACE Step slots_make_room(const Device *_flash, const Layout *_layout, Li
 EE_IN_PLACE void slots_find_nothing(void);
 EE_IN_PLACE Step slots_append(Device *flash, Layout *layout, Change change);
 EE_IN_PLACE Step slots_transfer(Device *flash, Layout *layout, ListOfPut puts, bool forgets);
+static ReadResult known_read(const Known *self, const Device *flash, Address address);
+EE_IN_PLACE WriteResult known_write(Known *self, Device *flash, Address address, uint32_t value);
+EE_IN_PLACE ForgetResult known_forget(Known *self, Device *flash, Address address);
+static CleanResult known_clean_step(const Known *self, Device *flash);
+static bool known_is_spent(const Known *self, const Device *flash);
+static bool known_is_full_for(const Known *self, const Device *flash, Address address);
 static Store store_of(Device flash, Layout layout);
-static Store store_with(Device flash, Layout layout);
 static uint32_t store_torn_slots(const Store *self);
 static WriteAllResult store_write_one(Store *self, Put put);
 static WriteAllResult store_write_several(Store *self, ListOfPut puts);
 static bool store_is_full_for_all(const Store *self, ListOfPut puts);
-static bool store_is_spent(const Store *self);
 static bool store_is_last(const Store *self);
-static bool store_is_full_for(const Store *self, Address address);
 static uint32_t store_slots(const Store *self);
 static ReadResult store_read(const Store *self, Address address);
 EE_IN_PLACE WriteResult store_write(Store *self, Address address, uint32_t value);
@@ -1086,7 +1110,9 @@ static MaybeLive store_next_live(const Store *self, MaybeAddress after);
 static LayoutOrCut write_format(Device *flash);
 static Step erase_all(Device *flash);
 static OpenResult opening_open(Device flash);
+static LayoutOrOpenFault open_on(Device *flash);
 static FormatResult opening_format(Device flash);
+static FormatResult make_store(Device flash);
 static OpenResult first_start_start(Device flash);
 static bool is_startable(const Device *flash, ScanFault fault);
 static bool holds_none(const Device *flash);
@@ -1103,14 +1129,14 @@ static void fill_run(const Numbers *nor, uint32_t page, uint32_t at, RoomOfU64 r
 static void fill_from_window(ListOfU64 numbers, RoomOfU64 room);
 static void fill_by_reading(const Numbers *nor, uint32_t page, uint32_t at, RoomOfU64 room);
 static uint64_t number_of_pair(uint64_t number, uint64_t check);
+EE_IN_PLACE bool is_whole(uint64_t number, uint64_t check);
+static U32AndU32 halves(uint64_t number);
 static MaybeLowPair first_low(const Numbers *nor);
 static MaybeIndex first_low_in(const Numbers *nor, uint32_t page);
 static MaybeIndex first_low_from(const Numbers *nor, uint32_t page, uint32_t from, uint32_t count);
 static MaybeIndex low_in_window(ListOfU64 numbers, uint32_t count);
 static MaybeIndex low_read(const Numbers *nor, uint32_t page, uint32_t from, uint32_t count);
 static bool is_low(uint64_t number, uint64_t check);
-static Step wipe(Numbers *nor);
-static bool wiping_is_blank(const Numbers *nor, uint32_t page);
 
 /* ---- By hand: the device over the three functions of an `ee_flash`. */
 
@@ -1181,15 +1207,6 @@ static ListOfU64 numbers_window(const Numbers *numbers, uint32_t page, uint32_t 
 static Step numbers_program(const Numbers *numbers, uint32_t page, uint32_t at, uint64_t number) {
     const ee_flash *const flash = numbers->flash;
     return step_ended(numbers->device, flash->program(flash->context, page, at, number));
-}
-
-static Step numbers_erase(const Numbers *numbers, uint32_t page) {
-    const Device *const device = numbers->device;
-    const ee_flash *const flash = flash_with(device, page);
-    if (flash == NULL) {
-        return CUT;
-    }
-    return step_ended(device, flash->erase(flash->context, page));
 }
 
 /* The numbers of a device with this flash. */
@@ -1281,23 +1298,8 @@ static Step device_erase(const Device *device, uint32_t page) {
     return step_ended(device, flash->erase(flash->context, page));
 }
 
-/* ---- ee_flash/word.rs: A word of flash as it reads: erased, held or torn. */
-
-/* Its number in a run: `u64::MAX` where it is erased, and 0 where it is torn. */
-static uint64_t word_number(Word self) {
-    switch (self.tag) {
-    case Word_Erased:
-        return UINT64_MAX;
-    case Word_Held:
-        return self.held;
-    case Word_Torn:
-    default:
-        return 0u;
-    }
-}
-
-/* ---- ee_flash/shape.rs: How large a device is: two sets of as many pages, and each page a header
- * and slots. */
+/* ---- ee_flash/shape.rs: How large a device is: two sets of as many pages, and each page a
+ * header and slots. */
 
 /* The shape of this many pages in each set and words in each page, `None` outside the limits. */
 EE_IN_PLACE MaybeShape shape_new(uint32_t pages, uint32_t words) {
@@ -1405,16 +1407,16 @@ static Slot read_held(uint64_t number) {
 
 /* ---- ee_pages/runs.rs: The words of a page, several at a time. */
 
-/* The numbers of the words of a page from a place on: up to `RUN` of them, all before `end`, and at
- * least one. */
+/* The numbers of the words of a page from a place on: up to `RUN` of them, all before
+ * `end`, and at least one. */
 EE_IN_PLACE ListOfU64 run_from(const Device *flash, uint32_t page, uint32_t at, uint32_t end,
         uint64_t *room) {
     const uint32_t count = u32_least(RUN, end - at);
     return device_run(flash, page, at, (RoomOfU64){ .items = room, .len = count });
 }
 
-/* ---- ee_pages/side.rs: The two sets of a device, and the places of their pages, words and slots.
- * */
+/* ---- ee_pages/side.rs: The two sets of a device, and the places of their pages, words and
+ * slots. */
 
 /* The other of the two sets. */
 static Side side_other(Side self) {
@@ -1444,28 +1446,30 @@ static Word page_slot(const Device *flash, Side side, uint32_t page, uint32_t sl
 
 /* The generation with which a set is committed. */
 static MaybeU32 committed(const Device *flash, Side side) {
-    const MarkRead mark_read = read_mark(set_word(flash, side, 0u, 1u));
-    if (mark_read == MarkRead_Present) {
-        return read_receive(set_word(flash, side, 0u, 0u));
+    uint64_t room[COMMITTING];
+    for (uint32_t at = 0u; at < COMMITTING; at++) {
+        room[at] = 1u;
+    }
+    const ListOfU64 numbers = device_run(flash, first_page(flash, side), 0u,
+            (RoomOfU64){ .items = room, .len = COMMITTING });
+    /* A torn word is 0 in a run, and an erased one all ones: neither is a mark or a receive word.
+     * */
+    if (numbers.items[1u] == MARK) {
+        return read_receive(word_held(numbers.items[0u]));
     }
     return maybe_u32_none();
 }
 
-/* ---- ee_pages/state.rs: What a page's header says: the last word of it that is written names the
- * state. */
+/* ---- ee_pages/state.rs: What a page's header says: the last word of it that is written names
+ * the state. */
 
 /* Whether every word of a page is erased. Pages are numbered as for `state_of`. */
 static bool state_is_blank(const Device *flash, uint32_t page) {
-    /* Asked first, since it is written in most pages that aren't blank. */
-    if (is_written(device_word(flash, page, 0u))) {
-        return false;
-    }
     return blank_to(flash, page, 0u) == flash->shape.words;
 }
 
-/* The place, from one on, of a page's first word that is written; as many as it has words where
- * none
- * is. */
+/* The place, from one on, of a page's first word that is written; as many as it has
+ * words where none is. */
 static uint32_t blank_to(const Device *flash, uint32_t page, uint32_t from) {
     const uint32_t words = flash->shape.words;
     uint64_t room[RUN];
@@ -1473,13 +1477,16 @@ static uint32_t blank_to(const Device *flash, uint32_t page, uint32_t from) {
         room[at] = 1u;
     }
     uint32_t at = from;
+    /* The first run has one word, since that is written in most pages that aren't blank. */
+    uint32_t end = from + 1u;
     while (at < words) {
-        const ListOfU64 run = run_from(flash, page, at, words, room);
+        const ListOfU64 run = run_from(flash, page, at, end, room);
         /* Asked first, since most runs are, and it is a shorter loop than one that counts. */
         if (!is_erased(run)) {
             return at + erased_in(run);
         }
         at += run.len;
+        end = words;
     }
     return words;
 }
@@ -1562,10 +1569,9 @@ static TablePlace place_of(uint32_t page, uint32_t at) {
     return TablePlace_Receiving;
 }
 
-/* Whether the word may stand in the place of a live set of this generation. It stands in each of
- * its
- * callers, so that an opening has the same code in firmware whether bad words are counted or not.
- * */
+/* Whether the word may stand in the place of a live set of this generation. It stands in
+ * each of its callers, so that an opening has the same code in firmware whether bad words
+ * are counted or not. */
 EE_IN_PLACE bool fits(uint32_t generation, TablePlace place, Word word) {
     switch (place) {
     case TablePlace_Committing:
@@ -1591,11 +1597,33 @@ EE_IN_PLACE bool fits(uint32_t generation, TablePlace place, Word word) {
     }
 }
 
-/* ---- ee_pages/find.rs: The scan: where the live set of a legal image is and how far it is used,
- * or why an image isn't legal. */
+/* Whether the word may stand in this place of the header of a page of a live set of this
+ * generation, but for the two that commit the set. It does so exactly where `fits` does. */
+static bool fits_header(uint32_t generation, uint32_t at, Word word) {
+    uint64_t expected;
+    if (at == 0u) {
+        expected = receive_word(generation);
+    } else {
+        expected = MARK;
+    }
+    switch (word.tag) {
+    case Word_Erased:
+        return true;
+    case Word_Torn:
+        return at < 3u;
+    case Word_Held:
+    default: {
+        const uint64_t number = word.held;
+        return at < 3u && number == expected;
+    }
+    }
+}
 
-/* Finds the live set of a legal image. It reads each word of the live set at most twice, and behind
- * each torn slot once more the words that stood in one run with it, up to 15.
+/* ---- ee_pages/find.rs: The scan: where the live set of a legal image is and how far it is
+ * used, or why an image isn't legal. */
+
+/* Finds the live set of a legal image. It reads each word of the live set at most twice, and
+ * behind each torn slot once more the words that stood in one run with it, up to 15.
  *
  * Source: one of two sets takes the writes, AN4894; the rest is ours.
  *
@@ -1663,92 +1691,84 @@ static LiveSetResult live_set(const Device *flash) {
 }
 
 /* How many slots of a live set are used, and the page of the last of them, the first page where
- * none
- * is; or the first word, by page and then place, that may not stand there. Pages are counted from
- * the
- * set's first. */
+ * none is; or the first word, by page and then place, that may not stand there. Pages are counted
+ * from the set's first. */
 static FrontResult front_of(const Device *flash, Side side, uint32_t generation) {
     const Shape shape = flash->shape;
+    const uint32_t slots = shape.words - HEADER_WORDS;
+    uint32_t used = 0u;
+    uint32_t last = 0u;
     for (uint32_t page = 0u, end = shape.pages; page < end; page++) {
-        const UsedResult front_of_page_result = front_of_page(flash, side, generation, page);
-        if (!front_of_page_result.ok) {
-            const uint32_t at = front_of_page_result.error;
+        const UsedResult used_of_page_result = used_of_page(flash, side, generation, page,
+                used == page * slots);
+        if (!used_of_page_result.ok) {
+            const uint32_t at = used_of_page_result.error;
             return front_result_err((IndexPair){ .first = page, .second = at });
         }
-        const uint32_t used = front_of_page_result.value;
-        if (used < shape.words - HEADER_WORDS) {
-            return front_in(flash, side, page, used);
+        const uint32_t here = used_of_page_result.value;
+        if (here > 0u) {
+            last = page;
         }
+        used += here;
     }
-    return front_result_ok((IndexPair){ .first = shape_slots(shape), .second = shape.pages - 1u });
+    return front_result_ok((IndexPair){ .first = used, .second = last });
 }
 
-/* The same, where the first slot that isn't used is this one of a page: behind it all has to be
- * erased. */
-static FrontResult front_in(const Device *flash, Side side, uint32_t page, uint32_t used) {
-    const BlankResult blank_behind_result = blank_behind(flash, side, page);
-    if (!blank_behind_result.ok) {
-        return front_result_err(blank_behind_result.error);
+/* How many slots of a page of a live set are used, none where not all before them are; or the
+ * first word of the page that may not stand there. */
+static UsedResult used_of_page(const Device *flash, Side side, uint32_t generation, uint32_t page,
+        bool full) {
+    const UsedResult from_result = unused_from(flash, side, generation, page, full);
+    if (!from_result.ok) {
+        return used_result_err(from_result.error);
     }
-    const uint32_t slots = flash->shape.words - HEADER_WORDS;
-    uint32_t last;
-    if (used == 0u) {
-        last = u32_saturating_sub(page, 1u);
-    } else {
-        last = page;
-    }
-    return front_result_ok((IndexPair){ .first = page * slots + used, .second = last });
-}
-
-/* That the pages of a set behind this one are blank, or their first word, by page and then place,
- * that
- * is written. */
-static BlankResult blank_behind(const Device *flash, Side side, uint32_t page) {
-    const Shape shape = flash->shape;
-    const uint32_t first = first_page(flash, side);
-    for (uint32_t behind = page + 1u, end = shape.pages; behind < end; behind++) {
-        const uint32_t at = blank_to(flash, first + behind, 0u);
-        if (at < shape.words) {
-            return blank_result_err((IndexPair){ .first = behind, .second = at });
-        }
-    }
-    return blank_result_ok();
-}
-
-/* How many slots of a page of a live set are used, where all before them are; or the first word of
- * the
- * page that may not stand there. */
-static UsedResult front_of_page(const Device *flash, Side side, uint32_t generation,
-        uint32_t page) {
-    const MaybeIndex maybe_at = foreign_in_header(flash, side, generation, page);
-    if (maybe_at.some) {
-        return used_result_err(maybe_at.value);
-    }
-    const uint32_t here = first_page(flash, side) + page;
-    const uint32_t end = used_to(flash, here);
-    /* Behind the slots that are used all have to be erased, the next one first of all. */
-    const uint32_t written = blank_to(flash, here, end);
+    const uint32_t from = from_result.value;
+    /* From there on all have to be erased, the next slot first of all. */
+    const uint32_t written = blank_to(flash, first_page(flash, side) + page, from);
     if (written < flash->shape.words) {
         return used_result_err(written);
     }
-    return used_result_ok(end - HEADER_WORDS);
+    return used_result_ok(u32_saturating_sub(from, HEADER_WORDS));
+}
+
+/* The place in a page of a live set from which on all has to be erased: behind its used slots, or
+ * its first word where not all slots before it are used. Or the first word of its header that
+ * doesn't fit its place. */
+static UsedResult unused_from(const Device *flash, Side side, uint32_t generation, uint32_t page,
+        bool full) {
+    if (!full) {
+        return used_result_ok(0u);
+    }
+    const MaybeIndex maybe_foreign_in_header = foreign_in_header(flash, side, generation, page);
+    if (maybe_foreign_in_header.some) {
+        return used_result_err(maybe_foreign_in_header.value);
+    }
+    return used_result_ok(used_to(flash, first_page(flash, side) + page));
 }
 
 /* The first word of the header of a page of a live set that doesn't fit its place. */
 static MaybeIndex foreign_in_header(const Device *flash, Side side, uint32_t generation,
         uint32_t page) {
-    for (uint32_t at = 0u; at < HEADER_WORDS; at++) {
-        if (!fits(generation, place_of(page, at), set_word(flash, side, page, at))) {
+    for (uint32_t at = first_told(page); at < HEADER_WORDS; at++) {
+        if (!fits_header(generation, at, set_word(flash, side, page, at))) {
             return maybe_index_some(at);
         }
     }
     return maybe_index_none();
 }
 
-/* The place of a page's first slot that is neither torn nor has an element or a forgetting; as
- * many as
- * the page has words where each is or has. It stays out of the opening, whose stack is deep
- * without it. */
+/* The place from which on the words of a header have to fit: those that commit the
+ * set are told apart. */
+static uint32_t first_told(uint32_t page) {
+    if (page == 0u) {
+        return 2u;
+    }
+    return 0u;
+}
+
+/* The place of a page's first slot that is neither torn nor has an element or a forgetting;
+ * as many as the page has words where each is or has. It stays out of the opening, whose
+ * stack is deep without it. */
 EE_APART uint32_t used_to(const Device *flash, uint32_t page) {
     const uint32_t words = flash->shape.words;
     uint64_t room[RUN];
@@ -1814,23 +1834,11 @@ static void batch_take_out(Batch *self) {
     self->len = 0u;
 }
 
-/* Notes what an element or a forgetting says of the last address, if it is of that. It is asked
- * first,
- * since an address that changes often has most of the slots. */
-EE_IN_PLACE bool batch_note_last(Batch *self, uint64_t number) {
-    const uint32_t len = self->len;
-    if (len == 0u || !says_something(number) || !batch_has(self, len - 1u, address_in(number))) {
-        return false;
-    }
-    batch_set(self, len - 1u, number);
-    return true;
-}
-
-/* Notes what a number with an address says of it, over what was noted of it, if it is that of an
- * element or a forgetting. Where there is no room the last address falls out. Says whether there
- * may
- * be another last address, or one more, than before. */
-EE_APART bool batch_note(Batch *self, uint64_t number) {
+/* Notes what a number with an address says of it, over what was noted of it, if it is that of
+ * an element or a forgetting. Where there is no room the last address falls out. Says whether
+ * there may be another last address, or one more, than before. It stands in the loop over a
+ * run, so that no number of an address that has a place takes a call. */
+EE_IN_PLACE bool batch_note_any(Batch *self, uint64_t number) {
     return says_something(number) && batch_put(self, number);
 }
 
@@ -1878,8 +1886,8 @@ EE_IN_PLACE MaybeAddress batch_last_if_full(const Batch *self) {
     return address_new(address_in(self->numbers[BATCH - 1u]));
 }
 
-/* The greatest address that has a place in it: the last one, where there is no room for one more.
- * */
+/* The greatest address that has a place in it: the last one, where there is no room for one
+ * more. */
 static uint16_t batch_greatest(const Batch *self) {
     if (self->len < BATCH) {
         return (uint16_t)((uint32_t)UINT16_MAX - 1u);
@@ -1901,8 +1909,7 @@ static uint32_t one_more(uint32_t count) {
 }
 
 /* How many of these addresses, which rise, are no greater than this one. It looks from the last
- * down,
- * since most addresses are above all. */
+ * down, since most addresses are above all. */
 static uint32_t place_in(ListOfU64 rising, uint16_t address) {
     uint32_t place = rising.len;
     while (place > 0u && address < address_in(rising.items[place - 1u])) {
@@ -1911,8 +1918,8 @@ static uint32_t place_in(ListOfU64 rising, uint16_t address) {
     return place;
 }
 
-/* Puts a number in at this place of a list, and moves what stands from there on to before `end` one
- * further; the last of these falls out. */
+/* Puts a number in at this place of a list, and moves what stands from there on to before `end`
+ * one further; the last of these falls out. */
 static void batch_items_put_in(RoomOfU64 list, uint32_t place, uint32_t end, uint64_t number) {
     uint64_t carried = number;
     for (uint32_t at = place; at < end; at++) {
@@ -1946,9 +1953,8 @@ EE_APART void live_batch_new(LiveBatch *made) {
 
 /* Puts the next live addresses above `after`, or the first of all if `after` is `None`, into a
  * batch, with their values, in place of what it held: up to `BATCH`, from one look through the
- * slots. There may be none, and more behind `through`, where addresses were forgotten. The layout
- * is
- * the image's. */
+ * slots. There may be none, and more behind `through`, where addresses were forgotten. The
+ * layout is the image's. */
 static void next_batch(const Device *flash, const Layout *layout, MaybeAddress after,
         LiveBatch *batch) {
     batch_take_out(&batch->found);
@@ -1966,8 +1972,8 @@ static uint16_t number_of(MaybeAddress after) {
     return address;
 }
 
-/* Puts in the next addresses above this one of which a slot says something, each with what the last
- * one says. */
+/* Puts in the next addresses above this one of which a slot says something, each with
+ * what the last one says. */
 static void gather(const Device *flash, Side side, uint16_t above, Batch *nearest) {
     for (uint32_t page = 0u, end = flash->shape.pages; page < end; page++) {
         gather_page(flash, side, page, above, nearest);
@@ -1993,26 +1999,22 @@ static void gather_page(const Device *flash, Side side, uint32_t page, uint16_t 
 }
 
 /* Notes what these numbers say, of so many addresses above this one, which are those that have a
- * place
- * in the batch. Gives how many have one then. */
+ * place in the batch. Gives how many have one then. */
 EE_APART uint32_t note_all(uint16_t above, uint32_t span, ListOfU64 numbers, Batch *nearest) {
     for (uint32_t at = 0u; at < numbers.len; at++) {
         const uint64_t *const number = &numbers.items[at];
-        span = note(above, span, *number, nearest);
+        span = note_within(above, span, *number, nearest);
     }
     return span;
 }
 
 /* Notes what a number says, if it is of one of so many addresses above this one. */
-static uint32_t note(uint16_t above, uint32_t span, uint64_t number, Batch *nearest) {
+static uint32_t note_within(uint16_t above, uint32_t span, uint64_t number, Batch *nearest) {
     /* Asked first, since most words are of an address that has no place in a batch. */
     if (!is_within(address_in(number), above, span)) {
         return span;
     }
-    if (batch_note_last(nearest, number)) {
-        return span;
-    }
-    if (batch_note(nearest, number)) {
+    if (batch_note_any(nearest, number)) {
         return span_of(nearest, above);
     }
     return span;
@@ -2029,12 +2031,12 @@ static bool is_within(uint16_t address, uint16_t above, uint32_t span) {
     return u32_wrapping_sub((uint32_t)address, (uint32_t)above + 1u) < span;
 }
 
-/* ---- ee_pages/read.rs: What the slots of a live set say: values, the next live address, how many
- * are live, how many torn. */
+/* ---- ee_pages/read.rs: What the slots of a live set say: values, the next live address, how
+ * many are live, how many torn. */
 
-/* The value of an address, `None` if it has none. It reads the slots in runs from the newest down,
- * each
- * once, to the run with the first that says something of the address. The layout is the image's.
+/* The value of an address, `None` if it has none. It reads the slots in runs from the
+ * newest down, each once, to the run with the first that says something of the address. The
+ * layout is the image's.
  *
  * Source: the last element written for an address is its value, AN4894; a forgetting is ours. */
 static MaybeU32 latest(const Device *flash, const Layout *layout, Address address) {
@@ -2077,8 +2079,7 @@ static MaybeLive next_live(const Device *flash, const Layout *layout, MaybeAddre
 }
 
 /* How many addresses have a value, 0 to the capacity. It looks through the slots once for each
- * batch
- * of live addresses. The layout is the image's. */
+ * batch of live addresses. The layout is the image's. */
 static uint32_t live_count(const Device *flash, const Layout *layout) {
     uint32_t count = 0u;
     MaybeAddress after = maybe_address_none();
@@ -2095,9 +2096,8 @@ static uint32_t live_count(const Device *flash, const Layout *layout) {
     }
 }
 
-/* How many slots of the live set are torn, 0 to its fill. It reads each slot once. The layout is
- * the
- * image's. */
+/* How many slots of the live set are torn, 0 to its fill. It reads each slot once. The
+ * layout is the image's. */
 static uint32_t torn_slots(const Device *flash, const Layout *layout) {
     uint32_t torn = 0u;
     for (uint32_t page = 0u, end = flash->shape.pages; page < end; page++) {
@@ -2107,8 +2107,7 @@ static uint32_t torn_slots(const Device *flash, const Layout *layout) {
 }
 
 /* How many slots are torn up to the end of a page of a set, where this many are torn before it.
- * Page
- * by page, since finding a slot by its number takes a division. */
+ * Page by page, since finding a slot by its number takes a division. */
 static uint32_t torn_through(const Device *flash, Side side, uint32_t page, uint32_t before) {
     uint32_t torn = before;
     for (uint32_t slot = 0u, end = flash->shape.words - HEADER_WORDS; slot < end; slot++) {
@@ -2147,8 +2146,7 @@ static MaybeSaidValue said_in_page(const Device *flash, Side side, uint32_t page
 }
 
 /* How many of these numbers stand up to the last that ends in an address, 0 where none does. It
- * does no
- * more than that, since most numbers end in another one. */
+ * does no more than that, since most numbers end in another one. */
 EE_APART uint32_t ending_in(ListOfU64 numbers, Address address) {
     uint32_t left = numbers.len;
     while (left > 0u && address_in(numbers.items[left - 1u]) != address) {
@@ -2157,9 +2155,8 @@ EE_APART uint32_t ending_in(ListOfU64 numbers, Address address) {
     return left;
 }
 
-/* What a number says of the address that it ends in: nothing, or that it has a value or none from
- * here
- * on. */
+/* What a number says of the address that it ends in: nothing, or that it has a value
+ * or none from here on. */
 EE_IN_PLACE MaybeSaidValue said(uint64_t number) {
     if (!says_something(number)) {
         return maybe_said_value_none();
@@ -2209,8 +2206,8 @@ static Step marking_mark(Device *flash, uint32_t page, Mark mark) {
     return device_program(flash, page, at, number);
 }
 
-/* ---- ee_pages/rescue.rs: Which set of a device with any words whatever is rescued, and how many
- * of its words are bad. */
+/* ---- ee_pages/rescue.rs: Which set of a device with any words whatever is rescued, and how
+ * many of its words are bad. */
 
 /* The set that is rescued, of any device. `None` where no set is begun. */
 static MaybeSide rescued_side(const Device *flash) {
@@ -2256,8 +2253,7 @@ static uint32_t named_generation(const Device *flash, Side side) {
 }
 
 /* How many words of the set that is rescued are bad: they can't be read, or may not stand where
- * they
- * stand. 0 to the words of a set, and 0 where no set is begun. */
+ * they stand. 0 to the words of a set, and 0 where no set is begun. */
 static uint32_t bad_words(const Device *flash) {
     const MaybeSide maybe_rescued_side = rescued_side(flash);
     if (!maybe_rescued_side.some) {
@@ -2292,8 +2288,7 @@ static uint32_t bad_in_page(const Device *flash, Side side, uint32_t generation,
 }
 
 /* Whether a word of a set can't be read, or may not stand in its place: `written` slots stand
- * before
- * the first erased one. */
+ * before the first erased one. */
 static bool is_bad(Shape shape, uint32_t generation, uint32_t written, uint32_t page, uint32_t at,
         Word word) {
     const uint32_t before = page * (shape.words - HEADER_WORDS) + u32_saturating_sub(at,
@@ -2304,8 +2299,7 @@ static bool is_bad(Shape shape, uint32_t generation, uint32_t written, uint32_t 
 }
 
 /* How many slots of a set stand before the first erased one. Page by page, since finding a slot by
- * its
- * number takes a division. */
+ * its number takes a division. */
 static uint32_t written_front(const Device *flash, Side side) {
     const Shape shape = flash->shape;
     const uint32_t slots = shape.words - HEADER_WORDS;
@@ -2443,8 +2437,8 @@ static uint32_t live_with(const Device *flash, const Layout *layout, ListOfPut p
     return count;
 }
 
-/* ---- ee_core/marking.rs: The marks that a transfer or a cut left to set: pages used up, the page
- * in use, pages to be erased. */
+/* ---- ee_core/marking.rs: The marks that a transfer or a cut left to set: pages used up, the
+ * page in use, pages to be erased. */
 
 /* Sets the marks that a transfer or a cut left to set: in the live set the pages before the last
  * used one become valid and that one active, in the other set each page that is not blank becomes
@@ -2504,8 +2498,8 @@ static Step mark_old(Device *flash, const Layout *layout, uint32_t page) {
     return DONE;
 }
 
-/* ---- ee_core/cleaning.rs: The set that isn't live: how many of its pages wait to be erased, and
- * the erasing of one. */
+/* ---- ee_core/cleaning.rs: The set that isn't live: how many of its pages wait to be erased,
+ * and the erasing of one. */
 
 /* Erases the lowest page of the other set that is not blank. `false` if there is none. */
 static BoolOrCut cleaning_clean(Device *flash, const Layout *layout) {
@@ -2558,9 +2552,20 @@ static uint32_t count_pending(const Device *flash, Side side) {
 
 /* Before the first. */
 static void cursor_new(const Device *flash, const Layout *layout, Cursor *made) {
+    cursor_unread(made);
+    cursor_begin(made, flash, layout);
+}
+
+/* With nothing read yet, before it begins. */
+static void cursor_unread(Cursor *made) {
     live_batch_new(&made->batch);
     made->given = 0u;
-    next_batch(flash, layout, maybe_address_none(), &made->batch);
+}
+
+/* Begins before the first address of a live set. */
+static void cursor_begin(Cursor *self, const Device *flash, const Layout *layout) {
+    self->given = 0u;
+    next_batch(flash, layout, maybe_address_none(), &self->batch);
 }
 
 /* The next live address, with its value. `None` if there is none. */
@@ -2614,15 +2619,15 @@ static CopyingPlaceOrCut put_all(Device *flash, const Layout *layout, ListOfPut 
         const Put *const put = &puts.items[at];
         const Address address = put->address;
         const uint32_t value = put->value;
-        if (stage(flash, layout, &place, change_put(address, value)) == CUT) {
+        if (stage_put(flash, layout, &place, address, value) == CUT) {
             return copying_place_or_cut_err();
         }
     }
     return copying_place_or_cut_ok(place);
 }
 
-/* Copies each live address but those of the changes to the other set, from this place on. Gives how
- * many of its slots are written then. */
+/* Copies each live address but those of the changes to the other set, from this place on. Gives
+ * how many of its slots are written then. */
 static IndexOrCut copy_others(Device *flash, const Layout *layout, ListOfPut puts,
         CopyingPlace place, Cursor *cursor) {
     for (;;) {
@@ -2640,17 +2645,24 @@ static IndexOrCut copy_others(Device *flash, const Layout *layout, ListOfPut put
     return index_or_cut_ok(place.slot);
 }
 
-/* Copies a live address to this place of the other set, unless it is passed over. The place becomes
- * that of the next free slot. */
+/* Copies a live address to this place of the other set, unless it is passed over. The place
+ * becomes that of the next free slot. */
 static Step copy_one(Device *flash, const Layout *layout, bool passed, CopyingPlace *place,
         Address address, uint32_t value) {
     if (passed) {
         return DONE;
     }
-    if (stage(flash, layout, place, change_put(address, value)) == CUT) {
+    if (stage_put(flash, layout, place, address, value) == CUT) {
         return CUT;
     }
     return DONE;
+}
+
+/* Writes an address with its value into this place of the other set, as `stage` does a change.
+ * Both callers hand these over in registers, which makes firmware smaller. */
+EE_APART Step stage_put(Device *flash, const Layout *layout, CopyingPlace *place, Address address,
+        uint32_t value) {
+    return stage(flash, layout, place, change_put(address, value));
 }
 
 /* Writes a change into this place of the other set, its first free slot. A further page gets its
@@ -2706,10 +2718,10 @@ static void step(const Device *flash, const Layout *layout, CopyingPlace *place)
 /* ---- ee_core/moving.rs: A transfer: the other set is erased, opened and filled, and one mark
  * makes it the live one. */
 
-/* Moves the map, with values that are put or without their addresses, where these are forgotten, to
- * the other set, and makes that one live. The cursor, which is before the first, goes over the live
- * addresses. Of the layout it takes the set, in which any words may stand, and its generation, no
- * smaller than the one that the set is committed with. The layout follows. */
+/* Moves the map, with values that are put or without their addresses, where these are forgotten,
+ * to the other set, and makes that one live. The cursor, which is before the first, goes over the
+ * live addresses. Of the layout it takes the set, in which any words may stand, and its
+ * generation, no smaller than the one that the set is committed with. The layout follows. */
 static Step transfer(Device *flash, Layout *layout, ListOfPut puts, bool forgets, Cursor *cursor) {
     const IndexOrCut count_result = move_map(flash, layout, puts, forgets, cursor);
     if (!count_result.ok) {
@@ -2737,8 +2749,7 @@ static Step transfer_by_slots(Device *flash, Layout *layout, ListOfPut puts, boo
 }
 
 /* Moves the map, with what it is to carry, to the other set, and makes that one live. Gives how
- * many
- * slots it takes there. */
+ * many slots it takes there. */
 static IndexOrCut move_map(Device *flash, const Layout *layout, ListOfPut puts, bool forgets,
         Cursor *cursor) {
     if (clear(flash, layout) == CUT) {
@@ -2759,8 +2770,7 @@ static IndexOrCut move_map(Device *flash, const Layout *layout, ListOfPut puts, 
 }
 
 /* Makes the other set the live one with nothing in it, as `transfer` does with a map in which
- * nothing
- * has a value. The layout follows. */
+ * nothing has a value. The layout follows. */
 static Step transfer_nothing(Device *flash, Layout *layout) {
     if (move_nothing(flash, layout) == CUT) {
         return CUT;
@@ -2788,8 +2798,8 @@ static Step move_nothing(Device *flash, const Layout *layout) {
     return DONE;
 }
 
-/* Erases each page of the other set that is not blank, by rising page. Like the two below it stands
- * in both of its callers, so that no code of one is the other's in firmware. */
+/* Erases each page of the other set that is not blank, by rising page. Like the two below it
+ * stands in both of its callers, so that no code of one is the other's in firmware. */
 EE_IN_PLACE Step clear(Device *flash, const Layout *layout) {
     const uint32_t first = first_page(flash, side_other(layout->side));
     for (uint32_t page = first, end = first + flash->shape.pages; page < end; page++) {
@@ -2842,8 +2852,7 @@ EE_IN_PLACE Step append(Device *flash, Layout *layout, Change change) {
 }
 
 /* The page of the first free slot, and the slot's place in it. The layout has the page in use, so
- * that
- * this takes no division. */
+ * that this takes no division. */
 EE_IN_PLACE IndexPair free_slot(const Device *flash, const Layout *layout) {
     const uint32_t slots = flash->shape.words - HEADER_WORDS;
     const uint32_t used = layout->fill - (layout->current - first_page(flash,
@@ -2855,8 +2864,7 @@ EE_IN_PLACE IndexPair free_slot(const Device *flash, const Layout *layout) {
 }
 
 /* Marks the page of the first free slot, which is this one, as the one that is used, if it is a
- * further
- * one, and the page before it as used up. */
+ * further one, and the page before it as used up. */
 EE_IN_PLACE Step open_page(Device *flash, const Layout *layout, uint32_t page) {
     if (page == layout->current) {
         return DONE;
@@ -2870,8 +2878,8 @@ EE_IN_PLACE Step open_page(Device *flash, const Layout *layout, uint32_t page) {
     return DONE;
 }
 
-/* Programs a change into the first free slot of the live set, which stands in this place of this
- * page. */
+/* Programs a change into the first free slot of the live set, which stands in this
+ * place of this page. */
 EE_IN_PLACE Step push(Device *flash, const Layout *layout, uint32_t page, uint32_t at,
         Change change) {
     (void)layout;
@@ -2882,11 +2890,11 @@ EE_IN_PLACE Step push(Device *flash, const Layout *layout, uint32_t page, uint32
 }
 
 /* ---- ee_core/changing.rs: The making of changes that nothing refuses: one is appended where a
- * slot is free, and else they are */
+ * slot is free, and else they are made with a transfer. */
 
-/* Makes a change to which no refusal applies: in a free slot if there is one, else with a transfer.
- * The layout and the look-up follow. It stands in both of its callers, so that a write takes fewer
- * instructions in firmware. */
+/* Makes a change to which no refusal applies: in a free slot if there is one, else with a
+ * transfer. The layout and the look-up follow. It stands in both of its callers, so that a write
+ * takes fewer instructions in firmware. */
 EE_IN_PLACE WrittenOrCut make_change(Device *flash, Layout *layout, Change change) {
     if (layout->fill < shape_slots(flash->shape)) {
         const Step append_result = slots_append(flash, layout, change);
@@ -2907,8 +2915,7 @@ EE_IN_PLACE WrittenOrCut make_change(Device *flash, Layout *layout, Change chang
 }
 
 /* Makes a look-up ready for a value in the first free slot or, where none is free, makes room for
- * it in a transfer. An
- * `Err`, which only a new address meets, leaves it as it was. */
+ * it in a transfer. An `Err`, which only a new address meets, leaves it as it was. */
 EE_IN_PLACE Step prepare(const Device *flash, const Layout *layout, Put put) {
     if (layout->fill == shape_slots(flash->shape)) {
         return slots_make_room(flash, layout, (ListOfPut){ .items = &put, .len = 1u });
@@ -2924,9 +2931,9 @@ EE_IN_PLACE Step append_change(Device *flash, Layout *layout, Change change) {
     return DONE;
 }
 
-/* Makes changes to which no refusal applies with a transfer that they need, as `move_changes`
- * does, in
- * a store without an index: it looks for the live addresses in the slots. The layout follows. */
+/* Makes changes to which no refusal applies with a transfer that they need, as
+ * `move_changes` does, in a store without an index: it looks for the live addresses in the
+ * slots. The layout follows. */
 static Step move_unindexed(Device *flash, Layout *layout, ListOfPut puts, bool forgets) {
     if (transfer_by_slots(flash, layout, puts, forgets) == CUT) {
         return CUT;
@@ -2955,7 +2962,8 @@ EE_IN_PLACE uint32_t slots_live_count(const Device *flash, const Layout *layout)
     return live_count(flash, layout);
 }
 
-/* How many addresses have a value with these values, each of which is of an address of its own. */
+/* How many addresses have a value with these values, each of which is of an
+ * address of its own. */
 EE_IN_PLACE uint32_t slots_live_with(const Device *flash, const Layout *layout, ListOfPut puts) {
     return live_with(flash, layout, puts);
 }
@@ -2966,8 +2974,8 @@ EE_IN_PLACE MaybeLive slots_next_live(const Device *flash, const Layout *layout,
     return next_live(flash, layout, after);
 }
 
-/* Makes ready for a value in the first free slot. An `Err`, which only a new address meets, leaves
- * it as it was. */
+/* Makes ready for a value in the first free slot. An `Err`, which only a new address meets,
+ * leaves it as it was. */
 EE_IN_PLACE Step slots_make_ready(const Device *_flash, const Layout *_layout, Put _put) {
     (void)_flash;
     (void)_layout;
@@ -2975,8 +2983,8 @@ EE_IN_PLACE Step slots_make_ready(const Device *_flash, const Layout *_layout, P
     return DONE;
 }
 
-/* Makes room for a transfer with these values. An `Err`, which only a new address meets, leaves it
- * as it was. */
+/* Makes room for a transfer with these values. An `Err`, which only a new address meets,
+ * leaves it as it was. */
 EE_IN_PLACE Step slots_make_room(const Device *_flash, const Layout *_layout, ListOfPut _puts) {
     (void)_flash;
     (void)_layout;
@@ -2988,16 +2996,105 @@ EE_IN_PLACE Step slots_make_room(const Device *_flash, const Layout *_layout, Li
 EE_IN_PLACE void slots_find_nothing(void) {
 }
 
-/* Makes a change to which no refusal applies in the first free slot. The layout and the look-up
- * follow. */
+/* Makes a change to which no refusal applies in the first free slot. The layout and
+ * the look-up follow. */
 EE_IN_PLACE Step slots_append(Device *flash, Layout *layout, Change change) {
     return append_change(flash, layout, change);
 }
 
-/* Makes changes to which no refusal applies with a transfer that they need. The layout and the
- * look-up follow. */
+/* Makes changes to which no refusal applies with a transfer that they need. The layout and
+ * the look-up follow. */
 EE_IN_PLACE Step slots_transfer(Device *flash, Layout *layout, ListOfPut puts, bool forgets) {
     return move_unindexed(flash, layout, puts, forgets);
+}
+
+/* ---- ee_core/known.rs: What a store keeps in memory beside its device, and the calls that
+ * stand on it. */
+
+/* `Variables::read` on the device of which this is known. */
+static ReadResult known_read(const Known *self, const Device *flash, Address address) {
+    if (!device_is_on(flash)) {
+        return read_result_err();
+    }
+    return read_result_ok(slots_value_of(flash, &self->layout, address));
+}
+
+/* `Variables::write` on the device of which this is known. */
+EE_IN_PLACE WriteResult known_write(Known *self, Device *flash, Address address, uint32_t value) {
+    if (!device_is_on(flash)) {
+        return write_result_err(WriteFault_Off);
+    }
+    if (known_is_full_for(self, flash, address)) {
+        return write_result_err(WriteFault_Full);
+    }
+    if (known_is_spent(self, flash)) {
+        return write_result_err(WriteFault_Spent);
+    }
+    const Put put = (Put){ .address = address, .value = value };
+    const Step prepare_result = prepare(flash, &self->layout, put);
+    if (prepare_result != DONE) {
+        return write_result_err(WriteFault_Memory);
+    }
+    const Change change = change_put(address, value);
+    const WrittenOrCut make_change_result = make_change(flash, &self->layout, change);
+    if (make_change_result.ok) {
+        return write_result_ok(make_change_result.value);
+    }
+    return write_result_err(WriteFault_Cut);
+}
+
+/* `Variables::forget` on the device of which this is known. */
+EE_IN_PLACE ForgetResult known_forget(Known *self, Device *flash, Address address) {
+    if (!device_is_on(flash)) {
+        return forget_result_err(ForgetFault_Off);
+    }
+    const MaybeU32 maybe_value = slots_value_of(flash, &self->layout, address);
+    if (!maybe_value.some) {
+        return forget_result_err(ForgetFault_Absent);
+    }
+    const uint32_t value = maybe_value.value;
+    if (known_is_spent(self, flash)) {
+        return forget_result_err(ForgetFault_Spent);
+    }
+    const Change change = change_forget(address, value);
+    const WrittenOrCut make_change_result = make_change(flash, &self->layout, change);
+    if (make_change_result.ok) {
+        return forget_result_ok(make_change_result.value);
+    }
+    return forget_result_err(ForgetFault_Cut);
+}
+
+/* `Variables::clean_step` on the device of which this is known. */
+static CleanResult known_clean_step(const Known *self, Device *flash) {
+    if (!device_is_on(flash)) {
+        return clean_result_err(WriteFault_Off);
+    }
+    const BoolOrCut clean_result = cleaning_clean(flash, &self->layout);
+    if (clean_result.ok) {
+        return clean_result_ok(clean_result.value);
+    }
+    return clean_result_err(WriteFault_Cut);
+}
+
+/* Whether a write or forgetting must be refused since no generation is left for the transfer
+ * that it needs. */
+static bool known_is_spent(const Known *self, const Device *flash) {
+    return self->layout.fill == shape_slots(flash->shape) &&
+            self->layout.generation == GREATEST_GENERATION;
+}
+
+/* Whether the address has no value and there is no slot for one more. Live addresses are
+ * counted only where every slot is used. */
+static bool known_is_full_for(const Known *self, const Device *flash, Address address) {
+    const uint32_t slots = shape_slots(flash->shape);
+    if (self->layout.fill < slots) {
+        return false;
+    }
+    const MaybeU32 maybe_value_of = slots_value_of(flash, &self->layout, address);
+    if (maybe_value_of.some) {
+        return false;
+    }
+    return slots_live_count(flash, &self->layout) == slots;
 }
 
 /* ---- ee_core/store.rs: The store: it knows where the live set is and how far it is used, and
@@ -3005,18 +3102,13 @@ EE_IN_PLACE Step slots_transfer(Device *flash, Layout *layout, ListOfPut puts, b
 
 /* A store of this device, of which this is the layout. It looks through the slots. */
 static Store store_of(Device flash, Layout layout) {
-    return store_with(flash, layout);
+    return (Store){ .flash = flash, .known = (Known){ .layout = layout } };
 }
 
-/* A store of this device, of which this is the layout. It finds values by this look-up. */
-static Store store_with(Device flash, Layout layout) {
-    return (Store){ .flash = flash, .layout = layout };
-}
-
-/* How many slots of the live set are torn, 0 to its fill: words in whose step power was cut. It
- * reads each slot once. */
+/* How many slots of the live set are torn, 0 to its fill: words in whose step power was cut.
+ * It reads each slot once. */
 static uint32_t store_torn_slots(const Store *self) {
-    return torn_slots(&self->flash, &self->layout);
+    return torn_slots(&self->flash, &self->known.layout);
 }
 
 /* Writes the one value of a list. */
@@ -3052,52 +3144,31 @@ static WriteAllResult store_write_several(Store *self, ListOfPut puts) {
     if (store_is_last(self)) {
         return write_all_result_err(write_all_fault_spent());
     }
-    const Step make_room_result = slots_make_room(&self->flash, &self->layout, puts);
+    const Step make_room_result = slots_make_room(&self->flash, &self->known.layout, puts);
     if (make_room_result != DONE) {
         return write_all_result_err(write_all_fault_memory());
     }
-    const Step transfer_result = slots_transfer(&self->flash, &self->layout, puts, false);
+    const Step transfer_result = slots_transfer(&self->flash, &self->known.layout, puts, false);
     if (transfer_result == DONE) {
         return write_all_result_ok(Written_Moved);
     }
     return write_all_result_err(write_all_fault_cut());
 }
 
-/* Whether more addresses would have a value than there are slots, with these values, each of which
- * is of an address of its own. */
+/* Whether more addresses would have a value than there are slots, with these values, each of
+ * which is of an address of its own. */
 static bool store_is_full_for_all(const Store *self, ListOfPut puts) {
     const uint32_t slots = shape_slots(self->flash.shape);
-    return puts.len > slots || slots_live_with(&self->flash, &self->layout, puts) > slots;
-}
-
-/* Whether a write or forgetting must be refused since no generation is left for the transfer
- * that it needs. */
-static bool store_is_spent(const Store *self) {
-    return self->layout.fill == shape_slots(self->flash.shape) &&
-            self->layout.generation == GREATEST_GENERATION;
+    return puts.len > slots || slots_live_with(&self->flash, &self->known.layout, puts) > slots;
 }
 
 /* Whether no generation is left for a transfer. */
 static bool store_is_last(const Store *self) {
-    return self->layout.generation == GREATEST_GENERATION;
+    return self->known.layout.generation == GREATEST_GENERATION;
 }
 
-/* Whether the address has no value and there is no slot for one more. Live addresses are counted
- * only where every slot is used. */
-static bool store_is_full_for(const Store *self, Address address) {
-    const uint32_t slots = shape_slots(self->flash.shape);
-    if (self->layout.fill < slots) {
-        return false;
-    }
-    const MaybeU32 maybe_value_of = slots_value_of(&self->flash, &self->layout, address);
-    if (maybe_value_of.some) {
-        return false;
-    }
-    return slots_live_count(&self->flash, &self->layout) == slots;
-}
-
-/* The slots of a set, 1 to 32512: as many changes as it takes, and as many addresses can have a
- * value. */
+/* The slots of a set, 1 to 32512: as many changes as it takes, and as many
+ * addresses can have a value. */
 static uint32_t store_slots(const Store *self) {
     return shape_slots(self->flash.shape);
 }
@@ -3108,10 +3179,7 @@ static uint32_t store_slots(const Store *self) {
  *
  * `Off`: the device is off. */
 static ReadResult store_read(const Store *self, Address address) {
-    if (!device_is_on(&self->flash)) {
-        return read_result_err();
-    }
-    return read_result_ok(slots_value_of(&self->flash, &self->layout, address));
+    return known_read(&self->known, &self->flash, address);
 }
 
 /* Writes a value, also one that the address has already.
@@ -3120,31 +3188,12 @@ static ReadResult store_read(const Store *self, Address address) {
  *
  * The first `WriteFault` that applies. */
 EE_IN_PLACE WriteResult store_write(Store *self, Address address, uint32_t value) {
-    if (!device_is_on(&self->flash)) {
-        return write_result_err(WriteFault_Off);
-    }
-    if (store_is_full_for(self, address)) {
-        return write_result_err(WriteFault_Full);
-    }
-    if (store_is_spent(self)) {
-        return write_result_err(WriteFault_Spent);
-    }
-    const Step prepare_result = prepare(&self->flash, &self->layout, (Put){ .address = address,
-            .value = value });
-    if (prepare_result != DONE) {
-        return write_result_err(WriteFault_Memory);
-    }
-    const WrittenOrCut make_change_result = make_change(&self->flash, &self->layout,
-            change_put(address, value));
-    if (make_change_result.ok) {
-        return write_result_ok(make_change_result.value);
-    }
-    return write_result_err(WriteFault_Cut);
+    return known_write(&self->known, &self->flash, address, value);
 }
 
-/* Writes these values at once: after this call, and after a cut in it too, the map has all of them
- * or is as it was. A list of one is written as by `write`; for more the live set moves to the other
- * set, whether a slot is free or not.
+/* Writes these values at once: after this call, and after a cut in it too, the map has all of
+ * them or is as it was. A list of one is written as by `write`; for more the live set moves to
+ * the other set, whether a slot is free or not.
  *
  * Errors:
  *
@@ -3168,29 +3217,13 @@ static WriteAllResult store_write_all(Store *self, ListOfPut changes) {
  *
  * The first `ForgetFault` that applies. */
 static ForgetResult store_forget(Store *self, Address address) {
-    if (!device_is_on(&self->flash)) {
-        return forget_result_err(ForgetFault_Off);
-    }
-    const MaybeU32 maybe_value = slots_value_of(&self->flash, &self->layout, address);
-    if (!maybe_value.some) {
-        return forget_result_err(ForgetFault_Absent);
-    }
-    const uint32_t value = maybe_value.value;
-    if (store_is_spent(self)) {
-        return forget_result_err(ForgetFault_Spent);
-    }
-    const WrittenOrCut make_change_result = make_change(&self->flash, &self->layout,
-            change_forget(address, value));
-    if (make_change_result.ok) {
-        return forget_result_ok(make_change_result.value);
-    }
-    return forget_result_err(ForgetFault_Cut);
+    return known_forget(&self->known, &self->flash, address);
 }
 
-/* Takes the values of all addresses away at once: after this call, and after a cut in it too, none
- * has a value or all have theirs. `false` if no slot is used: then it takes no step. Else the
- * other set becomes the live one with nothing in it. The words of the old values stay in the
- * flash until their set is erased.
+/* Takes the values of all addresses away at once: after this call, and after a cut in it too,
+ * none has a value or all have theirs. `false` if no slot is used: then it takes no step. Else
+ * the other set becomes the live one with nothing in it. The words of the old values stay in
+ * the flash until their set is erased.
  *
  * Errors:
  *
@@ -3199,13 +3232,13 @@ static ClearResult store_clear(Store *self) {
     if (!device_is_on(&self->flash)) {
         return clear_result_err(ClearFault_Off);
     }
-    if (self->layout.fill == 0u) {
+    if (self->known.layout.fill == 0u) {
         return clear_result_ok(false);
     }
     if (store_is_last(self)) {
         return clear_result_err(ClearFault_Spent);
     }
-    const Step empty_result = empty(&self->flash, &self->layout);
+    const Step empty_result = empty(&self->flash, &self->known.layout);
     if (empty_result == DONE) {
         slots_find_nothing();
         return clear_result_ok(true);
@@ -3219,44 +3252,37 @@ static ClearResult store_clear(Store *self) {
  *
  * `WriteFault::Off` or `WriteFault::Cut`, and no other. */
 static CleanResult store_clean_step(Store *self) {
-    if (!device_is_on(&self->flash)) {
-        return clean_result_err(WriteFault_Off);
-    }
-    const BoolOrCut clean_result = cleaning_clean(&self->flash, &self->layout);
-    if (clean_result.ok) {
-        return clean_result_ok(clean_result.value);
-    }
-    return clean_result_err(WriteFault_Cut);
+    return known_clean_step(&self->known, &self->flash);
 }
 
 /* How many pages of the other set are not blank, 0 to 64. */
 static uint32_t store_pending(const Store *self) {
-    return count_pending(&self->flash, side_other(self->layout.side));
+    return count_pending(&self->flash, side_other(self->known.layout.side));
 }
 
 /* How many slots are used, torn ones too: 0 to the slots. */
 static uint32_t store_fill(const Store *self) {
-    return self->layout.fill;
+    return self->known.layout.fill;
 }
 
 /* The generation of the live set, 1 to 4294967294: one more with each transfer. */
 static uint32_t store_generation(const Store *self) {
-    return self->layout.generation;
+    return self->known.layout.generation;
 }
 
 /* How many addresses have a value, 0 to the slots. */
 static uint32_t store_live_count(const Store *self) {
-    return slots_live_count(&self->flash, &self->layout);
+    return slots_live_count(&self->flash, &self->known.layout);
 }
 
 /* The next address above `after`, or of all if `after` is `None`, that has a value, with the
  * value. `None` if there is none. */
 static MaybeLive store_next_live(const Store *self, MaybeAddress after) {
-    return slots_next_live(&self->flash, &self->layout, after);
+    return slots_next_live(&self->flash, &self->known.layout, after);
 }
 
-/* ---- ee_core/formatting.rs: A store with nothing in it: what is written is erased, and the first
- * set becomes the live one. */
+/* ---- ee_core/formatting.rs: A store with nothing in it: what is written is erased, and the
+ * first set becomes the live one. */
 
 /* Erases what is not blank, makes the first set the live one with generation 1, and gives the
  * layout. */
@@ -3286,8 +3312,8 @@ static Step erase_all(Device *flash) {
     return DONE;
 }
 
-/* ---- ee_core/opening.rs: How a store comes to be: opened from a legal image, or made anew on any
- * device. */
+/* ---- ee_core/opening.rs: How a store comes to be: opened from a legal image, or made anew on
+ * any device. */
 
 /* Opens the store of a legal image, on a device that is on, and sets the marks that a cut left to
  * set. The variables are as before. Where no mark was left it takes no step.
@@ -3296,19 +3322,29 @@ static Step erase_all(Device *flash) {
  *
  * The device and the first `OpenFault` that applies. */
 static OpenResult opening_open(Device flash) {
+    const LayoutOrOpenFault open_on_result = open_on(&flash);
+    if (open_on_result.ok) {
+        const Layout layout = open_on_result.value;
+        return open_result_ok(store_of(flash, layout));
+    }
+    const OpenFault fault = open_on_result.error;
+    return open_result_err((OpenRefusal){ .first = flash, .second = fault });
+}
+
+/* `open` in place: the layout of the store that the device becomes. */
+static LayoutOrOpenFault open_on(Device *flash) {
     Layout layout;
-    const ScanResult scan_result = scan(&flash);
+    const ScanResult scan_result = scan(flash);
     if (scan_result.ok) {
         layout = scan_result.value;
     } else {
-        const ScanFault fault = scan_result.error;
-        return open_result_err((OpenRefusal){ .first = flash, .second = open_fault_scan(fault) });
+        return layout_or_open_fault_err(open_fault_scan(scan_result.error));
     }
-    const Step finish_result = finish(&flash, &layout);
+    const Step finish_result = finish(flash, &layout);
     if (finish_result == DONE) {
-        return open_result_ok(store_of(flash, layout));
+        return layout_or_open_fault_ok(layout);
     }
-    return open_result_err((OpenRefusal){ .first = flash, .second = open_fault_cut() });
+    return layout_or_open_fault_err(open_fault_cut());
 }
 
 /* Makes a store with nothing in it, of a device that is on: each page that is not blank is erased,
@@ -3318,6 +3354,12 @@ static OpenResult opening_open(Device flash) {
  *
  * The device, off: power failed. What it held is gone in part, until a `format` ends. */
 static FormatResult opening_format(Device flash) {
+    return make_store(flash);
+}
+
+/* Makes a store with nothing in it, as `format` does. A device that can be started stays one, or
+ * is the store, where power is cut. */
+static FormatResult make_store(Device flash) {
     const LayoutOrCut write_format_result = write_format(&flash);
     if (write_format_result.ok) {
         const Layout layout = write_format_result.value;
@@ -3326,21 +3368,18 @@ static FormatResult opening_format(Device flash) {
     return format_result_err((FormatRefusal){ .first = flash });
 }
 
-/* ---- ee_core/first_start.rs: The call for whenever a device is switched on: it opens the store,
- * or makes the first one. */
+/* ---- ee_core/first_start.rs: The call for whenever a device is switched on: it opens the
+ * store, or makes the first one. */
 
 /* Opens the store of a device that is on, as `open` does, or makes the first one, as `format`
- * does: on
- * a device in which no set is committed and no word behind a page's header can be read, torn words
- * or not. So it is the call to make whenever the device is switched on: a first start in which
- * power
+ * does: on a device in which no set is committed and each word behind a page's header is erased or
+ * torn. So it is the call to make whenever the device is switched on: a first start in which power
  * is cut is made again, and no word that may be a value is ever erased.
  *
  * Errors:
  *
  * The device and the first `OpenFault` that applies. At a fault of the scan nothing changed. After
- * a
- * cut the variables are as before: in a first start there are none. */
+ * a cut the variables are as before: in a first start there are none. */
 static OpenResult first_start_start(Device flash) {
     Device flash_2;
     OpenFault fault;
@@ -3375,7 +3414,7 @@ static bool is_startable(const Device *flash, ScanFault fault) {
     }
 }
 
-/* Whether no word behind a page's header can be read. */
+/* Whether each word behind a page's header is erased or torn. */
 static bool holds_none(const Device *flash) {
     for (uint32_t page = 0u, end = 2u * flash->shape.pages; page < end; page++) {
         if (page_holds(flash, page)) {
@@ -3398,16 +3437,16 @@ static bool page_holds(const Device *flash, uint32_t page) {
 
 /* Makes the first store. */
 static OpenResult start_anew(Device flash) {
-    const LayoutOrCut write_format_result = write_format(&flash);
-    if (write_format_result.ok) {
-        const Layout layout = write_format_result.value;
-        return open_result_ok(store_of(flash, layout));
+    const FormatResult make_store_result = make_store(flash);
+    if (make_store_result.ok) {
+        return open_result_ok(make_store_result.value);
     }
-    return open_result_err((OpenRefusal){ .first = flash, .second = open_fault_cut() });
+    const Device flash_2 = make_store_result.error.first;
+    return open_result_err((OpenRefusal){ .first = flash_2, .second = open_fault_cut() });
 }
 
-/* ---- ee_core/rescuing.rs: A rescue: the map that a set says is moved to the other set, whatever
- * stands in either. */
+/* ---- ee_core/rescuing.rs: A rescue: the map that a set says is moved to the other set,
+ * whatever stands in either. */
 
 /* Makes a store as `rescue` does, and counts no bad words, so that firmware that doesn't ask for
  * them carries no code for it. Gives how many addresses have a value, 0 to the capacity.
@@ -3448,19 +3487,15 @@ static LayoutOrCut rescue_set(Device *flash, Side side, uint32_t generation) {
 /* ---- ee_pairs/pairs.rs: A device of words on a flash of numbers. */
 
 /* The word that two numbers are: erased where both are `u64::MAX`, held where the second is the
- * complement of the first, which
- * is below `u64::MAX`; else torn. */
+ * complement of the first, which is below `u64::MAX`; else torn. */
 static Word word_of(uint64_t number, uint64_t check) {
-    if (number == UINT64_MAX) {
-        if (check == UINT64_MAX) {
-            return word_erased();
-        }
+    if (!is_whole(number, check)) {
         return word_torn();
     }
-    if (check == complement_of(number)) {
-        return word_held(number);
+    if (number == UINT64_MAX) {
+        return word_erased();
     }
-    return word_torn();
+    return word_held(number);
 }
 
 /* The number that has a one where this one has a zero. */
@@ -3512,9 +3547,8 @@ static void fill_run(const Numbers *nor, uint32_t page, uint32_t at, RoomOfU64 r
 
 /* The same of numbers in memory, two of each word. */
 static void fill_from_window(ListOfU64 numbers, RoomOfU64 room) {
-    for (uint32_t word = 0u; word < room.len; word++) {
-        uint64_t *const number = &room.items[word];
-        *number = number_of_pair(numbers.items[2u * word], numbers.items[2u * word + 1u]);
+    for (uint32_t word = 0u, end = room.len; word < end; word++) {
+        room.items[word] = number_of_pair(numbers.items[2u * word], numbers.items[2u * word + 1u]);
     }
 }
 
@@ -3531,7 +3565,31 @@ static void fill_by_reading(const Numbers *nor, uint32_t page, uint32_t at, Room
 
 /* The number of the word that two numbers are: `u64::MAX` of an erased word, 0 of a torn one. */
 static uint64_t number_of_pair(uint64_t number, uint64_t check) {
-    return word_number(word_of(number, check));
+    if (is_whole(number, check)) {
+        return number;
+    }
+    return 0u;
+}
+
+/* Whether two numbers are a word that isn't torn. It looks at halves of 32 bits, which is shorter
+ * on the cores of firmware. */
+EE_IN_PLACE bool is_whole(uint64_t number, uint64_t check) {
+    const U32AndU32 low_and_high = halves(number);
+    const uint32_t low = low_and_high.first;
+    const uint32_t high = low_and_high.second;
+    const U32AndU32 check_low_and_check_high = halves(check);
+    const uint32_t check_low = check_low_and_check_high.first;
+    const uint32_t check_high = check_low_and_check_high.second;
+    if ((low & high) == UINT32_MAX) {
+        return (check_low & check_high) == UINT32_MAX;
+    }
+    return (u32_wrapping_add(low, check_low) & u32_wrapping_add(high, check_high)) == UINT32_MAX;
+}
+
+/* The lower and the upper 32 bits of a number. */
+static U32AndU32 halves(uint64_t number) {
+    return (U32AndU32){ .first = (uint32_t)(number & UINT64_C(0xFFFFFFFF)),
+            .second = (uint32_t)(number >> 32u) };
 }
 
 /* ---- ee_pairs/low_pair.rs: The first word of a flash of numbers whose numbers sum to less than
@@ -3604,30 +3662,6 @@ static MaybeIndex low_read(const Numbers *nor, uint32_t page, uint32_t from, uin
 /* Whether two numbers sum to less than `u64::MAX`, as those of no word do that a store wrote. */
 static bool is_low(uint64_t number, uint64_t check) {
     return check < UINT64_MAX - number;
-}
-
-/* ---- ee_pairs/wiping.rs: A flash of numbers made blank. */
-
-/* Erases each page that holds something, by rising page. */
-static Step wipe(Numbers *nor) {
-    for (uint32_t page = 0u, end = 2u * nor->shape.pages; page < end; page++) {
-        if (!wiping_is_blank(nor, page)) {
-            if (numbers_erase(nor, page) == CUT) {
-                return CUT;
-            }
-        }
-    }
-    return DONE;
-}
-
-/* Whether each number of a page is all ones. */
-static bool wiping_is_blank(const Numbers *nor, uint32_t page) {
-    for (uint32_t at = 0u, end = 2u * nor->shape.words; at < end; at++) {
-        if (numbers_read(nor, page, at) != UINT64_MAX) {
-            return false;
-        }
-    }
-    return true;
 }
 
 /* ---- By hand: the thirteen calls of ee.h. A store stays in the memory that the caller lends. */
@@ -3769,16 +3803,14 @@ ee_result ee_start(ee_store *store, const ee_flash *flash) {
     return opening_ended(store, status);
 }
 
+/* A flash of numbers isn't wiped before: a format itself erases each page that isn't blank, by
+ * rising
+ * page. */
 ee_result ee_format(ee_store *store, const ee_flash *flash) {
     Device device;
     const ee_result status = device_in(store, flash, &device);
     if (status != EE_OK) {
         return status;
-    }
-    if (flash->pairs != 0u) {
-        Numbers numbers = numbers_of(&device, flash);
-        /* Where it fails the device is off. */
-        (void)wipe(&numbers);
     }
     const FormatResult answer = opening_format(device);
     if (!answer.ok) {

@@ -38,8 +38,8 @@
  *     ee_rescue                         N + 3 * W        S + 3 * P + 1    P
  *     ee_bad_words                      2 * W            0                0
  *
- * With `pairs` a word read or programmed is two numbers, ee_open and ee_format read W words more, and ee_start 2 * W. For each
- * torn word, which a cut left half written, ee_start and ee_open read 17 words more.
+ * With `pairs` a word read or programmed is two numbers, ee_open reads W words more, and ee_start 2 * W. For each torn word,
+ * which a cut left half written, ee_start and ee_open read 17 words more.
  *
  * A watchdog is fed in your own three functions: in the loop in which `program` and `erase` wait for the end of a step, and in
  * `word` where so many words as above take long to read. Between two calls of the three the library does some hundred
@@ -131,9 +131,12 @@ struct ee_layout {
     uint32_t fill;
     uint32_t current;
 };
+struct ee_known {
+    struct ee_layout layout;
+};
 struct ee_kept {
     struct ee_device flash;
-    struct ee_layout layout;
+    struct ee_known known;
 };
 
 /* A store, in memory that the caller lends, which stays where it is. ee_start, ee_open or ee_format comes before every other
@@ -197,9 +200,9 @@ typedef struct ee_numbers {
  * tells. What was erased before the store was made, and by ee_format, is not in it. */
 
 /* The call to make at each start. Opens the store that the flash holds, as ee_open, or makes the first one: where no set is
- * live and no word behind the header of a page can be read; with `pairs`, where every number is all ones but the first four of
- * page 0. A first start in which power was cut is made again; no stored value is erased. EE_OK; EE_NO_LIVE_SET, EE_TWO_LIVE,
- * EE_FOREIGN, EE_DRIVER. */
+ * live and each word behind a page's header is erased or torn; with `pairs`, where every number is all ones but the first four
+ * of page 0. A first start in which power was cut is made again; no stored value is erased. EE_OK; EE_NO_LIVE_SET,
+ * EE_TWO_LIVE, EE_FOREIGN, EE_DRIVER. */
 ee_result ee_start(ee_store *store, const ee_flash *flash);
 
 /* Opens the store that the flash holds. Where power was cut it sets the marks that were left to set, else it writes nothing.

@@ -12,7 +12,8 @@ ALIASES = {"Address": "number", "Pairs": "nor"}
 # Structs that stand in ee.h, with their names there and their fields.
 IN_HEADER = {"Shape": ("struct ee_shape", ["pages", "words"]),
              "Layout": ("struct ee_layout", ["side", "generation", "fill", "current"]),
-             "Store": ("struct ee_kept", ["flash", "layout"]),
+             "Known": ("struct ee_known", ["layout"]),
+             "Store": ("struct ee_kept", ["flash", "known"]),
              "Put": ("ee_value", ["address", "value"])}
 # An enum in one of those is a number of 32 bits, whatever size a compiler gives an enum.
 IN_STORE = {"Side"}

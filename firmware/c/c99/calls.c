@@ -136,16 +136,13 @@ ee_result ee_start(ee_store *store, const ee_flash *flash) {
     return opening_ended(store, status);
 }
 
+/* A flash of numbers isn't wiped before: a format itself erases each page that isn't blank, by rising
+ * page. */
 ee_result ee_format(ee_store *store, const ee_flash *flash) {
     Device device;
     const ee_result status = device_in(store, flash, &device);
     if (status != EE_OK) {
         return status;
-    }
-    if (flash->pairs != 0u) {
-        Numbers numbers = numbers_of(&device, flash);
-        /* Where it fails the device is off. */
-        (void)wipe(&numbers);
     }
     const FormatResult answer = opening_format(device);
     if (!answer.ok) {

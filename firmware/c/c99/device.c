@@ -69,15 +69,6 @@ static Step numbers_program(const Numbers *numbers, uint32_t page, uint32_t at, 
     return step_ended(numbers->device, flash->program(flash->context, page, at, number));
 }
 
-static Step numbers_erase(const Numbers *numbers, uint32_t page) {
-    const Device *const device = numbers->device;
-    const ee_flash *const flash = flash_with(device, page);
-    if (flash == NULL) {
-        return CUT;
-    }
-    return step_ended(device, flash->erase(flash->context, page));
-}
-
 /* The numbers of a device with this flash. */
 static Numbers numbers_of(const Device *device, const ee_flash *flash) {
     return (Numbers){ .device = device, .flash = flash, .shape = device->shape };

@@ -1,5 +1,6 @@
 """Makes ee.c: the types and functions that the calls of ee.h need, and the parts by hand."""
 import re
+import textwrap
 from pathlib import Path
 
 from .c_types import HAND, IN_HEADER, comment_of
@@ -16,13 +17,13 @@ ORDER = {
     "ee_codec": "address header slot",
     "ee_pages": "runs side state number table find batch_items batch read marking rescue",
     "ee_core": "change puts marking cleaning live_cursor copying moving writing changing lookup "
-               "variables store formatting opening first_start rescuing",
+               "variables known store formatting opening first_start rescuing",
     "ee_pairs": "nor pairs runs low_pair wiping",
 }
 # What the parts by hand call.
 ROOTS = [
     ("opening", "open"), ("opening", "format"), ("first_start", "start"),
-    ("rescuing", "rescue_uncounted"), ("rescue", "bad_words"), ("low_pair", "first_low"), ("wiping", "wipe"),
+    ("rescuing", "rescue_uncounted"), ("rescue", "bad_words"), ("low_pair", "first_low"),
     *[("Store", name) for name in "write write_all forget clear clean_step read next_live slots fill "
       "generation live_count pending torn_slots".split()],
     ("Pairs", "word"), ("Pairs", "run"), ("Pairs", "program"), ("state", "is_blank"),
@@ -36,6 +37,9 @@ HELPERS = {
     "u32_wrapping_sub": ["/* By hand. The difference, modulo 2 to the power of 32. */",
                          "static inline uint32_t u32_wrapping_sub(uint32_t a, uint32_t b) {",
                          "    return a - b;", "}"],
+    "u32_wrapping_add": ["/* By hand. The sum, modulo 2 to the power of 32. */",
+                         "static inline uint32_t u32_wrapping_add(uint32_t a, uint32_t b) {",
+                         "    return a + b;", "}"],
     "u16_wrapping_sub": ["/* By hand. The difference, modulo 2 to the power of 16. */",
                          "static inline uint16_t u16_wrapping_sub(uint16_t a, uint16_t b) {",
                          "    return (uint16_t)((uint32_t)a - b);", "}"],
@@ -46,10 +50,10 @@ HELPERS = {
 
 
 def sources(folder_of_all):
-    """The sources, read. Each of them has a place."""
+    """The sources, read. Each of them has a place, but for those of an index."""
     modules, names = [], set()
     for folder, ordered in ORDER.items():
-        there = {p.stem for p in (folder_of_all / folder).glob("*.rs")} - {"mod"}
+        there = {p.stem for p in (folder_of_all / folder).glob("*.rs")} - {"mod", "inner"}
         if there != set(ordered.split()):
             odd = ", ".join(sorted(there ^ set(ordered.split())))
             raise Refused(f"{folder_of_all / folder}: no place for, or no file: {odd}")
@@ -209,8 +213,10 @@ class Making:
                 module = fn.module
                 path = self.program.paths[module]
                 text = path.read_text(encoding="utf-8").split("\n")
-                first = next(line for line in text if line.startswith("//!"))
-                lines += [f"/* ---- {path.parent.name}/{path.name}: {first[4:]} */", ""]
+                said = " ".join(line[4:] for line in text if line.startswith("//!"))
+                title = f"/* ---- {path.parent.name}/{path.name}: {said}"
+                *upper, last = textwrap.wrap(title, WIDTH - 3, subsequent_indent=" * ")
+                lines += [*upper, f"{last} */", ""]
             lines += [*doc, head + " {", *body, "}", ""]
         return lines
 

@@ -19,7 +19,7 @@ BEFORE = {"", "(", ",", "=", "{", "}", ";", "return", "&&", "||", "=>", "!", "in
 DEVICE = {f"{owner}_{name}": name for owner in ("device", "numbers")
           for name in ("word", "run", "read", "window", "program", "erase", "is_on")}
 OWN = {"u32_saturating_sub": "saturating_sub", "u32_wrapping_sub": "wrapping_sub",
-       "u16_wrapping_sub": "wrapping_sub", "u32_least": "min"}
+       "u32_wrapping_add": "wrapping_add", "u16_wrapping_sub": "wrapping_sub", "u32_least": "min"}
 # Methods that give a field, where they have no argument.
 FIELDS = {"shape", "pages", "words", "get", "len"}
 # Calls of the sources that C writes as a number.
@@ -61,7 +61,7 @@ class Rust:
     def __init__(self, folder_of_all):
         self.fns, self.variants, self.names = {}, {}, {}
         for folder in FOLDERS:
-            for path in sorted((folder_of_all / folder).glob("*.rs")):
+            for path in sorted(set((folder_of_all / folder).glob("*.rs")) - {folder_of_all / folder / "inner.rs"}):
                 self.read(path)
         for key in self.fns:
             stem, owner, name = key

@@ -14,7 +14,8 @@ AND, EQUAL = LEVEL["&&"], LEVEL["=="]
 # A choice binds least, what is called or indexed most.
 CHOICE, UNARY, POSTFIX = 0, 11, 12
 # Methods of Rust's own on numbers, by their names in C.
-OWN = {"saturating_sub": "saturating_sub", "wrapping_sub": "wrapping_sub", "min": "least"}
+OWN = {"saturating_sub": "saturating_sub", "wrapping_sub": "wrapping_sub", "wrapping_add": "wrapping_add",
+       "min": "least"}
 # What asks the device.
 ASKING = HAND | {"Pairs", "Store"}
 

@@ -19,3 +19,15 @@ void *memset(void *to, int byte, size_t count) {
     }
     return to;
 }
+
+/* What ee-index.s asks too. */
+void *memmove(void *to, const void *from, size_t count) {
+    unsigned char *at = to;
+    const unsigned char *next = from;
+    if (at <= next) return memcpy(to, from, count);
+    while (count-- > 0) {
+        at[count] = next[count];
+        __asm__ volatile("" ::: "memory");
+    }
+    return to;
+}

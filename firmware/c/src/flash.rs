@@ -123,13 +123,8 @@ impl Device {
     }
 
     /// Asks for each word of a run. One that can't be read is 0.
-    #[inline(never)]
+    #[inline(always)]
     fn fill(&self, flash: &Flash, page: usize, at: usize, room: &mut [u64]) {
-        if flash.pairs != 0 {
-            // They stand in the room: the flash has no words in memory, but two numbers for each.
-            Pairs::known(self.numbers_of(flash)).run(page, at, room);
-            return;
-        }
         for (place, number) in (at..).zip(room) {
             // SAFETY: as of `new`.
             let failed = unsafe {
@@ -146,6 +141,13 @@ impl Device {
         }
     }
 
+    /// The same of a flash of pairs, whose words always stand in the room: it has none in memory, but two numbers for each.
+    /// It stays out of `run`, where its loop would have too few registers.
+    #[inline(never)]
+    fn fill_pairs(&self, flash: &Flash, page: usize, at: usize, room: &mut [u64]) {
+        Pairs::known(self.numbers_of(flash)).run(page, at, room);
+    }
+
     /// A read ended with this number: whether the read itself failed, which turns the device off.
     #[cold]
     #[inline(never)]
@@ -154,14 +156,6 @@ impl Device {
             self.turn_off();
         }
         failed == READ_FAILED
-    }
-
-    /// A word that is two numbers, of a flash that is on. It stays out of the reading of words, which is short.
-    #[inline(never)]
-    fn pair(&self, page: usize, at: usize) -> Word {
-        // SAFETY: as of `flash`; and it is on.
-        let flash = unsafe { &*self.power().get() };
-        Pairs::known(self.numbers_of(flash)).word(page, at)
     }
 
     /// C's flash, while it is on and has this page. Where it has not the device goes off.
@@ -236,7 +230,7 @@ impl proved::Flash for Device {
             }
         };
         if flash.pairs != 0 {
-            return self.pair(page, at);
+            return Pairs::known(self.numbers_of(flash)).word(page, at);
         }
         self.found(flash, page, at).map_or(Word::Torn, Word::from)
     }
@@ -246,12 +240,13 @@ impl proved::Flash for Device {
     fn run<'a>(&'a self, page: usize, at: usize, room: &'a mut [u64]) -> &'a [u64] {
         match self.flash() {
             Some(flash) if at != 0 || flash.has(page) => {
-                if flash.pairs == 0 {
-                    if let Some(words) = self.seen(flash, page, at, room.len()) {
-                        return words;
-                    }
+                if flash.pairs != 0 {
+                    self.fill_pairs(flash, page, at, room);
+                } else if let Some(words) = self.seen(flash, page, at, room.len()) {
+                    return words;
+                } else {
+                    self.fill(flash, page, at, room);
                 }
-                self.fill(flash, page, at, room);
             }
             _ => self.turn_off(),
         }

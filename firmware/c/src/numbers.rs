@@ -4,8 +4,8 @@ use crate::flash::{Device, Flash};
 use ee_store::proved::{Cut, Flash as _, Nor};
 use ee_store::Shape;
 
-/// The numbers of a device that was on: they are read and programmed in the flash that it had then. Only its `word`,
-/// its `program` and a wipe make steps of them, on pages that there are; an erase asks whether it is on still.
+/// The numbers of a device that was on: they are read and programmed in the flash that it had then. Only its `word`, its `run`,
+/// its `program` and an opening ask for them, on pages that there are; an erase asks whether it is on still.
 pub struct Numbers<'a> {
     pub device: Device,
     pub flash: &'a Flash,

@@ -8,7 +8,7 @@ use crate::{
 };
 use core::mem::MaybeUninit;
 use core::ptr::{addr_of, addr_of_mut, null};
-use ee_store::proved::{self, Nor as _, OpenFault, Pairs};
+use ee_store::proved::{self, Lookup, Nor as _, OpenFault, Pairs};
 use ee_store::{ScanFault, Shape};
 
 /// Keeps what an opening gave in the store of the memory that C lends, and gives its status.
@@ -27,14 +27,16 @@ fn kept(lent: &mut MaybeUninit<Kept>, opened: Result<Kept, (Device, OpenFault)>)
     }
 }
 
-/// Prepares a flash of numbers, and says how it is opened then, or the status that refuses it. One that holds more than a
-/// first start that was cut leaves is opened, and no first store made there: `ee_store::start` does so too.
+/// Says how a flash of numbers is opened, or the status that refuses it. One that holds more than a first start that was cut
+/// leaves is opened, and no first store made there: `ee_store::start` does so too.
 fn prepared(device: &Device, numbers: Numbers, how: How) -> Result<How, u32> {
     let clears_first = numbers.clears_first();
     if how == How::Format {
-        // Where it fails the device goes off.
-        let _ = Pairs::wipe(numbers);
-    } else if Pairs::of(numbers).is_err() {
+        // Its own first steps are those of `Pairs::wipe`: it erases each page that isn't blank, by rising page. A page is blank
+        // by its words where it is by its numbers.
+        return Ok(how);
+    }
+    if Pairs::of(numbers).is_err() {
         return Err(EE_FOREIGN);
     } else if how == How::Start && proved::holds_more(device, clears_first) {
         return Ok(How::Open);
@@ -42,8 +44,10 @@ fn prepared(device: &Device, numbers: Numbers, how: How) -> Result<How, u32> {
     Ok(how)
 }
 
-/// Opens a store over C's flash, and keeps it in the memory that C lends. Pointers are null or good.
-unsafe fn opened(lent: *mut Memory, flash: *const Flash, how: How) -> u32 {
+/// Opens a store over C's flash, and keeps it in the memory that C lends for one with this look-up, which is as large at least.
+/// Pointers are null or good.
+#[inline(never)]
+pub unsafe fn opened<L: Lookup>(lent: *mut Memory<L>, flash: *const Flash, how: How) -> u32 {
     if lent.is_null() {
         return EE_NULL;
     }
@@ -65,7 +69,7 @@ unsafe fn opened(lent: *mut Memory, flash: *const Flash, how: How) -> u32 {
     let device = unsafe { Device::new(power, shape) };
     let numbers = device.numbers();
     // The device looks at the power while the store is written.
-    let memory = unsafe { &mut *addr_of_mut!((*lent).store) };
+    let memory = unsafe { &mut *addr_of_mut!((*lent).store).cast() };
     let status = match numbers.map_or(Ok(how), |numbers| prepared(&device, numbers, how)) {
         Ok(How::Open) => kept(memory, proved::open(device)),
         Ok(How::Start) => kept(memory, proved::start(device)),
@@ -84,20 +88,4 @@ unsafe fn opened(lent: *mut Memory, flash: *const Flash, how: How) -> u32 {
         power.set(null());
     }
     status
-}
-
-#[no_mangle]
-pub unsafe extern "C" fn ee_open(store: *mut Memory, flash: *const Flash) -> u32 {
-    // SAFETY: as `ee.h` says, here and below.
-    unsafe { opened(store, flash, How::Open) }
-}
-
-#[no_mangle]
-pub unsafe extern "C" fn ee_start(store: *mut Memory, flash: *const Flash) -> u32 {
-    unsafe { opened(store, flash, How::Start) }
-}
-
-#[no_mangle]
-pub unsafe extern "C" fn ee_format(store: *mut Memory, flash: *const Flash) -> u32 {
-    unsafe { opened(store, flash, How::Format) }
 }

@@ -4,6 +4,13 @@
  * time it asks the library more than a million calls, and on the others a share of that; with an argument on all of them. */
 #include "part.h"
 
+/* So many reads fail of each store at least. By an index there are fewer. */
+#ifdef BY_INDEX
+#define FAILURES 40u
+#else
+#define FAILURES 120u
+#endif
+
 enum { ADDRESSES = 8, STORES = 150, MANY = 160, SHARE = 30, CALLS = 60 };
 
 typedef struct map {
@@ -190,7 +197,7 @@ static void run(uint32_t pairs, int clears_first, enum runs runs, int stores) {
         map m = held(&store);
         for (int j = 0; j < CALLS; j++) play(&p, &store, &m);
     }
-    CHECK(cuts > 500u * (unsigned)stores && failures > 120u * (unsigned)stores);
+    CHECK(cuts > 500u * (unsigned)stores && failures > FAILURES * (unsigned)stores);
     if (stores != SHARE) CHECK(calls > 1000000);
 }
 

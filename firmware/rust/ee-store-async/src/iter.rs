@@ -1,15 +1,15 @@
 // Made by firmware/rust/erase from firmware/rust/ee-store/src/iter.rs. Change that file.
 use crate::driver::Driver;
 use crate::ee_codec::Address;
-use crate::ee_core::LiveBatch;
+use crate::ee_core::{LiveBatch, Slots};
 use crate::error::ReadFault;
-use crate::store::Store;
+use crate::store::{Finds, Store};
 use core::fmt;
 use core::iter::FusedIterator;
 
 /// The addresses of a store that have a value, by rising address, with their values: what [`Store::iter`] gives.
-pub struct Iter<'a, D: Driver> {
-    store: &'a Store<D>,
+pub struct Iter<'a, D: Driver, L: Finds = Slots> {
+    store: &'a Store<D, L>,
     batch: LiveBatch,
     /// How many of the batch it gave.
     given: usize,
@@ -17,8 +17,8 @@ pub struct Iter<'a, D: Driver> {
     next: Option<Option<Address>>,
 }
 
-impl<'a, D: Driver> Iter<'a, D> {
-    pub(crate) fn of(store: &'a Store<D>) -> Iter<'a, D> {
+impl<'a, D: Driver, L: Finds> Iter<'a, D, L> {
+    pub(crate) fn of(store: &'a Store<D, L>) -> Iter<'a, D, L> {
         Iter {
             store,
             batch: LiveBatch::new(),
@@ -28,7 +28,7 @@ impl<'a, D: Driver> Iter<'a, D> {
     }
 }
 
-impl<D: Driver> Iterator for Iter<'_, D> {
+impl<D: Driver, L: Finds> Iterator for Iter<'_, D, L> {
     type Item = Result<(Address, u32), ReadFault<D::Error>>;
 
     fn next(&mut self) -> Option<Self::Item> {
@@ -48,9 +48,9 @@ impl<D: Driver> Iterator for Iter<'_, D> {
     }
 }
 
-impl<D: Driver> FusedIterator for Iter<'_, D> {}
+impl<D: Driver, L: Finds> FusedIterator for Iter<'_, D, L> {}
 
-impl<D: Driver> fmt::Debug for Iter<'_, D> {
+impl<D: Driver, L: Finds> fmt::Debug for Iter<'_, D, L> {
     fn fmt(&self, f: &mut fmt::Formatter<'_>) -> fmt::Result {
         f.debug_struct("Iter").finish_non_exhaustive()
     }

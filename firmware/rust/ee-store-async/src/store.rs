@@ -1,7 +1,7 @@
 // Made by firmware/rust/erase from firmware/rust/ee-store/src/store.rs. Change that file.
 use crate::driver::{Driver, Part};
 use crate::ee_codec::Address;
-use crate::ee_core::{self as proved, LiveBatch, Put, Rescued, Variables, Written};
+use crate::ee_core::{self as proved, LiveBatch, Lookup, Put, Rescued, Slots, Variables, Written};
 use crate::ee_flash::{Flash, Shape, Word};
 use crate::ee_pages::{is_blank, Layout, Side};
 use crate::error::{
@@ -22,8 +22,20 @@ use core::fmt;
 /// opened again.
 ///
 /// It may go to another thread, but no two share it: a call that only reads notes where its driver failed.
-pub struct Store<D: Driver> {
-    store: proved::Store<Part<D>>,
+///
+/// `L` says how it finds values: it looks through the slots, or by an index in memory.
+pub struct Store<D: Driver, L: Finds = Slots> {
+    pub(crate) store: proved::Store<Part<D>, L>,
+}
+
+/// How a store finds values.
+pub trait Finds: Lookup {
+    /// Forgets what it knows, and learns what the slots say.
+    fn find_anew<F: Flash>(&mut self, flash: &F, layout: &Layout);
+}
+
+impl Finds for Slots {
+    fn find_anew<F: Flash>(&mut self, _flash: &F, _layout: &Layout) {}
 }
 
 /// Opens the store that the flash holds. If power failed in a transfer, or just behind it, the marks are set that were
@@ -37,9 +49,9 @@ pub async fn open<D: Driver>(driver: D) -> Result<Store<D>, Failed<D>> {
     opened(proved::open(Part::new(driver)).await)
 }
 
-/// Opens the store that the flash holds, as [`open`] does, or makes the first one: where no set is live and no word behind
-/// the header of a page can be read. It is the call to make at each start: a first start in which power failed is made
-/// again, and no stored value is erased.
+/// Opens the store that the flash holds, as [`open`] does, or makes the first one: where no set is live and each word
+/// behind a page's header is erased or torn. It is the call to make at each start: a first start in which power failed is
+/// made again, and no stored value is erased.
 ///
 /// Over [`Pairs`](crate::Pairs), whose numbers a cut leaves with every bit that they had, it makes the first store only
 /// where all numbers are all ones but those of the first two words of page 0. A first start that was cut leaves no others.
@@ -64,9 +76,22 @@ pub async fn start<D: Driver>(driver: D) -> Result<Store<D>, Failed<D>> {
 // that page where it was cut before: such an erase leaves anything there if it clears the cells first, and else no others.
 pub fn holds_more<F: Flash>(flash: &F, clears_first: bool) -> bool {
     let shape = flash.shape();
-    let from = if clears_first { shape.words() } else { 2 };
-    (from..shape.words()).any(|at| flash.word(0, at) != Word::Erased)
-        || (1..2 * shape.pages()).any(|page| !is_blank(flash, page))
+    // Neither loop begins past its end, which a range would test again: that costs firmware code.
+    let mut at = if clears_first { shape.words() } else { 2 };
+    while at != shape.words() {
+        if flash.word(0, at) != Word::Erased {
+            return true;
+        }
+        at += 1;
+    }
+    let mut page = 1;
+    while page != 2 * shape.pages() {
+        if !is_blank(flash, page) {
+            return true;
+        }
+        page += 1;
+    }
+    false
 }
 
 /// Makes a store with nothing in it, whatever the flash held: each page that is not blank is erased.
@@ -125,7 +150,10 @@ fn opened<D: Driver>(answer: Opened<D>) -> Result<Store<D>, Failed<D>> {
 }
 
 // Why a part couldn't be opened of which the proved code says this.
-fn open_fault<D: Driver>(part: &Part<D>, fault: proved::OpenFault) -> OpenFault<D::Error> {
+pub(crate) fn open_fault<D: Driver>(
+    part: &Part<D>,
+    fault: proved::OpenFault,
+) -> OpenFault<D::Error> {
     match (part.broken(), fault) {
         (Some(broken), _) => broken.into(),
         (None, proved::OpenFault::Scan(fault)) => OpenFault::Scan(fault),
@@ -148,7 +176,9 @@ impl<D: Driver> Store<D> {
             store: proved::Store::of(Part::off(driver), layout),
         }
     }
+}
 
+impl<D: Driver, L: Finds> Store<D, L> {
     /// The driver, as it is.
     #[must_use]
     pub fn into_driver(self) -> D {
@@ -191,23 +221,29 @@ impl<D: Driver> Store<D> {
         let part = &mut self.store.flash;
         part.begin_anew();
         let answer = match proved::open(&mut *part).await {
-            Ok(store) => Ok(store.layout),
+            Ok(store) => Ok(store.known.layout),
             Err((_, fault)) => Err(fault),
         };
         match answer {
-            Ok(layout) if part.is_on() => self.store.layout = layout,
-            Ok(_) => return Err(open_fault(part, proved::OpenFault::Cut)),
+            Ok(layout) if part.is_on() => {
+                self.store.known.lookup.find_anew(part, &layout);
+                self.store.known.layout = layout;
+            }
+            Ok(_) => {}
             Err(fault) => {
                 let fault = open_fault(part, fault);
                 part.turn_off();
                 return Err(fault);
             }
         }
-        Ok(())
+        match part.is_on() {
+            true => Ok(()),
+            false => Err(open_fault(part, proved::OpenFault::Cut)),
+        }
     }
 
     // The store, while it is on.
-    fn running(&self) -> Result<&proved::Store<Part<D>>, Off> {
+    fn running(&self) -> Result<&proved::Store<Part<D>, L>, Off> {
         match self.store.is_on() {
             true => Ok(&self.store),
             false => Err(Off),
@@ -226,7 +262,7 @@ impl<D: Driver> Store<D> {
     // What a look at the store, while it is on, says.
     fn looked<T>(
         &self,
-        look: impl FnOnce(&proved::Store<Part<D>>) -> T,
+        look: impl FnOnce(&proved::Store<Part<D>, L>) -> T,
     ) -> Result<T, ReadFault<D::Error>> {
         let store = self.running()?;
         self.whole(Ok(look(store)))
@@ -311,7 +347,7 @@ impl<D: Driver> Store<D> {
         let answer = match self.store.write(address, value).await {
             Ok(written) => Ok(written),
             Err(proved::WriteFault::Off) => return Err(WriteFault::Off),
-            // This store keeps no index, and never says `Memory`.
+            // It takes no memory, and never says `Memory`.
             Err(proved::WriteFault::Full | proved::WriteFault::Memory) => Err(WriteFault::Full),
             Err(proved::WriteFault::Spent) => Err(WriteFault::Spent),
             Err(proved::WriteFault::Cut) => Err(WriteFault::Unsteady),
@@ -333,7 +369,7 @@ impl<D: Driver> Store<D> {
             Ok(written) => Ok(written),
             Err(proved::WriteAllFault::Off) => return Err(WriteAllFault::Off),
             Err(proved::WriteAllFault::Twice(place)) => Err(WriteAllFault::Twice(place)),
-            // This store keeps no index, and never says `Memory`.
+            // It takes no memory, and never says `Memory`.
             Err(proved::WriteAllFault::Full | proved::WriteAllFault::Memory) => {
                 Err(WriteAllFault::Full)
             }
@@ -470,7 +506,7 @@ impl<D: Driver> Store<D> {
     ///
     /// A fault ends it.
     #[doc(alias = "fetch_all_items")]
-    pub fn iter(&self) -> Iter<'_, D> {
+    pub fn iter(&self) -> Iter<'_, D, L> {
         Iter::of(self)
     }
 
@@ -483,21 +519,21 @@ impl<D: Driver> Store<D> {
     }
 }
 
-impl<D: Driver> fmt::Debug for Store<D> {
+impl<D: Driver, L: Finds> fmt::Debug for Store<D, L> {
     fn fmt(&self, f: &mut fmt::Formatter<'_>) -> fmt::Result {
         f.debug_struct("Store")
             .field("is_on", &self.is_on())
             .field("shape", &self.shape())
-            .field("layout", &self.store.layout)
+            .field("layout", &self.store.known.layout)
             .finish_non_exhaustive()
     }
 }
 
-impl<'a, D: Driver> IntoIterator for &'a Store<D> {
+impl<'a, D: Driver, L: Finds> IntoIterator for &'a Store<D, L> {
     type Item = Result<(Address, u32), ReadFault<D::Error>>;
-    type IntoIter = Iter<'a, D>;
+    type IntoIter = Iter<'a, D, L>;
 
-    fn into_iter(self) -> Iter<'a, D> {
+    fn into_iter(self) -> Iter<'a, D, L> {
         self.iter()
     }
 }

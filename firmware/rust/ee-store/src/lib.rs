@@ -7,7 +7,7 @@
 #![no_std]
 #![forbid(unsafe_code)]
 
-// These five are the proved sources with their contracts left out (`firmware/rust/erase`). Some of their parameters
+// These six are the proved sources with their contracts left out (`firmware/rust/erase`). Some of their parameters
 // are named by contracts alone, some items serve other programs, and loops are written as their proofs want them.
 #[allow(dead_code, unused_imports, unused_variables)]
 #[allow(clippy::complexity, clippy::style)]
@@ -22,6 +22,11 @@ mod ee_core;
 #[rustfmt::skip]
 mod ee_flash;
 #[allow(dead_code, unused_imports, unused_variables)]
+// A cursor over an index that may be given up stands on the stack for a transfer.
+#[allow(clippy::complexity, clippy::perf, clippy::style)]
+#[rustfmt::skip]
+mod ee_index;
+#[allow(dead_code, unused_imports, unused_variables)]
 #[allow(clippy::complexity, clippy::style)]
 #[rustfmt::skip]
 mod ee_pages;
@@ -32,6 +37,7 @@ mod ee_pairs;
 
 mod driver;
 mod error;
+mod index;
 mod iter;
 #[cfg(feature = "defmt")]
 mod logged;
@@ -48,6 +54,7 @@ mod value;
 pub use crate::ee_codec::Address;
 pub use crate::ee_core::{Put, Rescued, Written};
 pub use crate::ee_flash::{Shape, Word};
+pub use crate::ee_index::LentIndex;
 pub use crate::ee_pages::ScanFault;
 pub use crate::ee_pairs::LowPair;
 pub use driver::Driver;
@@ -55,20 +62,22 @@ pub use error::{
     CleanFault, ClearFault, Error, Failed, ForgetFault, NotRescued, Off, OpenFault, PairsFault,
     ReadFault, RescueFault, WriteAllFault, WriteFault,
 };
+pub use index::IndexMemory;
 pub use iter::Iter;
 pub use numbers::NumberDriver;
 pub use pairs::Pairs;
-pub use store::{format, open, rescue, start, Store};
+pub use store::{format, open, rescue, start, Finds, Store};
 pub use value::{NoAddress, Value};
 
 /// What the C library is made over: the proved store on a device of its own, which has to keep the contract of `Flash`.
 #[doc(hidden)]
 pub mod proved {
     pub use crate::ee_core::{
-        bad_words, format, open, rescue, rescue_uncounted, start, ClearFault, ForgetFault,
-        OpenFault, RescueFault, Rescued, Store, Variables, WriteAllFault, WriteFault,
+        bad_words, format, open, rescue, rescue_uncounted, start, ClearFault, ForgetFault, Lookup,
+        OpenFault, RescueFault, Rescued, Slots, Store, Variables, WriteAllFault, WriteFault,
     };
     pub use crate::ee_flash::{Cut, Flash};
+    pub use crate::ee_index::{with_lent_index, Entry, LentIndex};
     pub use crate::ee_pairs::{Nor, Pairs};
     pub use crate::store::holds_more;
 }

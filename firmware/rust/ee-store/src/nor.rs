@@ -187,6 +187,16 @@ impl<F: NorFlash + ReadNorFlash, E: Ecc<F>> NorDriver<F, E> {
         }
     }
 
+    /// The same for a flash that `new` refuses with [`Misfit::Low`], for [`rescue`](crate::rescue), as
+    /// [`Pairs::damaged`] says. Nothing is read.
+    ///
+    /// # Errors
+    ///
+    /// The flash, and the first [`Misfit`] of its sizes.
+    pub fn damaged(flash: F, offset: u32, shape: Shape, ecc: E) -> Fitted<F, E> {
+        NorDriver::known(flash, offset, shape, ecc)
+    }
+
     /// The flash, to be used for what stands elsewhere in it.
     pub fn flash_mut(&mut self) -> &mut F {
         self.flash.get_mut()

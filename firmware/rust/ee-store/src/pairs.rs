@@ -11,7 +11,7 @@ use core::cell::Cell;
 /// numbers don't fit each other, and it is torn.
 #[derive(Clone, Debug, PartialEq, Eq)]
 pub struct Pairs<N> {
-    // No two numbers of a word sum to less than all ones, or its erases clear first.
+    // No two numbers of a word sum to less than all ones, or its erases clear first, or it is rescued.
     driver: N,
 }
 
@@ -54,6 +54,16 @@ impl<N: NumberDriver> Pairs<N> {
     /// The words of a flash that went through `of` or `wipe` before, and that nothing but its store wrote to since;
     /// or of one that clears first. Nothing is read.
     pub fn known(driver: N) -> Pairs<N> {
+        Pairs { driver }
+    }
+
+    /// The words of a flash that `of` refuses, for [`rescue`](crate::rescue): a word that no store wrote reads as torn.
+    /// Nothing is read.
+    ///
+    /// The erase of a page with such a word is the one step of which nothing is promised where power fails in it. A rescue
+    /// leaves that page in the set that waits. So call [`clean_step`](crate::Store::clean_step) behind it until that answers
+    /// `false`: `of` takes the flash then.
+    pub fn damaged(driver: N) -> Pairs<N> {
         Pairs { driver }
     }
 
@@ -113,7 +123,8 @@ impl<N: NumberDriver> Driver for Pairs<N> {
 type Lent<N> = proved::Pairs<Numbers<N>>;
 
 // The proved words of a driver for one call. Its flash went through `of` or `wipe`, and by the proofs each step and each
-// cut keeps what they see to; so it is not looked through again.
+// cut keeps what they see to; so it is not looked through again. Of a damaged one the proofs hold as long as no erase of
+// a page with a damaged word is cut.
 fn lent<N: NumberDriver>(driver: N) -> Lent<N> {
     proved::Pairs::known(Numbers::on(driver))
 }

@@ -1,8 +1,8 @@
 //! The store on a flash of numbers in memory, whose power is cut in a step.
 
 use ee_store::{
-    format, open, start, Address, Driver, Failed, LowPair, NumberDriver, OpenFault, Pairs,
-    PairsFault, Shape, Store, Word, WriteFault, Written,
+    format, open, rescue, start, Address, Driver, Failed, LowPair, NumberDriver, OpenFault, Pairs,
+    PairsFault, Rescued, Shape, Store, Word, WriteFault, Written,
 };
 
 /// Power was cut in this step.
@@ -380,5 +380,32 @@ fn a_first_start_that_clears_first_is_cut() {
         // In another page they are no first start's.
         part.0.numbers[1][4..].fill(7);
         assert!(start(Pairs::known(part)).is_err());
+    }
+}
+
+#[test]
+fn a_bit_that_fell_costs_its_own_value() {
+    for at in 0..12 {
+        let mut store = started(Part::new());
+        assert!(store.write(address(1), 10).is_ok());
+        assert!(store.write(address(2), 20).is_ok());
+        let mut part = part_of(store);
+        // An erased number that loses a bit reads as one on its way to a value, and a 0 has no bit to lose.
+        if matches!(part.numbers[0][at], 0 | u64::MAX) {
+            continue;
+        }
+        part.numbers[0][at] &= part.numbers[0][at] - 1;
+        let (part, fault) = Pairs::of(part).err().unwrap();
+        let word = at / 2;
+        assert_eq!(fault, PairsFault::Low(LowPair { page: 0, word }));
+        let (mut store, rescued) = rescue(Pairs::damaged(part)).map_err(|_| ()).unwrap();
+        assert_eq!(store.read(address(1)), Ok((word != 4).then_some(10)));
+        assert_eq!(store.read(address(2)), Ok((word != 5).then_some(20)));
+        let live = if word < 4 { 2 } else { 1 };
+        assert_eq!(rescued, Rescued { bad_words: 1, live });
+        // The pair stands there until its page is erased.
+        assert_eq!(store.clean_step(), Ok(true));
+        assert_eq!(store.clean_step(), Ok(false));
+        assert!(Pairs::of(part_of(store)).is_ok());
     }
 }

@@ -1,5 +1,6 @@
 // Made by firmware/rust/erase from crates/ee_core/src/marking.rt. Change that file.
-//! The marks that a transfer or a cut left to set: pages used up, the page in use, pages to be erased.
+//! The marks that a transfer or a cut left to set: pages used up, the page in use,
+//! pages to be erased.
 
 use crate::ee_flash::{Cut, Flash};
 use crate::ee_pages::{Layout, Mark, first_page, is_blank as page_is_blank, mark};

@@ -1,5 +1,6 @@
 // Made by firmware/rust/erase from crates/ee_core/src/puts.rt. Change that file.
-//! Lists of values that are put at once: which addresses they have, and whether one has an address twice.
+//! Lists of values that are put at once: which addresses they have, and whether one
+//! has an address twice.
 
 use crate::ee_core::change::Put;
 use crate::ee_codec::Address;

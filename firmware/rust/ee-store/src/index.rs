@@ -1,0 +1,89 @@
+use crate::driver::Driver;
+use crate::ee_codec::Address;
+use crate::ee_core as proved;
+use crate::ee_flash::Flash;
+use crate::ee_index::{with_lent_index, Entry, LentIndex};
+use crate::ee_pages::Layout;
+use crate::error::Failed;
+use crate::store::{open_fault, Finds, Store};
+use core::fmt;
+
+/// Memory for an index, with room for `N` addresses of four bytes each.
+pub struct IndexMemory<const N: usize> {
+    entries: [Entry; N],
+}
+
+impl<const N: usize> IndexMemory<N> {
+    // What stands in a place that is not used.
+    const UNUSED: Entry = match Address::new(1) {
+        Some(address) => (address, 0),
+        None => panic!("an address is 1 to 65534"),
+    };
+
+    /// Memory that no store uses.
+    #[must_use]
+    pub const fn new() -> IndexMemory<N> {
+        IndexMemory {
+            entries: [Self::UNUSED; N],
+        }
+    }
+}
+
+impl<const N: usize> Default for IndexMemory<N> {
+    fn default() -> IndexMemory<N> {
+        IndexMemory::new()
+    }
+}
+
+impl<const N: usize> fmt::Debug for IndexMemory<N> {
+    fn fmt(&self, f: &mut fmt::Formatter<'_>) -> fmt::Result {
+        f.debug_struct("IndexMemory").finish_non_exhaustive()
+    }
+}
+
+impl Finds for LentIndex<'_> {
+    fn find_anew<F: Flash>(&mut self, flash: &F, layout: &Layout) {
+        self.read(flash, layout);
+    }
+}
+
+impl<D: Driver> Store<D> {
+    /// This store, which finds values by an index in this memory from here on. It looks at each used slot once, and writes
+    /// nothing.
+    ///
+    /// A read then looks at one word, and a move copies without looking for what is live. Where more addresses have a
+    /// value than the memory has room for, the store gives the index up and looks through the slots again, as
+    /// [`has_index`](Store::has_index) tells. A move or a `clear` behind which all have room brings it back.
+    ///
+    /// # Errors
+    ///
+    /// The driver, which failed in a read, and why; or the store was off.
+    pub fn with_index<const N: usize>(
+        self,
+        memory: &mut IndexMemory<N>,
+    ) -> Result<Store<D, LentIndex<'_>>, Failed<D>> {
+        let part = if self.is_on() {
+            let store = with_lent_index(self.store, &mut memory.entries);
+            if store.flash.is_on() {
+                return Ok(Store { store });
+            }
+            store.into_flash()
+        } else {
+            self.store.into_flash()
+        };
+        let fault = open_fault(&part, proved::OpenFault::Cut);
+        Err(Failed {
+            driver: part.into_driver(),
+            fault,
+        })
+    }
+}
+
+impl<D: Driver> Store<D, LentIndex<'_>> {
+    /// Whether it finds values by its index. If not, more addresses have a value than there is room for, and it looks
+    /// through the slots.
+    #[must_use]
+    pub fn has_index(&self) -> bool {
+        !self.store.known.lookup.is_given_up()
+    }
+}
