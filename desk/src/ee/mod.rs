@@ -1,5 +1,6 @@
 // Made by desk/erase from crates/ee/src/main.rt. Change that file.
-//! The program `ee`: its words, and the status that it ends with. What it does with them is `ee_program`.
+//! The program `ee`: its words, and the status that it ends with. What it does with
+//! them is `ee_program`.
 use crate::rattle::prelude::*;
 
 use crate::ee_program::{bad_command_line, out_of_memory, run};

@@ -12,19 +12,21 @@ use crate::ee_settings::{Numbers, Schema};
 use crate::rattle::alloc::{AllocError, Allocator, Global};
 use crate::rattle::toml::{Table, Value};
 
-/// Writes the values that a text spells for the settings that it names, into the image that a text
-/// spells, and gives the text of the image that this leaves, and what there is to print: `applied N of
-/// M`, N of M entries written. An entry is a setting's name and a whole number; they come by rising
-/// name, in the order of bytes. What is stored already is not written again. `settings` is the text of
-/// the settings. `heap` is for the trees of the texts alone: `toml` takes no other allocator.
+/// Writes the values that a text spells for the settings that it names, into the image that a
+/// text spells, and gives the text of the image that this leaves, and what there is to print:
+/// `applied N of M`, N of M entries written. An entry is a setting's name and a whole number;
+/// they come by rising name, in the order of bytes. What is stored already is not written again.
+/// `settings` is the text of the settings. `heap` is for the trees of the texts alone: `toml`
+/// takes no other allocator.
 ///
 /// Source: ours.
 ///
 /// # Errors
 ///
-/// The first that applies: the image is no device's, or not legal; the text of the settings is no TOML, or no schema;
-/// the text of the values is no TOML; or an entry, counted from 1, is no whole number, no setting has its name, it is
-/// not in the setting's range, or the store is full, or spent. `Memory` can come in place of any answer.
+/// The first that applies: the image is no device's, or not legal; the text of the settings is no
+/// TOML, or no schema; the text of the values is no TOML; or an entry, counted from 1, is no whole
+/// number, no setting has its name, it is not in the setting's range, or the store is full, or
+/// spent. `Memory` can come in place of any answer.
 pub fn apply_values<A: Allocator + Copy>(
     alloc: A,
     heap: Global,
@@ -73,8 +75,8 @@ fn take_entries<A: Allocator>(
     Ok(Counts { written, entries })
 }
 
-/// Takes an entry, and gives by how many writes: 1, or 0 where its value is stored already. `entry` is its
-/// number, counted from 1.
+/// Takes an entry, and gives by how many writes: 1, or 0 where its value is stored already. `entry`
+/// is its number, counted from 1.
 fn take_entry<A: Allocator>(
     store: &mut Store<MemFlash<A>>,
     schema: &Schema<A>,

@@ -9,9 +9,9 @@ use crate::ee_faults::Fault;
 use crate::ee_settings::Setting;
 use crate::rattle::alloc::{AllocError, Allocator, Global};
 
-/// The settings that a text spells as constants of a program, as there is to print: for each its address,
-/// its least and its greatest value and its default, by rising name, and then a list of all of them.
-/// `heap` is for the tree of that text alone: `toml` takes no other allocator.
+/// The settings that a text spells as constants of a program, as there is to print: for each its
+/// address, its least and its greatest value and its default, by rising name, and then a list of
+/// all of them. `heap` is for the tree of that text alone: `toml` takes no other allocator.
 ///
 /// Source: ours.
 ///

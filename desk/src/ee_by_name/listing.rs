@@ -11,10 +11,11 @@ use crate::ee_settings::{Held, ListFault, Listed, Schema};
 use crate::ee_text::{push_number, push_number_behind};
 use crate::rattle::alloc::{AllocError, Allocator, Global};
 
-/// What the image that a text spells holds, as there is to print: a line for each address that has a value, `A V`, by
-/// rising address. Where there is a text of settings, the line of an address that a setting has ends with the setting's
-/// name: `A V NAME`, or `A V stale NAME` where the value isn't in its range; and a setting without a value has a line
-/// `A default D NAME`. `heap` is for the tree of that text alone: `toml` takes no other allocator.
+/// What the image that a text spells holds, as there is to print: a line for each address that has
+/// a value, `A V`, by rising address. Where there is a text of settings, the line of an address
+/// that a setting has ends with the setting's name: `A V NAME`, or `A V stale NAME` where the value
+/// isn't in its range; and a setting without a value has a line `A default D NAME`. `heap` is for
+/// the tree of that text alone: `toml` takes no other allocator.
 ///
 /// Source: ours.
 ///
@@ -97,7 +98,8 @@ fn push_listed<A: Allocator>(
     out.extend_from_slice(b"\n")
 }
 
-/// Writes the name of an entry, if there is one, behind a space. After an error there may be a part of that.
+/// Writes the name of an entry, if there is one, behind a space. After an error there
+/// may be a part of that.
 fn push_name<A: Allocator>(
     out: &mut Vec<u8, A>,
     schema: &Schema<A>,

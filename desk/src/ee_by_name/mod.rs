@@ -1,20 +1,24 @@
 // Made by desk/erase from crates/ee_by_name/src/lib.rt. Change that file.
-//! The commands of `ee` that take a text of settings: one setting of an image by its name, all of them,
-//! those of a later firmware, values for many at once, and the header that firmware is built with.
+//! The commands of `ee` that take a text of settings: one setting of an image by its name,
+//! all of them, those of a later firmware, values for many at once, and the header that
+//! firmware is built with.
 //!
-//! `specs/Settings.antt` says what a text of settings spells, what is read of it in an image and what is set there;
-//! `specs/Listing.antt` and `specs/SecondSchema.antt` what is told of all settings and what a later schema tidies;
-//! `specs/Applying.antt` which values are set by a text of values, and what is left then; `specs/Header.antt` is the
-//! header in C and in Rust, word for word. Each says the first fault for which nothing is given.
+//! `specs/Settings.antt` says what a text of settings spells, what is read of it in an image and
+//! what is set there; `specs/Listing.antt` and `specs/SecondSchema.antt` what is told of all
+//! settings and what a later schema tidies; `specs/Applying.antt` which values are set by a text of
+//! values, and what is left then; `specs/Header.antt` is the header in C and in Rust, word for
+//! word. Each says the first fault for which nothing is given.
 //!
 //! # What is proved
 //!
-//! `get_setting`, `set_setting`, `list_text`, `stale_text` and `tidy_image` give what `ee_settings` defines, of the
-//! image that a text spells (`got`, `set`, `list`, `stale`, `tidied`). `apply_values`: an opening, and then each entry
-//! of the text of values by rising name, whose value is stored already, or is written by one write that was served: all
-//! of them, or no image is given (`applied`). `header_text`: the text of the definition, and no other (`header`). Of
-//! all of them the first fault that applies is told, and none is passed over (`fault`, `names`). `laws`: what was
-//! applied is stored, each other address is as before, and applied once more nothing is written.
+//! `get_setting`, `set_setting`, `list_text`, `stale_text` and `tidy_image` give what
+//! `ee_settings` defines, of the image that a text spells (`got`, `set`, `list`, `stale`,
+//! `tidied`). `apply_values`: an opening, and then each entry of the text of values by rising
+//! name, whose value is stored already, or is written by one write that was served: all of them,
+//! or no image is given (`applied`). `header_text`: the text of the definition, and no other
+//! (`header`). Of all of them the first fault that applies is told, and none is passed over
+//! (`fault`, `names`). `laws`: what was applied is stored, each other address is as before, and
+//! applied once more nothing is written.
 use crate::rattle::prelude::*;
 
 mod applying;

@@ -18,15 +18,15 @@ pub(crate) struct StoreAndSchema<A: Allocator + Copy> {
     pub(crate) schema: Schema<A>,
 }
 
-/// The store of the image that a text spells, and the settings that another one spells. `heap` is for the tree of
-/// that text alone: `toml` takes no other allocator.
+/// The store of the image that a text spells, and the settings that another one spells. `heap` is
+/// for the tree of that text alone: `toml` takes no other allocator.
 ///
 /// Source: ours.
 ///
 /// # Errors
 ///
-/// The first that applies: the image is no device's, or not legal; the text of the settings is no TOML, or no
-/// schema. `Memory` can come in place of any answer.
+/// The first that applies: the image is no device's, or not legal; the text of the settings is no
+/// TOML, or no schema. `Memory` can come in place of any answer.
 pub(crate) fn open_with_settings<A: Allocator + Copy>(
     alloc: A,
     heap: Global,
@@ -38,7 +38,8 @@ pub(crate) fn open_with_settings<A: Allocator + Copy>(
     Ok(StoreAndSchema { store, schema })
 }
 
-/// The settings that a text spells. `heap` is for the tree of that text alone: `toml` takes no other allocator.
+/// The settings that a text spells. `heap` is for the tree of that text alone: `toml` takes
+/// no other allocator.
 ///
 /// Source: ours.
 ///

@@ -11,9 +11,10 @@ use crate::ee_settings::{Schema, Stale, StaleFault, TidyFault};
 use crate::ee_text::push_number_behind;
 use crate::rattle::alloc::{AllocError, Allocator, Global};
 
-/// The settings whose stored value in the image that a text spells isn't in their range, as there is
-/// to print: a line `NAME V` for each, by rising name, where V is the stored value. `settings` is the
-/// text of the settings. `heap` is for the tree of that text alone: `toml` takes no other allocator.
+/// The settings whose stored value in the image that a text spells isn't in their range, as
+/// there is to print: a line `NAME V` for each, by rising name, where V is the stored value.
+/// `settings` is the text of the settings. `heap` is for the tree of that text alone: `toml`
+/// takes no other allocator.
 ///
 /// Source: ours.
 ///
@@ -31,9 +32,10 @@ pub fn stale_text<A: Allocator + Copy>(
     stale_lines_on(alloc, &opened.store, &opened.schema)
 }
 
-/// Forgets each address that has a value in the image that a text spells and that no setting has, and gives the text of
-/// the image that this leaves, and what there is to print: `tidied N`, N the number of addresses forgotten. `settings`
-/// is the text of the settings. `heap` is for the tree of that text alone: `toml` takes no other allocator.
+/// Forgets each address that has a value in the image that a text spells and that no setting has,
+/// and gives the text of the image that this leaves, and what there is to print: `tidied N`, N the
+/// number of addresses forgotten. `settings` is the text of the settings. `heap` is for the tree of
+/// that text alone: `toml` takes no other allocator.
 ///
 /// Source: ours.
 ///

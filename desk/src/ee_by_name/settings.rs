@@ -11,9 +11,10 @@ use crate::ee_settings::{GetFault, Reading, Schema, SetFault};
 use crate::ee_text::push_number;
 use crate::rattle::alloc::{AllocError, Allocator, Global};
 
-/// What the setting of a name reads as in the image that a text spells, as there is to print: `V stored`, where its
-/// address has the value V and V is in its range, or `V default`. `settings` is the text of the settings. `heap` is for
-/// the tree of that text alone: `toml` takes no other allocator.
+/// What the setting of a name reads as in the image that a text spells, as there is to print:
+/// `V stored`, where its address has the value V and V is in its range, or `V default`.
+/// `settings` is the text of the settings. `heap` is for the tree of that text alone: `toml`
+/// takes no other allocator.
 ///
 /// Source: ours.
 ///
@@ -72,7 +73,8 @@ fn reading_on<A: Allocator + Copy>(
     Ok(text)
 }
 
-/// Writes a value for the setting of a name in a store whose power stays on, and gives what this leaves.
+/// Writes a value for the setting of a name in a store whose power stays on, and
+/// gives what this leaves.
 fn set_left<A: Allocator + Copy>(
     alloc: A,
     mut store: Store<MemFlash<A>>,

@@ -1,5 +1,6 @@
 // Made by desk/erase from crates/ee_check/src/certificate.rt. Change that file.
-//! A claim that a trace takes so many transfers at least: stretches of it, each of which forces one.
+//! A claim that a trace takes so many transfers at least: stretches of it, each of which forces
+//! one.
 use crate::rattle::prelude::*;
 use crate::rattle::alloc::{Allocator, Global};
 
@@ -12,7 +13,8 @@ pub struct Stretch {
     pub from: u64,
 }
 
-/// A claim that a trace takes so many transfers at least, one for each stretch. `check` says whether it holds.
+/// A claim that a trace takes so many transfers at least, one for each stretch. `check`
+/// says whether it holds.
 pub struct Certificate<A: Allocator = Global> {
     /// The slots of a set.
     pub slots: u64,

@@ -17,7 +17,8 @@ pub enum Change {
 }
 
 impl Change {
-    /// Makes the change to the live addresses: one insertion or one removal. An `Err` leaves them as they were.
+    /// Makes the change to the live addresses: one insertion or one removal. An `Err`
+    /// leaves them as they were.
     pub fn make<A: Allocator + Copy>(
         self,
         live: &mut BTreeSet<Address, A>,

@@ -11,7 +11,8 @@ use crate::rattle::alloc::{AllocError, Allocator};
 /// Why a certificate is refused. Stretches are counted from 1.
 #[derive(Clone, Copy, Debug, PartialEq, Eq)]
 pub enum CheckFault {
-    /// The slots, the fill, the live addresses or the changes that it states aren't the start's and the trace's.
+    /// The slots, the fill, the live addresses or the changes that it states aren't the
+    /// start's and the trace's.
     WrongStart,
     /// This stretch doesn't end behind the one before it, or it ends behind the trace.
     NotRising(u64),
@@ -59,7 +60,8 @@ fn has_header<B: Allocator, C: Allocator>(
         && certificate.writes == trace.len() as u64
 }
 
-/// The number of these stretches, each of which is forced where the one before it ends; or the first flaw.
+/// The number of these stretches, each of which is forced where the one before it
+/// ends; or the first flaw.
 fn check_stretches<A: Allocator + Copy, B: Allocator>(
     alloc: A,
     start: &Start<B>,

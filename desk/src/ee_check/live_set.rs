@@ -9,8 +9,9 @@ use crate::ee_codec::Address;
 use crate::rattle::alloc::{AllocError, Allocator, Global};
 use crate::rattle::collections::BTreeSet;
 
-/// So many changes of an ordered set pay for a table, and so do as many addresses that would be copied to a set. A
-/// table takes 64 KB and some 66000 instructions to make, and then each change takes 100 to 300 fewer than in a set.
+/// So many changes of an ordered set pay for a table, and so do as many addresses that would be
+/// copied to a set. A table takes 64 KB and some 66000 instructions to make, and then each change
+/// takes 100 to 300 fewer than in a set.
 const PAYS_FOR_A_TABLE: u64 = 1024;
 
 /// What the live addresses are kept in.
@@ -19,8 +20,9 @@ enum Form<A: Allocator> {
     Table(LiveTable<A>),
 }
 
-/// The live addresses of a trace, while its changes are made: an ordered set, and once so many changes were made that
-/// it pays a table of all addresses, of 64 KB. It stays the set where there is no memory for the table. Source: ours.
+/// The live addresses of a trace, while its changes are made: an ordered set, and once so many
+/// changes were made that it pays a table of all addresses, of 64 KB. It stays the set where there
+/// is no memory for the table. Source: ours.
 pub struct LiveSet<A: Allocator = Global> {
     alloc: A,
     form: Form<A>,
@@ -38,8 +40,8 @@ impl<A: Allocator + Copy> LiveSet<A> {
         }
     }
 
-    /// The live addresses of a start, for so many changes. Many addresses are a table at once, unless
-    /// there are no changes.
+    /// The live addresses of a start, for so many changes. Many addresses are a table at once,
+    /// unless there are no changes.
     ///
     /// # Errors
     ///

@@ -18,7 +18,8 @@ pub struct Start<A: Allocator = Global> {
 }
 
 impl<A: Allocator> Start<A> {
-    /// A start, or `None` if `slots` isn't 1 to 32512, or `fill` isn't the number of the live addresses to `slots`.
+    /// A start, or `None` if `slots` isn't 1 to 32512, or `fill` isn't the number of the live
+    /// addresses to `slots`.
     pub fn new(slots: u64, fill: u64, live: BTreeSet<Address, A>) -> Option<Start<A>> {
         let has_slots = 1 <= slots && slots <= MOST_SLOTS;
         if !has_slots || fill < live.len() as u64 || slots < fill {

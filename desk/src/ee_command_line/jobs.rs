@@ -4,8 +4,8 @@ use crate::rattle::prelude::*;
 
 use crate::ee_flash::Shape;
 
-/// What the words ask for. Files are named by their paths. `pairs` says that a part has each word beside its
-/// complement.
+/// What the words ask for. Files are named by their paths. `pairs` says that a part has each word
+/// beside its complement.
 ///
 /// Source: ours.
 #[derive(Clone, Copy)]
@@ -19,7 +19,8 @@ pub enum Job<'a> {
         shape: Shape,
         image: &'a str,
     },
-    /// `import P W DUMP IMAGE` or `import --pairs P W DUMP IMAGE`: writes the image of a part, from its bytes.
+    /// `import P W DUMP IMAGE` or `import --pairs P W DUMP IMAGE`: writes the image of a
+    /// part, from its bytes.
     Import {
         pairs: bool,
         shape: Shape,
@@ -32,8 +33,9 @@ pub enum Job<'a> {
         image: &'a str,
         dump: &'a str,
     },
-    /// `import-hex P W BASE DUMP IMAGE` or `import-hex --pairs P W BASE DUMP IMAGE`: writes the image of a part,
-    /// from Intel HEX. The part's first byte stands at BASE, a multiple of 8, and its last within 32 bits.
+    /// `import-hex P W BASE DUMP IMAGE` or `import-hex --pairs P W BASE DUMP IMAGE`: writes the
+    /// image of a part, from Intel HEX. The part's first byte stands at BASE, a multiple of 8, and
+    /// its last within 32 bits.
     ImportHex {
         pairs: bool,
         shape: Shape,
@@ -41,8 +43,8 @@ pub enum Job<'a> {
         dump: &'a str,
         image: &'a str,
     },
-    /// `export-hex IMAGE BASE DUMP` or `export-hex --pairs IMAGE BASE DUMP`: writes the bytes of the image's part
-    /// as Intel HEX, from BASE on, a multiple of 8.
+    /// `export-hex IMAGE BASE DUMP` or `export-hex --pairs IMAGE BASE DUMP`: writes the bytes of
+    /// the image's part as Intel HEX, from BASE on, a multiple of 8.
     ExportHex {
         pairs: bool,
         image: &'a str,
@@ -53,8 +55,8 @@ pub enum Job<'a> {
     Inspect {
         image: &'a str,
     },
-    /// `run IMAGE SCRIPT` or `run --indexed IMAGE SCRIPT`: answers the script on the image, on a store
-    /// that keeps an index in memory or on one that keeps none.
+    /// `run IMAGE SCRIPT` or `run --indexed IMAGE SCRIPT`: answers the script on the image, on a
+    /// store that keeps an index in memory or on one that keeps none.
     Run {
         indexed: bool,
         image: &'a str,
@@ -73,13 +75,15 @@ pub enum Job<'a> {
         name: &'a str,
         value: u32,
     },
-    /// `apply IMAGE SETTINGS VALUES`: gives each setting that VALUES names its value, or none of them.
+    /// `apply IMAGE SETTINGS VALUES`: gives each setting that VALUES names its
+    /// value, or none of them.
     Apply {
         image: &'a str,
         settings: &'a str,
         values: &'a str,
     },
-    /// `header SETTINGS` or `header --rust SETTINGS`: tells the constants of the settings, in C or in Rust.
+    /// `header SETTINGS` or `header --rust SETTINGS`: tells the constants of the
+    /// settings, in C or in Rust.
     Header {
         rust: bool,
         settings: &'a str,
@@ -131,8 +135,9 @@ pub enum Job<'a> {
         image: &'a str,
         settings: Option<&'a str>,
     },
-    /// `size W SCRIPT CYCLES RUNS`: tells for each number of pages of W words, which is 5 to 512, whether
-    /// pages that bear so many erases bear so many runs of the script; both are 1 to 4294967295.
+    /// `size W SCRIPT CYCLES RUNS`: tells for each number of pages of W words, which is 5
+    /// to 512, whether pages that bear so many erases bear so many runs of the script; both
+    /// are 1 to 4294967295.
     Size {
         words: u16,
         script: &'a str,

@@ -8,8 +8,8 @@ use crate::ee_text::number_up_to;
 use hex::FromHex;
 
 /// The job that the words ask for. None where they spell no command. Pages are 1 to 64, words of a
-/// page 5 to 512 and a value 0 to 4294967295, in decimal, with no sign and no zero in front. A base is a
-/// multiple of 8 of 32 bits, in eight hexadecimal digits.
+/// page 5 to 512 and a value 0 to 4294967295, in decimal, with no sign and no zero in front. A base
+/// is a multiple of 8 of 32 bits, in eight hexadecimal digits.
 ///
 /// Source: ours.
 pub fn job<'a>(words: &[&'a str]) -> Option<Job<'a>> {
@@ -292,7 +292,8 @@ fn digits_of(word: &str) -> Option<u32> {
     }
 }
 
-/// The base that a word spells, where a part of this size that begins there ends within the addresses of 32 bits.
+/// The base that a word spells, where a part of this size that begins there ends within the
+/// addresses of 32 bits.
 fn base_for(pairs: bool, shape: Shape, word: &str) -> Option<u32> {
     let base = base_of(word)?;
     // The words of one set, which the shape keeps at 2 ^ 15 or below.

@@ -8,15 +8,15 @@ use crate::ee_image_store::{ImageAndText, open_image, text_left};
 use crate::ee_text::push_number_behind;
 use crate::rattle::alloc::{AllocError, Allocator};
 
-/// Forgets all addresses of the image that a text spells, and gives the text of the image that this leaves, and what
-/// there is to print: `cleared N`, N how many addresses had a value.
+/// Forgets all addresses of the image that a text spells, and gives the text of the image that this
+/// leaves, and what there is to print: `cleared N`, N how many addresses had a value.
 ///
 /// Source: ours.
 ///
 /// # Errors
 ///
-/// The image is no device's, or not legal; a slot is used, and no generation is left. `Memory` can come in place of any
-/// answer.
+/// The image is no device's, or not legal; a slot is used, and no generation is left. `Memory` can
+/// come in place of any answer.
 pub fn clear_image<A: Allocator + Copy>(alloc: A, image: &[u8]) -> Result<ImageAndText<A>, Fault> {
     let mut store = open_image(alloc, image)?;
     let live = store.live_count();

@@ -23,9 +23,9 @@ pub fn format_image<A: Allocator + Copy>(alloc: A, shape: Shape) -> Result<Vec<u
     Ok(text_left(alloc, store)?)
 }
 
-/// Erases each page that waits for it in the image that a text spells, and gives the text of the image
-/// that this leaves, and what there is to print: `cleaned N`, N the number of pages erased. The wear
-/// of each of them is one more, up to `u64::MAX`, and no other page wears.
+/// Erases each page that waits for it in the image that a text spells, and gives the text of the
+/// image that this leaves, and what there is to print: `cleaned N`, N the number of pages erased.
+/// The wear of each of them is one more, up to `u64::MAX`, and no other page wears.
 ///
 /// Source: ours.
 ///
@@ -41,8 +41,9 @@ pub fn clean_image<A: Allocator + Copy>(alloc: A, image: &[u8]) -> Result<ImageA
     Ok(ImageAndText { image, text })
 }
 
-/// The state of each page of the image that a text spells, a line for each page by rising page: `page I STATE`, with
-/// `ERASED`, `RECEIVE`, `ACTIVE`, `VALID` or `ERASING`. The image may be one that no store can work on.
+/// The state of each page of the image that a text spells, a line for each page by rising page:
+/// `page I STATE`, with `ERASED`, `RECEIVE`, `ACTIVE`, `VALID` or `ERASING`. The image may be one
+/// that no store can work on.
 ///
 /// Source: ours.
 ///

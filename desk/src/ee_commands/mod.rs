@@ -1,10 +1,12 @@
 // Made by desk/erase from crates/ee_commands/src/lib.rt. Change that file.
 //! The commands of `ee` on images that answer no script and take no settings.
 //!
-//! `specs/Planning.antt`, `Wear.antt`, `Images.antt`, `Rescuing.antt`, `Clearing.antt` and `Sizing.antt` say what each
-//! gives, and the first fault for which it gives nothing; `specs/ToldSizes.antt` what the sizes that are told mean for a store.
+//! `specs/Planning.antt`, `Wear.antt`, `Images.antt`, `Rescuing.antt`, `Clearing.antt` and
+//! `Sizing.antt` say what each gives, and the first fault for which it gives nothing;
+//! `specs/ToldSizes.antt` what the sizes that are told mean for a store.
 //!
-//! What the layers above may use: these calls, each with its faults. What is proved of them the head of `ee_shell` says.
+//! What the layers above may use: these calls, each with its faults. What is proved of them the
+//! head of `ee_shell` says.
 use crate::rattle::prelude::*;
 
 mod clearing;

@@ -10,16 +10,17 @@ use crate::ee_script::{Command, ScriptFault, next_command};
 use crate::ee_text::push_number;
 use crate::rattle::alloc::{AllocError, Allocator};
 
-/// The text of the tight certificate of a script on the image that a text spells: the fewest transfers that any store
-/// takes for the script's writes, and where each of them is forced. Lines that read or clean are passed over.
+/// The text of the tight certificate of a script on the image that a text spells: the fewest
+/// transfers that any store takes for the script's writes, and where each of them is forced. Lines
+/// that read or clean are passed over.
 ///
 /// Source: ours.
 ///
 /// # Errors
 ///
-/// The first cause that applies: the image is no device's, or not legal; the script has a bad line, as
-/// is here a line that cuts power or turns it on; the writes make more addresses live than there are
-/// slots. `Memory` can come in place of any answer.
+/// The first cause that applies: the image is no device's, or not legal; the script has a bad line,
+/// as is here a line that cuts power or turns it on; the writes make more addresses live than there
+/// are slots. `Memory` can come in place of any answer.
 pub fn plan_script<A: Allocator + Copy>(
     alloc: A,
     image: &[u8],
@@ -35,17 +36,17 @@ pub fn plan_script<A: Allocator + Copy>(
     Ok(text)
 }
 
-/// Checks the certificate that a text says against a script on the image that a text spells, and gives
-/// what there is to print: `proved K`, K the number of transfers that no store can do without. Lines of
-/// the script that read or clean are passed over.
+/// Checks the certificate that a text says against a script on the image that a text spells, and
+/// gives what there is to print: `proved K`, K the number of transfers that no store can do
+/// without. Lines of the script that read or clean are passed over.
 ///
 /// Source: ours.
 ///
 /// # Errors
 ///
-/// The first cause that applies: the image is no device's, or not legal; the script has a bad line, as
-/// is here a line that cuts power or turns it on, or the certificate's text has; the certificate is
-/// refused. `Memory` can come in place of any answer.
+/// The first cause that applies: the image is no device's, or not legal; the script has a bad line,
+/// as is here a line that cuts power or turns it on, or the certificate's text has; the certificate
+/// is refused. `Memory` can come in place of any answer.
 pub fn check_script<A: Allocator + Copy>(
     alloc: A,
     image: &[u8],
@@ -99,8 +100,8 @@ pub(crate) fn read_trace<A: Allocator + Copy>(
     Ok(trace)
 }
 
-/// The command whose line stands at the front of a text, and what stands behind the line. None where
-/// no line stands there that a trace's script may have.
+/// The command whose line stands at the front of a text, and what stands behind the line. None
+/// where no line stands there that a trace's script may have.
 fn next_of_trace(text: &[u8]) -> Option<(Command, &[u8])> {
     match next_command(text) {
         Some((Command::Arm { .. } | Command::PowerOn, _)) => None,

@@ -11,17 +11,17 @@ use crate::ee_pages::{RescuedSet, first_page, is_bad_word, rescued_set};
 use crate::ee_text::push_number_behind;
 use crate::rattle::alloc::{AllocError, Allocator};
 
-/// Makes a store of the image that a text spells, whatever stands in it, as `ee_core::rescue` does. Gives the text of
-/// the image that this leaves, and what there is to print: a line for each bad word of the set that was rescued, by page
-/// and place, `bad PAGE AT` and `header` or `slot`; then `rescued live N bad B`, N how many addresses have a value and B
-/// how many words were bad.
+/// Makes a store of the image that a text spells, whatever stands in it, as `ee_core::rescue` does.
+/// Gives the text of the image that this leaves, and what there is to print: a line for each bad
+/// word of the set that was rescued, by page and place, `bad PAGE AT` and `header` or `slot`; then
+/// `rescued live N bad B`, N how many addresses have a value and B how many words were bad.
 ///
 /// Source: ours.
 ///
 /// # Errors
 ///
-/// The image is no device's; no set of it is begun; or the set that would be rescued names the greatest generation.
-/// `Memory` can come in place of any answer.
+/// The image is no device's; no set of it is begun; or the set that would be rescued names the
+/// greatest generation. `Memory` can come in place of any answer.
 pub fn rescue_image<A: Allocator + Copy>(alloc: A, image: &[u8]) -> Result<ImageAndText<A>, Fault> {
     let flash = match read_image(alloc, image) {
         Ok(flash) => flash,
@@ -45,7 +45,8 @@ fn rescue_still<F: Flash>(flash: F) -> Result<(Store<F>, Rescued), Fault> {
     }
 }
 
-/// Writes the lines of the bad words of the set that is rescued. After an error there may be a part of them.
+/// Writes the lines of the bad words of the set that is rescued. After an error there
+/// may be a part of them.
 fn push_bad<F: Flash, A: Allocator>(flash: &F, out: &mut Vec<u8, A>) -> Result<(), AllocError> {
     match rescued_set(flash) {
         Some(set) => push_bad_in_set(flash, &set, out),
@@ -65,7 +66,8 @@ fn push_bad_in_set<F: Flash, A: Allocator>(
     Ok(())
 }
 
-/// Writes the lines of the bad words of a page of the set. After an error there may be a part of them.
+/// Writes the lines of the bad words of a page of the set. After an error there may be a part of
+/// them.
 fn push_bad_in_page<F: Flash, A: Allocator>(
     flash: &F,
     set: &RescuedSet,
@@ -106,7 +108,8 @@ fn name_of_part(at: usize) -> &'static [u8] {
     }
 }
 
-/// Writes how many addresses have a value, and how many words were bad. After an error there may be a part of the line.
+/// Writes how many addresses have a value, and how many words were bad. After an error there may be
+/// a part of the line.
 fn push_rescued<A: Allocator>(out: &mut Vec<u8, A>, rescued: Rescued) -> Result<(), AllocError> {
     push_number_behind(out, b"rescued live ", rescued.live as u64)?;
     push_number_behind(out, b" bad ", rescued.bad_words as u64)?;

@@ -27,21 +27,23 @@ pub struct PartSizes<A: Allocator = Global> {
     pub some_enough: bool,
 }
 
-/// How large a part must be for a script that is made `runs` times, one after another, on a fresh image of so many
-/// words a page, where each page bears `cycles` erases. For each number of pages P that a set can have, 1 to 64, a line
-/// `pages P slots C transfers K erases E least L limit M enough`: K is the fewest transfers of any store, E how often a
-/// page is erased at the most, L how often some page is by any store that transfers, at the least, and M by any that
-/// programs a word for each change. `enough` says that E is `cycles` or less; in its place stands `spent`, where the
-/// generations don't suffice, `worn for any`, where M is above `cycles`, `worn for all`, where L is, and else `worn`.
-/// Or the line is `pages P slots C not fitting I`, I the first change that doesn't fit, counted through all rounds.
-/// Lines that read or clean count nothing. Memory is taken for two rounds, whatever `runs` is.
+/// How large a part must be for a script that is made `runs` times, one after another, on a fresh
+/// image of so many words a page, where each page bears `cycles` erases. For each number of pages P
+/// that a set can have, 1 to 64, a line `pages P slots C transfers K erases E least L limit M
+/// enough`: K is the fewest transfers of any store, E how often a page is erased at the most, L how
+/// often some page is by any store that transfers, at the least, and M by any that programs a word
+/// for each change. `enough` says that E is `cycles` or less; in its place stands `spent`, where
+/// the generations don't suffice, `worn for any`, where M is above `cycles`, `worn for all`, where
+/// L is, and else `worn`. Or the line is `pages P slots C not fitting I`, I the first change that
+/// doesn't fit, counted through all rounds. Lines that read or clean count nothing. Memory is taken
+/// for two rounds, whatever `runs` is.
 ///
 /// Source: ours.
 ///
 /// # Errors
 ///
-/// The script has a bad line, as is here a line that cuts power or turns it on. `Memory` can come in
-/// place of any answer, and does where the changes of all rounds are 2^63 or more.
+/// The script has a bad line, as is here a line that cuts power or turns it on. `Memory` can come
+/// in place of any answer, and does where the changes of all rounds are 2^63 or more.
 pub fn size_parts<A: Allocator + Copy>(
     alloc: A,
     words: u16,

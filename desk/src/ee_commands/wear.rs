@@ -16,8 +16,9 @@ use crate::rattle::alloc::{AllocError, Allocator};
 ///
 /// # Errors
 ///
-/// The first that applies: the image is no device's; the one before is none; `OtherShape`, the two have not as many
-/// pages; `Backwards`, the lowest page that has less wear than before. `Memory` can come in place of any answer.
+/// The first that applies: the image is no device's; the one before is none; `OtherShape`, the two
+/// have not as many pages; `Backwards`, the lowest page that has less wear than before. `Memory`
+/// can come in place of any answer.
 pub fn wear_text<A: Allocator + Copy>(
     alloc: A,
     image: &[u8],

@@ -1,6 +1,6 @@
 // Made by desk/erase from crates/ee_core/src/changing.rt. Change that file.
-//! The making of changes that nothing refuses: one is appended where a slot is free, and else they are
-//! made with a transfer.
+//! The making of changes that nothing refuses: one is appended where a slot is free, and else they
+//! are made with a transfer.
 use crate::rattle::prelude::*;
 
 use crate::ee_core::change::{Change, Put};
@@ -12,9 +12,9 @@ use crate::ee_core::writing::append;
 use crate::ee_flash::{Cut, Flash};
 use crate::ee_pages::Layout;
 
-/// Makes a change to which no refusal applies: in a free slot if there is one, else with a transfer.
-/// The layout and the look-up follow. It stands in both of its callers, so that a write takes fewer
-/// instructions in firmware.
+/// Makes a change to which no refusal applies: in a free slot if there is one, else with a
+/// transfer. The layout and the look-up follow. It stands in both of its callers, so that a write
+/// takes fewer instructions in firmware.
 #[inline(always)]
 pub(crate) fn make_change<F: Flash, L: Lookup>(
     flash: &mut F,
@@ -36,8 +36,8 @@ pub(crate) fn make_change<F: Flash, L: Lookup>(
     }
 }
 
-/// Makes a look-up ready for a value in the first free slot or, where none is free, makes room for it in a transfer. An
-/// `Err`, which only a new address meets, leaves it as it was.
+/// Makes a look-up ready for a value in the first free slot or, where none is free, makes room for
+/// it in a transfer. An `Err`, which only a new address meets, leaves it as it was.
 #[inline(always)]
 pub(crate) fn prepare<F: Flash, L: Lookup>(
     flash: &F,
@@ -62,8 +62,9 @@ pub fn append_change<F: Flash>(
     Ok(())
 }
 
-/// Makes changes to which no refusal applies with a transfer that they need, as `move_changes` does, in
-/// a store without an index: it looks for the live addresses in the slots. The layout follows.
+/// Makes changes to which no refusal applies with a transfer that they need, as
+/// `move_changes` does, in a store without an index: it looks for the live addresses in the
+/// slots. The layout follows.
 pub(crate) fn move_unindexed<F: Flash>(
     flash: &mut F,
     layout: &mut Layout,
@@ -74,9 +75,9 @@ pub(crate) fn move_unindexed<F: Flash>(
     Ok(())
 }
 
-/// Makes changes to which no refusal applies with a transfer that they need: values that are put, or
-/// the forgettings of their addresses. The cursor, which is before the first, goes over the live addresses.
-/// The layout follows.
+/// Makes changes to which no refusal applies with a transfer that they need: values that are put,
+/// or the forgettings of their addresses. The cursor, which is before the first, goes over the live
+/// addresses. The layout follows.
 pub fn move_changes<F: Flash, C: LiveCursor>(
     flash: &mut F,
     layout: &mut Layout,

@@ -31,7 +31,8 @@ fn first_pending<F: Flash>(flash: &F, side: Side) -> Option<usize> {
     None
 }
 
-/// How many pages of a set are not blank, 0 to 64. Those of the set that is not live wait to be erased.
+/// How many pages of a set are not blank, 0 to 64. Those of the set that is not live wait to be
+/// erased.
 ///
 /// Source: ours.
 pub fn count_pending<F: Flash>(flash: &F, side: Side) -> usize {

@@ -9,9 +9,11 @@ use crate::ee_codec::Address;
 use crate::ee_flash::{Cut, Flash, HEADER_WORDS};
 use crate::ee_pages::{Layout, LiveBatch, Mark, first_page, mark, next_batch};
 
-/// Goes over the live addresses of a set, by rising address. It looks through the slots once for each
-/// batch.
-pub(crate) struct Cursor {
+/// Goes over the live addresses of a set, by rising address. It looks through the slots
+/// once for each batch.
+///
+/// Source: ours.
+pub struct Cursor {
     batch: LiveBatch,
     /// How many of the batch it gave.
     given: usize,
@@ -20,12 +22,23 @@ pub(crate) struct Cursor {
 impl Cursor {
     /// Before the first.
     pub(crate) fn new<F: Flash>(flash: &F, layout: &Layout) -> Cursor {
-        let mut cursor = Cursor {
+        let mut cursor = Cursor::unread();
+        cursor.begin(flash, layout);
+        cursor
+    }
+
+    /// With nothing read yet, before it begins.
+    pub fn unread() -> Cursor {
+        Cursor {
             batch: LiveBatch::new(),
             given: 0,
-        };
-        next_batch(flash, layout, None, &mut cursor.batch);
-        cursor
+        }
+    }
+
+    /// Begins before the first address of a live set.
+    pub fn begin<F: Flash>(&mut self, flash: &F, layout: &Layout) {
+        self.given = 0;
+        next_batch(flash, layout, None, &mut self.batch);
     }
 }
 
@@ -89,13 +102,13 @@ fn put_all<F: Flash>(flash: &mut F, layout: &Layout, puts: &[Put]) -> Result<Pla
     let mut place = first_place(flash, layout);
     for put in puts {
         let (address, value) = (put.address, put.value);
-        stage(flash, layout, &mut place, Change::Put { address, value })?;
+        stage_put(flash, layout, &mut place, address, value)?;
     }
     Ok(place)
 }
 
-/// Copies each live address but those of the changes to the other set, from this place on. Gives how
-/// many of its slots are written then.
+/// Copies each live address but those of the changes to the other set, from this place on. Gives
+/// how many of its slots are written then.
 fn copy_others<F: Flash, C: LiveCursor>(
     flash: &mut F,
     layout: &Layout,
@@ -111,8 +124,8 @@ fn copy_others<F: Flash, C: LiveCursor>(
     Ok(place.slot)
 }
 
-/// Copies a live address to this place of the other set, unless it is passed over. The place becomes
-/// that of the next free slot.
+/// Copies a live address to this place of the other set, unless it is passed over. The place
+/// becomes that of the next free slot.
 fn copy_one<F: Flash>(
     flash: &mut F,
     layout: &Layout,
@@ -124,8 +137,21 @@ fn copy_one<F: Flash>(
     if passed {
         return Ok(());
     }
-    stage(flash, layout, place, Change::Put { address, value })?;
+    stage_put(flash, layout, place, address, value)?;
     Ok(())
+}
+
+/// Writes an address with its value into this place of the other set, as `stage` does a change.
+/// Both callers hand these over in registers, which makes firmware smaller.
+#[inline(never)]
+fn stage_put<F: Flash>(
+    flash: &mut F,
+    layout: &Layout,
+    place: &mut Place,
+    address: Address,
+    value: u32,
+) -> Result<(), Cut> {
+    stage(flash, layout, place, Change::Put { address, value })
 }
 
 /// Writes a change into this place of the other set, its first free slot. A further page gets its

@@ -2,23 +2,22 @@
 //! The call for whenever a device is switched on: it opens the store, or makes the first one.
 use crate::rattle::prelude::*;
 
-use crate::ee_core::formatting::write_format;
-use crate::ee_core::opening::{OpenFault, open};
+use crate::ee_core::opening::{OpenFault, make_store, open};
 use crate::ee_core::store::Store;
 use crate::ee_flash::{Cut, Flash, HEADER_WORDS, Word};
 use crate::ee_pages::ScanFault;
 
-/// Opens the store of a device that is on, as `open` does, or makes the first one, as `format` does: on
-/// a device in which no set is committed and no word behind a page's header can be read, torn words
-/// or not. So it is the call to make whenever the device is switched on: a first start in which power
+/// Opens the store of a device that is on, as `open` does, or makes the first one, as `format`
+/// does: on a device in which no set is committed and each word behind a page's header is erased or
+/// torn. So it is the call to make whenever the device is switched on: a first start in which power
 /// is cut is made again, and no word that may be a value is ever erased.
 ///
 /// Source: ours.
 ///
 /// # Errors
 ///
-/// The device and the first `OpenFault` that applies. At a fault of the scan nothing changed. After a
-/// cut the variables are as before: in a first start there are none.
+/// The device and the first `OpenFault` that applies. At a fault of the scan nothing changed. After
+/// a cut the variables are as before: in a first start there are none.
 pub fn start<F: Flash>(flash: F) -> Result<Store<F>, (F, OpenFault)> {
     let (flash, fault) = match open(flash) {
         Ok(store) => return Ok(store),
@@ -43,7 +42,7 @@ fn is_startable<F: Flash>(flash: &F, fault: ScanFault) -> bool {
     }
 }
 
-/// Whether no word behind a page's header can be read.
+/// Whether each word behind a page's header is erased or torn.
 fn holds_none<F: Flash>(flash: &F) -> bool {
     for page in 0..2 * flash.shape().pages() {
         if page_holds(flash, page) {
@@ -65,9 +64,8 @@ fn page_holds<F: Flash>(flash: &F, page: usize) -> bool {
 
 /// Makes the first store.
 fn start_anew<F: Flash>(flash: F) -> Result<Store<F>, (F, OpenFault)> {
-    let mut flash = flash;
-    match write_format(&mut flash) {
-        Ok(layout) => Ok(Store::of(flash, layout)),
-        Err(Cut) => Err((flash, OpenFault::Cut)),
+    match make_store(flash) {
+        Ok(store) => Ok(store),
+        Err((flash, Cut)) => Err((flash, OpenFault::Cut)),
     }
 }

@@ -1,5 +1,6 @@
 // Made by desk/erase from crates/ee_core/src/lookup.rt. Change that file.
-//! How a store finds values, and makes the changes that nothing refuses: each kind of store has a look-up of its own.
+//! How a store finds values, and makes the changes that nothing refuses: each kind of store has a
+//! look-up of its own.
 use crate::rattle::prelude::*;
 
 use crate::ee_core::change::{Change, Put};
@@ -15,8 +16,8 @@ use crate::ee_pages::{Layout, LiveBatch, latest, live_count, next_batch, next_li
 #[derive(Clone, Copy, Debug, PartialEq, Eq)]
 pub struct NoMemory;
 
-/// How a store finds the value of an address. A look-up may keep something in memory, and makes each change itself, so that
-/// what it keeps follows.
+/// How a store finds the value of an address. A look-up may keep something in memory, and makes
+/// each change itself, so that what it keeps follows.
 ///
 /// Source: ours.
 pub trait Lookup {
@@ -26,7 +27,8 @@ pub trait Lookup {
     /// How many addresses have a value.
     fn live_count<F: Flash>(&self, flash: &F, layout: &Layout) -> usize;
 
-    /// How many addresses have a value with these values, each of which is of an address of its own.
+    /// How many addresses have a value with these values, each of which is of an
+    /// address of its own.
     fn live_with<F: Flash>(&self, flash: &F, layout: &Layout, puts: &[Put]) -> usize;
 
     /// The next live address above `after`, or of all if `after` is `None`, with its value.
@@ -40,10 +42,12 @@ pub trait Lookup {
     /// The next live addresses above `after`, or the first of all if `after` is `None`.
     fn next_batch<F: Flash>(&self, flash: &F, layout: &Layout, after: Option<Address>) -> LiveBatch;
 
-    /// Makes ready for a value in the first free slot. An `Err`, which only a new address meets, leaves it as it was.
+    /// Makes ready for a value in the first free slot. An `Err`, which only a new address meets,
+    /// leaves it as it was.
     fn make_ready<F: Flash>(&mut self, flash: &F, layout: &Layout, put: Put) -> Result<(), NoMemory>;
 
-    /// Makes room for a transfer with these values. An `Err`, which only a new address meets, leaves it as it was.
+    /// Makes room for a transfer with these values. An `Err`, which only a new address meets,
+    /// leaves it as it was.
     fn make_room<F: Flash>(
         &mut self,
         flash: &F,
@@ -54,7 +58,8 @@ pub trait Lookup {
     /// Follows a clear: it finds nothing from here on.
     fn find_nothing(&mut self);
 
-    /// Makes a change to which no refusal applies in the first free slot. The layout and the look-up follow.
+    /// Makes a change to which no refusal applies in the first free slot. The layout and
+    /// the look-up follow.
     fn append<F: Flash>(
         &mut self,
         flash: &mut F,
@@ -62,7 +67,8 @@ pub trait Lookup {
         change: Change,
     ) -> Result<(), Cut>;
 
-    /// Makes changes to which no refusal applies with a transfer that they need. The layout and the look-up follow.
+    /// Makes changes to which no refusal applies with a transfer that they need. The layout and
+    /// the look-up follow.
     fn transfer<F: Flash>(
         &mut self,
         flash: &mut F,

@@ -1,5 +1,6 @@
 // Made by desk/erase from crates/ee_core/src/marking.rt. Change that file.
-//! The marks that a transfer or a cut left to set: pages used up, the page in use, pages to be erased.
+//! The marks that a transfer or a cut left to set: pages used up, the page in use,
+//! pages to be erased.
 use crate::rattle::prelude::*;
 
 use crate::ee_flash::{Cut, Flash};

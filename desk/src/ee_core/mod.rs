@@ -3,33 +3,33 @@
 //! outcomes, with power cuts in the contract of each call.
 //!
 //! `specs/State.antt` says what a store is to its users, `specs/Changes.antt` and
-//! `specs/Calls.antt` what each call answers and leaves, cuts included, `specs/Emptying.antt` that of
-//! a clear, `specs/Openings.antt` and `specs/Starts.antt` how a store comes to be,
+//! `specs/Calls.antt` what each call answers and leaves, cuts included, `specs/Emptying.antt` that
+//! of a clear, `specs/Openings.antt` and `specs/Starts.antt` how a store comes to be,
 //! `specs/Rescues.antt` what a rescue leaves, `specs/Finished.antt` which marks an opening sets,
 //! `specs/Picture.antt` how an image is drawn, `specs/Shown.antt` what is drawn after a change,
 //! `specs/Cuts.antt` what a cut leaves of it, and `specs/Puts.antt` what a list of values is.
 //!
 //! The layers above may use: the contract of `Variables`, which is one relation for each call over
 //! the device before and after; `open`, `format`, `start` and `rescue`; that a store's image is
-//! legal, always; and `count_pending`, of a device on which no store is open too. A store finds values
-//! by a look-up (`Lookup`): `Slots`, that of `Store<F>`, takes no memory.
+//! legal, always; and `count_pending`, of a device on which no store is open too. A store finds
+//! values by a look-up (`Lookup`): `Slots`, that of `Store<F>`, takes no memory.
 //!
 //! # What is proved
 //!
 //! `Variables` is its contract: one relation for each call, by cases on the answer, over the device
 //! before and after, with power cuts in every one of them (`Reads`, `Writes`, `WritesAll`,
-//! `Forgets`, `Clears`, `Cleans`). A write or a forgetting is appended or moved with exactly this map, fill,
-//! generation and pending afterwards, or is refused exactly under its cause with nothing changed;
-//! values that are written at once are all there or none is; a clean step erases the lowest page
-//! that waits, a transfer those that wait, each once, and an append none, and each page's wear
-//! rises by that and by nothing else; after a cut the state is the old one or the new one, but for
-//! a torn slot or for pages that were erased, and those are the pages that waited up to the one in
-//! whose erase power was cut, or all; and each word is as before, as the whole call leaves it, or
-//! torn where the whole call would have changed it, and in a page that was being erased as before,
-//! erased or torn (`IsCutChange`, `IsCutTransfer`, `IsCutClear`, `IsCutClean`). A clear leaves no
-//! value and no used slot by one transfer that copies nothing, and where no slot is used it takes no
-//! step. `Store` keeps it on every device that keeps the contract of `Flash` and over every look-up,
-//! and leaves a legal image always. Over `Slots` it takes no memory. `open`
+//! `Forgets`, `Clears`, `Cleans`). A write or a forgetting is appended or moved with exactly this
+//! map, fill, generation and pending afterwards, or is refused exactly under its cause with nothing
+//! changed; values that are written at once are all there or none is; a clean step erases the
+//! lowest page that waits, a transfer those that wait, each once, and an append none, and each
+//! page's wear rises by that and by nothing else; after a cut the state is the old one or the new
+//! one, but for a torn slot or for pages that were erased, and those are the pages that waited up
+//! to the one in whose erase power was cut, or all; and each word is as before, as the whole call
+//! leaves it, or torn where the whole call would have changed it, and in a page that was being
+//! erased as before, erased or torn (`IsCutChange`, `IsCutTransfer`, `IsCutClear`, `IsCutClean`). A
+//! clear leaves no value and no used slot by one transfer that copies nothing, and where no slot is
+//! used it takes no step. `Store` keeps it on every device that keeps the contract of `Flash` and
+//! over every look-up, and leaves a legal image always. Over `Slots` it takes no memory. `open`
 //! (`opened`, `failed`) and `format` (`formatted`, `cut`) say what they find and leave, word for
 //! word after a cut too, and `count_pending` says how many pages of a set are not blank, of any
 //! device. `start` is the call for each boot: a device in which no set is committed and no slot
@@ -58,6 +58,7 @@ mod first_start;
 mod formatting;
 #[doc(hidden)]
 pub mod inner;
+mod known;
 mod live_cursor;
 mod lookup;
 mod marking;

@@ -10,10 +10,10 @@ use crate::ee_core::marking::finish;
 use crate::ee_flash::{Cut, Flash, HEADER_WORDS};
 use crate::ee_pages::{Layout, Mark, first_page, is_blank as page_is_blank, mark};
 
-/// Moves the map, with values that are put or without their addresses, where these are forgotten, to
-/// the other set, and makes that one live. The cursor, which is before the first, goes over the live
-/// addresses. Of the layout it takes the set, in which any words may stand, and its generation, no
-/// smaller than the one that the set is committed with. The layout follows.
+/// Moves the map, with values that are put or without their addresses, where these are forgotten,
+/// to the other set, and makes that one live. The cursor, which is before the first, goes over the
+/// live addresses. Of the layout it takes the set, in which any words may stand, and its
+/// generation, no smaller than the one that the set is committed with. The layout follows.
 pub(crate) fn transfer<F: Flash, C: LiveCursor>(
     flash: &mut F,
     layout: &mut Layout,
@@ -45,8 +45,8 @@ pub(crate) fn transfer_by_slots<F: Flash>(
     Ok(())
 }
 
-/// Moves the map, with what it is to carry, to the other set, and makes that one live. Gives how many
-/// slots it takes there.
+/// Moves the map, with what it is to carry, to the other set, and makes that one live. Gives how
+/// many slots it takes there.
 fn move_map<F: Flash, C: LiveCursor>(
     flash: &mut F,
     layout: &Layout,
@@ -61,8 +61,8 @@ fn move_map<F: Flash, C: LiveCursor>(
     Ok(count)
 }
 
-/// Makes the other set the live one with nothing in it, as `transfer` does with a map in which nothing
-/// has a value. The layout follows.
+/// Makes the other set the live one with nothing in it, as `transfer` does with a map in which
+/// nothing has a value. The layout follows.
 pub(crate) fn transfer_nothing<F: Flash>(flash: &mut F, layout: &mut Layout) -> Result<(), Cut> {
     move_nothing(flash, layout)?;
     *layout = Layout {
@@ -84,8 +84,8 @@ fn move_nothing<F: Flash>(flash: &mut F, layout: &Layout) -> Result<(), Cut> {
     Ok(())
 }
 
-/// Erases each page of the other set that is not blank, by rising page. Like the two below it stands
-/// in both of its callers, so that no code of one is the other's in firmware.
+/// Erases each page of the other set that is not blank, by rising page. Like the two below it
+/// stands in both of its callers, so that no code of one is the other's in firmware.
 #[inline(always)]
 fn clear<F: Flash>(flash: &mut F, layout: &Layout) -> Result<(), Cut> {
     let first = first_page(flash, layout.side.other());

@@ -6,7 +6,7 @@ use crate::ee_core::formatting::write_format;
 use crate::ee_core::marking::finish;
 use crate::ee_core::store::Store;
 use crate::ee_flash::{Cut, Flash};
-use crate::ee_pages::{ScanFault, scan};
+use crate::ee_pages::{Layout, ScanFault, scan};
 
 /// Why a device can't be opened, the first cause that applies.
 ///
@@ -29,13 +29,21 @@ pub enum OpenFault {
 /// The device and the first `OpenFault` that applies.
 pub fn open<F: Flash>(flash: F) -> Result<Store<F>, (F, OpenFault)> {
     let mut flash = flash;
-    let layout = match scan(&flash) {
+    match open_on(&mut flash) {
+        Ok(layout) => Ok(Store::of(flash, layout)),
+        Err(fault) => Err((flash, fault)),
+    }
+}
+
+/// `open` in place: the layout of the store that the device becomes.
+pub fn open_on<F: Flash>(flash: &mut F) -> Result<Layout, OpenFault> {
+    let layout = match scan(flash) {
         Ok(layout) => layout,
-        Err(fault) => return Err((flash, OpenFault::Scan(fault))),
+        Err(fault) => return Err(OpenFault::Scan(fault)),
     };
-    match finish(&mut flash, &layout) {
-        Ok(()) => Ok(Store::of(flash, layout)),
-        Err(Cut) => Err((flash, OpenFault::Cut)),
+    match finish(flash, &layout) {
+        Ok(()) => Ok(layout),
+        Err(Cut) => Err(OpenFault::Cut),
     }
 }
 
@@ -48,6 +56,12 @@ pub fn open<F: Flash>(flash: F) -> Result<Store<F>, (F, OpenFault)> {
 ///
 /// The device, off: power failed. What it held is gone in part, until a `format` ends.
 pub fn format<F: Flash>(flash: F) -> Result<Store<F>, (F, Cut)> {
+    make_store(flash)
+}
+
+/// Makes a store with nothing in it, as `format` does. A device that can be started stays one, or
+/// is the store, where power is cut.
+pub(crate) fn make_store<F: Flash>(flash: F) -> Result<Store<F>, (F, Cut)> {
     let mut flash = flash;
     match write_format(&mut flash) {
         Ok(layout) => Ok(Store::of(flash, layout)),

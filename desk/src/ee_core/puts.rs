@@ -1,5 +1,6 @@
 // Made by desk/erase from crates/ee_core/src/puts.rt. Change that file.
-//! Lists of values that are put at once: which addresses they have, and whether one has an address twice.
+//! Lists of values that are put at once: which addresses they have, and whether one
+//! has an address twice.
 use crate::rattle::prelude::*;
 
 use crate::ee_core::change::Put;

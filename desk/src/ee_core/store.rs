@@ -2,9 +2,10 @@
 //! The store: it knows where the live set is and how far it is used, and finds values by a look-up.
 use crate::rattle::prelude::*;
 
-use crate::ee_core::change::{Change, Put};
-use crate::ee_core::changing::{empty, make_change, prepare};
-use crate::ee_core::cleaning::{clean, count_pending};
+use crate::ee_core::change::Put;
+use crate::ee_core::changing::empty;
+use crate::ee_core::cleaning::count_pending;
+use crate::ee_core::known::Known;
 use crate::ee_core::lookup::{Lookup, Slots};
 use crate::ee_core::puts::first_twice;
 use crate::ee_core::variables::{
@@ -17,36 +18,35 @@ use crate::ee_pages::{Layout, LiveBatch, torn_slots};
 /// The greatest generation of a set.
 pub const GREATEST_GENERATION: u32 = 4_294_967_294;
 
-/// Variables in a flash device. It keeps in memory where the live set is and how far it is used, and
-/// finds values by a look-up: `Slots` keeps nothing, and reads all else from the flash.
+/// Variables in a flash device. It keeps in memory where the live set is and how far it is used,
+/// and finds values by a look-up: `Slots` keeps nothing, and reads all else from the flash.
 ///
 /// Source: two sets, of which one takes the writes, AN4894; the rest is ours.
 pub struct Store<F: Flash, L: Lookup = Slots> {
-    flash: F,
-    layout: Layout,
-    lookup: L,
+    pub(crate) flash: F,
+    pub(crate) known: Known<L>,
 }
 
 impl<F: Flash> Store<F> {
     /// A store of this device, of which this is the layout. It looks through the slots.
     pub(crate) fn of(flash: F, layout: Layout) -> Store<F> {
-        Store::with(flash, layout, Slots)
+        let lookup = Slots;
+        Store {
+            flash,
+            known: Known { layout, lookup },
+        }
     }
 }
 
 impl<F: Flash, L: Lookup> Store<F, L> {
-    /// A store of this device, of which this is the layout. It finds values by this look-up.
-    pub(crate) fn with(flash: F, layout: Layout, lookup: L) -> Store<F, L> {
-        Store {
-            flash,
-            layout,
-            lookup,
-        }
-    }
-
     /// The device, to be looked at.
     pub fn flash(&self) -> &F {
         &self.flash
+    }
+
+    /// The look-up, to be looked at.
+    pub fn lookup(&self) -> &L {
+        &self.known.lookup
     }
 
     /// The device, as it is.
@@ -54,17 +54,12 @@ impl<F: Flash, L: Lookup> Store<F, L> {
         self.flash
     }
 
-    /// The device, as it is, its layout and the look-up.
-    pub(crate) fn into_parts(self) -> (F, Layout, L) {
-        (self.flash, self.layout, self.lookup)
-    }
-
-    /// How many slots of the live set are torn, 0 to its fill: words in whose step power was cut. It
-    /// reads each slot once.
+    /// How many slots of the live set are torn, 0 to its fill: words in whose step power was cut.
+    /// It reads each slot once.
     ///
     /// Source: ours.
     pub fn torn_slots(&self) -> usize {
-        torn_slots(&self.flash, &self.layout)
+        torn_slots(&self.flash, &self.known.layout)
     }
 
     /// Writes the one value of a list.
@@ -90,48 +85,38 @@ impl<F: Flash, L: Lookup> Store<F, L> {
         if self.is_last() {
             return Err(WriteAllFault::Spent);
         }
-        let Ok(()) = self.lookup.make_room(&self.flash, &self.layout, puts) else {
+        let Ok(()) = self
+            .known
+            .lookup
+            .make_room(&self.flash, &self.known.layout, puts)
+        else {
             return Err(WriteAllFault::Memory);
         };
         match self
+            .known
             .lookup
-            .transfer(&mut self.flash, &mut self.layout, puts, false)
+            .transfer(&mut self.flash, &mut self.known.layout, puts, false)
         {
             Ok(()) => Ok(Written::Moved),
             Err(Cut) => Err(WriteAllFault::Cut),
         }
     }
 
-    /// Whether more addresses would have a value than there are slots, with these values, each of which
-    /// is of an address of its own.
+    /// Whether more addresses would have a value than there are slots, with these values, each of
+    /// which is of an address of its own.
     fn is_full_for_all(&self, puts: &[Put]) -> bool {
         let slots = self.flash.shape().slots();
-        puts.len() > slots || self.lookup.live_with(&self.flash, &self.layout, puts) > slots
-    }
-
-    /// Whether a write or forgetting must be refused since no generation is left for the transfer
-    /// that it needs.
-    fn is_spent(&self) -> bool {
-        self.layout.fill == self.flash.shape().slots()
-            && self.layout.generation == GREATEST_GENERATION
+        puts.len() > slots
+            || self
+                .known
+                .lookup
+                .live_with(&self.flash, &self.known.layout, puts)
+                > slots
     }
 
     /// Whether no generation is left for a transfer.
     fn is_last(&self) -> bool {
-        self.layout.generation == GREATEST_GENERATION
-    }
-
-    /// Whether the address has no value and there is no slot for one more. Live addresses are counted
-    /// only where every slot is used.
-    fn is_full_for(&self, address: Address) -> bool {
-        let slots = self.flash.shape().slots();
-        if self.layout.fill < slots {
-            return false;
-        }
-        match self.lookup.value_of(&self.flash, &self.layout, address) {
-            Some(_) => false,
-            None => self.lookup.live_count(&self.flash, &self.layout) == slots,
-        }
+        self.known.layout.generation == GREATEST_GENERATION
     }
 }
 
@@ -145,40 +130,12 @@ impl<F: Flash, L: Lookup> Variables for Store<F, L> {
     }
 
     fn read(&self, address: Address) -> Result<Option<u32>, Off> {
-        if !self.flash.is_on() {
-            return Err(Off);
-        }
-        Ok(self.lookup.value_of(&self.flash, &self.layout, address))
+        self.known.read(&self.flash, address)
     }
 
     #[inline(always)]
     fn write(&mut self, address: Address, value: u32) -> Result<Written, WriteFault> {
-        if !self.flash.is_on() {
-            return Err(WriteFault::Off);
-        }
-        if self.is_full_for(address) {
-            return Err(WriteFault::Full);
-        }
-        if self.is_spent() {
-            return Err(WriteFault::Spent);
-        }
-        let Ok(()) = prepare(
-            &self.flash,
-            &self.layout,
-            &mut self.lookup,
-            Put { address, value },
-        ) else {
-            return Err(WriteFault::Memory);
-        };
-        match make_change(
-            &mut self.flash,
-            &mut self.layout,
-            &mut self.lookup,
-            Change::Put { address, value },
-        ) {
-            Ok(written) => Ok(written),
-            Err(Cut) => Err(WriteFault::Cut),
-        }
+        self.known.write(&mut self.flash, address, value)
     }
 
     fn write_all(&mut self, changes: &[Put]) -> Result<Written, WriteAllFault> {
@@ -195,39 +152,22 @@ impl<F: Flash, L: Lookup> Variables for Store<F, L> {
     }
 
     fn forget(&mut self, address: Address) -> Result<Written, ForgetFault> {
-        if !self.flash.is_on() {
-            return Err(ForgetFault::Off);
-        }
-        let Some(value) = self.lookup.value_of(&self.flash, &self.layout, address) else {
-            return Err(ForgetFault::Absent);
-        };
-        if self.is_spent() {
-            return Err(ForgetFault::Spent);
-        }
-        match make_change(
-            &mut self.flash,
-            &mut self.layout,
-            &mut self.lookup,
-            Change::Forget { address, value },
-        ) {
-            Ok(written) => Ok(written),
-            Err(Cut) => Err(ForgetFault::Cut),
-        }
+        self.known.forget(&mut self.flash, address)
     }
 
     fn clear(&mut self) -> Result<bool, ClearFault> {
         if !self.flash.is_on() {
             return Err(ClearFault::Off);
         }
-        if self.layout.fill == 0 {
+        if self.known.layout.fill == 0 {
             return Ok(false);
         }
         if self.is_last() {
             return Err(ClearFault::Spent);
         }
-        match empty(&mut self.flash, &mut self.layout) {
+        match empty(&mut self.flash, &mut self.known.layout) {
             Ok(()) => {
-                self.lookup.find_nothing();
+                self.known.lookup.find_nothing();
                 Ok(true)
             }
             Err(Cut) => Err(ClearFault::Cut),
@@ -235,36 +175,36 @@ impl<F: Flash, L: Lookup> Variables for Store<F, L> {
     }
 
     fn clean_step(&mut self) -> Result<bool, WriteFault> {
-        if !self.flash.is_on() {
-            return Err(WriteFault::Off);
-        }
-        match clean(&mut self.flash, &self.layout) {
-            Ok(erased) => Ok(erased),
-            Err(Cut) => Err(WriteFault::Cut),
-        }
+        self.known.clean_step(&mut self.flash)
     }
 
     fn pending(&self) -> usize {
-        count_pending(&self.flash, self.layout.side.other())
+        count_pending(&self.flash, self.known.layout.side.other())
     }
 
     fn fill(&self) -> usize {
-        self.layout.fill
+        self.known.layout.fill
     }
 
     fn generation(&self) -> u32 {
-        self.layout.generation
+        self.known.layout.generation
     }
 
     fn live_count(&self) -> usize {
-        self.lookup.live_count(&self.flash, &self.layout)
+        self.known
+            .lookup
+            .live_count(&self.flash, &self.known.layout)
     }
 
     fn next_live(&self, after: Option<Address>) -> Option<(Address, u32)> {
-        self.lookup.next_live(&self.flash, &self.layout, after)
+        self.known
+            .lookup
+            .next_live(&self.flash, &self.known.layout, after)
     }
 
     fn next_batch(&self, after: Option<Address>) -> LiveBatch {
-        self.lookup.next_batch(&self.flash, &self.layout, after)
+        self.known
+            .lookup
+            .next_batch(&self.flash, &self.known.layout, after)
     }
 }

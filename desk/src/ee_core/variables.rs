@@ -41,15 +41,16 @@ pub enum WriteFault {
     Cut,
 }
 
-/// Why no value of a list is written, the first cause that applies. All but `Cut` leave the device as
-/// it was.
+/// Why no value of a list is written, the first cause that applies. All but `Cut` leave
+/// the device as it was.
 ///
 /// Source: ours.
 #[derive(Clone, Copy, Debug, PartialEq, Eq)]
 pub enum WriteAllFault {
     /// The device is off.
     Off,
-    /// An address is listed twice: the first entry, counted from 0, whose address an earlier one has.
+    /// An address is listed twice: the first entry, counted from 0, whose address an earlier one
+    /// has.
     Twice(usize),
     /// More addresses would have a value than there are slots.
     Full,
@@ -62,7 +63,8 @@ pub enum WriteAllFault {
     Cut,
 }
 
-/// Why nothing is forgotten, the first cause that applies. All but `Cut` leave the device as it was.
+/// Why nothing is forgotten, the first cause that applies. All but `Cut` leave the device as it
+/// was.
 ///
 /// Source: ours.
 #[derive(Clone, Copy, Debug, PartialEq, Eq)]
@@ -97,8 +99,8 @@ pub enum ClearFault {
 /// Source: variables by virtual address, of which the last element written counts, and a clean-up
 /// whose moment the application chooses, AN4894; the rest is ours.
 pub trait Variables {
-    /// The slots of a set, 1 to 32512: as many changes as it takes, and as many addresses can have a
-    /// value.
+    /// The slots of a set, 1 to 32512: as many changes as it takes, and as many
+    /// addresses can have a value.
     fn slots(&self) -> usize;
 
     /// Whether the device is on.
@@ -118,9 +120,9 @@ pub trait Variables {
     /// The first `WriteFault` that applies.
     fn write(&mut self, address: Address, value: u32) -> Result<Written, WriteFault>;
 
-    /// Writes these values at once: after this call, and after a cut in it too, the map has all of them
-    /// or is as it was. A list of one is written as by `write`; for more the live set moves to the other
-    /// set, whether a slot is free or not.
+    /// Writes these values at once: after this call, and after a cut in it too, the map has all of
+    /// them or is as it was. A list of one is written as by `write`; for more the live set moves to
+    /// the other set, whether a slot is free or not.
     ///
     /// # Errors
     ///
@@ -134,10 +136,10 @@ pub trait Variables {
     /// The first `ForgetFault` that applies.
     fn forget(&mut self, address: Address) -> Result<Written, ForgetFault>;
 
-    /// Takes the values of all addresses away at once: after this call, and after a cut in it too, none
-    /// has a value or all have theirs. `false` if no slot is used: then it takes no step. Else the
-    /// other set becomes the live one with nothing in it. The words of the old values stay in the
-    /// flash until their set is erased.
+    /// Takes the values of all addresses away at once: after this call, and after a cut in it too,
+    /// none has a value or all have theirs. `false` if no slot is used: then it takes no step. Else
+    /// the other set becomes the live one with nothing in it. The words of the old values stay in
+    /// the flash until their set is erased.
     ///
     /// # Errors
     ///
@@ -167,7 +169,7 @@ pub trait Variables {
     /// value. `None` if there is none.
     fn next_live(&self, after: Option<Address>) -> Option<(Address, u32)>;
 
-    /// The next addresses above `after`, or the first of all if `after` is `None`, that have a value,
-    /// with their values: as many as one look through the slots gives.
+    /// The next addresses above `after`, or the first of all if `after` is `None`, that have a
+    /// value, with their values: as many as one look through the slots gives.
     fn next_batch(&self, after: Option<Address>) -> LiveBatch;
 }

@@ -23,8 +23,8 @@ pub(crate) fn append<F: Flash>(
     Ok(())
 }
 
-/// The page of the first free slot, and the slot's place in it. The layout has the page in use, so that
-/// this takes no division.
+/// The page of the first free slot, and the slot's place in it. The layout has the page in use, so
+/// that this takes no division.
 #[inline(always)]
 fn free_slot<F: Flash>(flash: &F, layout: &Layout) -> (usize, usize) {
     let slots = flash.shape().words() - HEADER_WORDS;
@@ -35,8 +35,8 @@ fn free_slot<F: Flash>(flash: &F, layout: &Layout) -> (usize, usize) {
     (layout.current, HEADER_WORDS + used)
 }
 
-/// Marks the page of the first free slot, which is this one, as the one that is used, if it is a further
-/// one, and the page before it as used up.
+/// Marks the page of the first free slot, which is this one, as the one that is used, if it is a
+/// further one, and the page before it as used up.
 #[inline(always)]
 fn open_page<F: Flash>(flash: &mut F, layout: &Layout, page: usize) -> Result<(), Cut> {
     if page == layout.current {
@@ -47,7 +47,8 @@ fn open_page<F: Flash>(flash: &mut F, layout: &Layout, page: usize) -> Result<()
     Ok(())
 }
 
-/// Programs a change into the first free slot of the live set, which stands in this place of this page.
+/// Programs a change into the first free slot of the live set, which stands in this
+/// place of this page.
 #[inline(always)]
 fn push<F: Flash>(
     flash: &mut F,

@@ -10,8 +10,8 @@ use crate::rattle::alloc::AllocError;
 pub enum DumpFault {
     /// The bytes are not as many as the words of both sets have.
     Length,
-    /// The first word whose two numbers sum to less than `u64::MAX`, by its page, counted from 0 over both sets, and then by
-    /// its place there. No store wrote it.
+    /// The first word whose two numbers sum to less than `u64::MAX`, by its page, counted from 0
+    /// over both sets, and then by its place there. No store wrote it.
     LowPair { page: usize, at: usize },
     /// Memory ran out.
     Memory,
@@ -28,7 +28,8 @@ impl From<AllocError> for DumpFault {
 /// Source: ours.
 #[derive(Clone, Copy, Debug, PartialEq, Eq)]
 pub enum WriteFault {
-    /// The first torn word, by its page, counted from 0 over both sets, and then by its place there.
+    /// The first torn word, by its page, counted from 0 over both sets, and then by its place
+    /// there.
     TornWord { page: usize, at: usize },
     /// Memory ran out.
     Memory,

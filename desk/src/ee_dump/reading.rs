@@ -4,7 +4,7 @@ use crate::rattle::prelude::*;
 
 use crate::ee_dump::word::word_of;
 use crate::ee_dump::{DumpFault, Form};
-use crate::ee_flash::{MemFlash, Shape, Word};
+use crate::ee_flash::{Cells, MemFlash, Shape};
 use crate::ee_pairs::is_low;
 use crate::rattle::alloc::{AllocError, Allocator};
 
@@ -13,8 +13,9 @@ use crate::rattle::alloc::{AllocError, Allocator};
 ///
 /// # Errors
 ///
-/// `Length`, where the dump has not as many bytes as the words of both sets; else `LowPair`, of pairs the first that sums to
-/// less than `u64::MAX`. `Memory` can come in place of any answer but `Length`.
+/// `Length`, where the dump has not as many bytes as the words of both sets; else `LowPair`,
+/// of pairs the first that sums to less than `u64::MAX`. `Memory` can come in place of any
+/// answer but `Length`.
 ///
 /// Source: ours.
 pub fn read_dump<A: Allocator + Copy>(
@@ -30,17 +31,17 @@ pub fn read_dump<A: Allocator + Copy>(
     let wear = vec![in alloc; 0; 2 * shape.pages()]?;
     match MemFlash::from_cells(shape, cells, wear) {
         Ok(flash) => Ok(flash),
-        Err(_) => unreachable!("the words are those of both sets, and none is all ones"),
+        Err(_) => unreachable!("the words are those of both sets"),
     }
 }
 
 /// The words that a dump of the right length spells.
-fn read_cells<A: Allocator>(
+fn read_cells<A: Allocator + Copy>(
     alloc: A,
     shape: Shape,
     form: Form,
     dump: &[u8],
-) -> Result<Vec<Word, A>, DumpFault> {
+) -> Result<Cells<A>, DumpFault> {
     match form {
         Form::Words => Ok(read_words(alloc, dump)?),
         Form::Pairs => read_pairs(alloc, shape, dump),
@@ -48,9 +49,9 @@ fn read_cells<A: Allocator>(
 }
 
 /// The words that the bytes spell, eight for each.
-fn read_words<A: Allocator>(alloc: A, dump: &[u8]) -> Result<Vec<Word, A>, AllocError> {
+fn read_words<A: Allocator + Copy>(alloc: A, dump: &[u8]) -> Result<Cells<A>, AllocError> {
     let (words, _) = dump.as_chunks::<8>();
-    let mut cells = Vec::with_capacity(alloc, words.len())?;
+    let mut cells = Cells::with_capacity(alloc, words.len())?;
     for bytes in words {
         cells.push(word_of(*bytes))?;
     }
@@ -58,10 +59,14 @@ fn read_words<A: Allocator>(alloc: A, dump: &[u8]) -> Result<Vec<Word, A>, Alloc
 }
 
 /// The words that the bytes spell, two numbers for each.
-fn read_pairs<A: Allocator>(alloc: A, shape: Shape, dump: &[u8]) -> Result<Vec<Word, A>, DumpFault> {
+fn read_pairs<A: Allocator + Copy>(
+    alloc: A,
+    shape: Shape,
+    dump: &[u8],
+) -> Result<Cells<A>, DumpFault> {
     let (numbers, _) = dump.as_chunks::<8>();
     let (pairs, _) = numbers.as_chunks::<2>();
-    let mut cells = Vec::with_capacity(alloc, pairs.len())?;
+    let mut cells = Cells::with_capacity(alloc, pairs.len())?;
     for pair in pairs {
         let [number, check] = *pair;
         let (number, check) = (u64::from_le_bytes(number), u64::from_le_bytes(check));

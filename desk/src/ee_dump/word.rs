@@ -28,7 +28,8 @@ pub(crate) fn push_word<A: Allocator>(
     }
 }
 
-/// Writes the bytes of a number, and of pairs those of the one beside it. After an error there may be a part of them.
+/// Writes the bytes of a number, and of pairs those of the one beside it. After an error there
+/// may be a part of them.
 fn push_number<A: Allocator>(
     form: Form,
     number: u64,

@@ -86,7 +86,8 @@ pub enum Fault {
     Spent,
     /// No set of the image is begun: it has nothing that could be rescued.
     NothingToRescue,
-    /// This change of the trace, counted from 1, is the first that makes more addresses live than there are slots.
+    /// This change of the trace, counted from 1, is the first that makes more addresses live
+    /// than there are slots.
     NotFitting(u64),
     /// The certificate's header is not that of the start and the trace.
     WrongStart,
@@ -105,7 +106,8 @@ pub enum Fault {
     NoSizeEnough,
     /// The dump has not as many bytes as a part of the size has.
     DumpLength,
-    /// The first word of the dump whose two numbers sum to less than all ones, by its page and its place.
+    /// The first word of the dump whose two numbers sum to less than all ones, by its
+    /// page and its place.
     LowPair { page: usize, at: usize },
     /// The first torn word of the image, by its page and its place: no dump has one.
     TornWord { page: usize, at: usize },
@@ -315,7 +317,8 @@ pub fn fault_line<A: Allocator + Copy>(alloc: A, fault: &Fault) -> Result<Vec<u8
     Ok(line.into_bytes())
 }
 
-/// The status that the program ends with at a fault: 3 for a bad file, 4 for what is refused, 5 for want of memory.
+/// The status that the program ends with at a fault: 3 for a bad file, 4 for what is refused, 5
+/// for want of memory.
 pub fn status_of(fault: &Fault) -> u8 {
     match fault {
         Fault::CannotRead(_)

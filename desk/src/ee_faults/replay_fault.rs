@@ -19,8 +19,8 @@ pub enum ReplayFault {
     Script(u64),
     /// Memory ran out.
     Memory,
-    /// The reader that gives the script failed, or the most read calls were made and the end had not
-    /// come. No script that is given whole is refused so.
+    /// The reader that gives the script failed, or the most read calls were made and the end had
+    /// not come. No script that is given whole is refused so.
     Read,
 }
 

@@ -8,8 +8,8 @@ use crate::rattle::rt::Files;
 ///
 /// Source: ours.
 pub trait FileLocks: Files {
-    /// Locks a file, until this opening of it is closed, against each other opening that asks for its lock.
-    /// It waits for none.
+    /// Locks a file, until this opening of it is closed, against each other opening that asks for
+    /// its lock. It waits for none.
     ///
     /// # Errors
     ///

@@ -1,12 +1,15 @@
 // Made by desk/erase from crates/ee_files/src/saving.rt. Change that file.
-//! An image's file, replaced only while it still is what was read, so that its old text or its new one stands.
+//! An image's file, replaced only while it still is what was read, so that its old text or
+//! its new one stands.
 //!
-//! A plain file is locked, looked at once more, and gets its new text by way of another file beside it, which takes its
-//! name when all is written. Only where none can be made there is the text written in place, and the old one put back
-//! after a failure. What is no plain file, a device or a pipe, is written in place and nothing else.
+//! A plain file is locked, looked at once more, and gets its new text by way of another file beside
+//! it, which takes its name when all is written. Only where none can be made there is the text
+//! written in place, and the old one put back after a failure. What is no plain file, a device or a
+//! pipe, is written in place and nothing else.
 //!
-//! Two runs that began with one text ask for one lock. Who has it finds the path leading to the file that is
-//! locked, with the text that was read, or writes nothing. So of the two one at most goes on.
+//! Two runs that began with one text ask for one lock. Who has it finds the path leading to
+//! the file that is locked, with the text that was read, or writes nothing. So of the two
+//! one at most goes on.
 use crate::rattle::prelude::*;
 
 use super::locks::FileLocks;
@@ -18,7 +21,8 @@ use crate::rattle::io::{self, ErrorKind, Read, Seek, SeekFrom, Write};
 use crate::rattle::os::unix::fs::{MetadataExt, OpenOptionsExt};
 use crate::rattle::rt::Files;
 
-/// What a file beside an image is called while it is written: this and a number, behind the image's own name.
+/// What a file beside an image is called while it is written: this and a number, behind
+/// the image's own name.
 const BESIDE: &str = ".ee-saving-";
 
 /// How many numbers are tried.
@@ -63,7 +67,7 @@ impl SaveFault {
     /// What the program tells of it, where an image was to be written.
     ///
     /// Source: ours.
-    pub fn told(self) -> Fault {
+    pub fn into_fault(self) -> Fault {
         match self {
             SaveFault::Changed => Fault::ImageChanged,
             SaveFault::Failed => Fault::CannotWriteImage,
@@ -71,10 +75,11 @@ impl SaveFault {
         }
     }
 
-    /// What the program tells of it, where a dump was to be written, of whose file nothing was read.
+    /// What the program tells of it, where a dump was to be written, of whose file nothing was
+    /// read.
     ///
     /// Source: ours.
-    pub fn told_of_dump(self) -> Fault {
+    pub fn into_dump_fault(self) -> Fault {
         match self {
             SaveFault::Changed | SaveFault::Failed => Fault::CannotWriteDump,
             SaveFault::Memory => Fault::Memory,
@@ -82,15 +87,15 @@ impl SaveFault {
     }
 }
 
-/// Writes an image's text in the place of its file. `old` is what was read of the file, if it was read; then the
-/// file must still have that text.
+/// Writes an image's text in the place of its file. `old` is what was read of the file, if it was
+/// read; then the file must still have that text.
 ///
 /// Source: ours.
 ///
 /// # Errors
 ///
-/// The new text doesn't stand. What stood before stands still, if it was a plain file and the system
-/// lets it be put back.
+/// The new text doesn't stand. What stood before stands still, if it was a plain file and the
+/// system lets it be put back.
 pub fn save<R: FileLocks + AllocGlobal>(
     rt: &R,
     path: &str,
@@ -136,7 +141,8 @@ fn write_first<R: Files + AllocGlobal>(rt: &R, path: &str, new: &[u8]) -> Result
     }
 }
 
-/// Writes the file that a link leads to, which wasn't there. What is no link was made since it was looked for.
+/// Writes the file that a link leads to, which wasn't there. What is no link was made
+/// since it was looked for.
 fn write_behind<R: Files + AllocGlobal>(rt: &R, path: &str, new: &[u8]) -> Result<(), SaveFault> {
     if !fs::symlink_metadata(rt, path)?.is_symlink() {
         return Err(SaveFault::Changed);
@@ -174,8 +180,8 @@ fn replace<R: FileLocks + AllocGlobal>(
     }
 }
 
-/// Opens a plain file and locks it, as long as the opening that is given stays open. The path leads to that file,
-/// and its text is the old one, if that was read.
+/// Opens a plain file and locks it, as long as the opening that is given stays open. The path leads
+/// to that file, and its text is the old one, if that was read.
 fn hold<R: FileLocks + AllocGlobal>(
     rt: &R,
     path: &str,
@@ -227,7 +233,8 @@ fn reads_as<A: Allocator + Copy, F: Read>(
     Ok(found.as_slice() == text)
 }
 
-/// Makes a file beside one, with its owner and its mode, and gives it with its name. `None`: none can be made there.
+/// Makes a file beside one, with its owner and its mode, and gives it with its name. `None`:
+/// none can be made there.
 ///
 /// # Errors
 ///
@@ -274,7 +281,8 @@ fn make_alike<R: Files>(rt: &R, path: &str, file: &R::File, found: &Metadata) ->
     fs::set_permissions(rt, path, found.permissions())
 }
 
-/// Writes a text into a new file, which then takes the name of another. After a failure it isn't there again.
+/// Writes a text into a new file, which then takes the name of another. After a failure
+/// it isn't there again.
 fn put_over<R: Files>(
     rt: &R,
     mut file: R::File,
@@ -309,7 +317,8 @@ fn fill<F: Write + OpenFile>(file: &mut F, whole: &[u8]) -> Result<(), SaveFault
     Ok(())
 }
 
-/// Writes over a plain file where none can be made beside it, and puts back what it was after a failure.
+/// Writes over a plain file where none can be made beside it, and puts back what it
+/// was after a failure.
 fn write_back<R: Files + AllocGlobal>(
     rt: &R,
     path: &str,
@@ -327,8 +336,8 @@ fn write_back<R: Files + AllocGlobal>(
     }
 }
 
-/// Writes over a plain file, and after a failure writes its old text. It isn't cut to nothing before, so that
-/// the old text still has its room.
+/// Writes over a plain file, and after a failure writes its old text. It isn't cut to nothing
+/// before, so that the old text still has its room.
 fn write_or_restore<F: Write + Seek + OpenFile>(
     file: &mut F,
     old: &[u8],

@@ -1,5 +1,6 @@
 // Made by desk/erase from crates/ee_flash/src/device.rt. Change that file.
-//! The flash device as the layers above know it: words are programmed, pages erased, and power is cut.
+//! The flash device as the layers above know it: words are programmed, pages erased, and power is
+//! cut.
 use crate::rattle::prelude::*;
 
 use crate::ee_flash::{Shape, Word};

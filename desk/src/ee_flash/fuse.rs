@@ -1,5 +1,6 @@
 // Made by desk/erase from crates/ee_flash/src/fuse.rt. Change that file.
-//! A cut that is to come: how many steps pass before it, and what it leaves of the words of its step.
+//! A cut that is to come: how many steps pass before it, and what it leaves of the words of its
+//! step.
 use crate::rattle::prelude::*;
 
 use crate::ee_flash::Word;
@@ -42,18 +43,11 @@ impl Tear {
     }
 
     /// What a cut erase leaves of the word at this place of its page.
-    fn erased(self, at: usize, word: Word) -> Word {
+    pub(crate) fn erased(self, at: usize, word: Word) -> Word {
         match (self, at % 3) {
             (Tear::Nothing, _) | (Tear::Mixed, 0) => word,
             (Tear::Done, _) | (Tear::Mixed, 1) => Word::Erased,
             _ => Word::Torn,
         }
-    }
-}
-
-/// Tears the words of a page.
-pub(crate) fn tear_words(words: &mut [Word], tear: Tear) {
-    for (at, word) in words.iter_mut().enumerate() {
-        *word = tear.erased(at, *word);
     }
 }

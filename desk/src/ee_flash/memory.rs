@@ -2,20 +2,14 @@
 //! The flash device in memory: its words, the wears of its pages, and a fuse that may cut a step.
 use crate::rattle::prelude::*;
 
-use crate::ee_flash::fuse::tear_words;
-use crate::ee_flash::{Cut, Flash, Fuse, Shape, Tear, Word};
+use crate::ee_flash::{Cells, Cut, Flash, Fuse, Shape, Tear, Word};
 use crate::rattle::alloc::{AllocError, Allocator, Global};
 
-/// Why words and wears are no device.
+/// Why words and wears are no device: they are not as many as the shape says.
 ///
 /// Source: ours.
 #[derive(Clone, Copy, Debug, PartialEq, Eq)]
-pub enum CellFault {
-    /// The words or the wears are not as many as the shape says.
-    WrongLength,
-    /// The word at this index, counted from 0 and the first of its kind, is held at `u64::MAX`.
-    AllOnes(usize),
-}
+pub struct WrongLength;
 
 /// A flash device in memory, with a fuse that may cut a step.
 ///
@@ -23,7 +17,7 @@ pub enum CellFault {
 pub struct MemFlash<A: Allocator = Global> {
     shape: Shape,
     /// The words of the first page, then those of the second, and so on.
-    cells: Vec<Word, A>,
+    cells: Cells<A>,
     wear: Vec<u64, A>,
     cuts: u64,
     on: bool,
@@ -39,7 +33,7 @@ impl<A: Allocator + Copy> MemFlash<A> {
     /// `AllocError`: memory was refused.
     pub fn blank(alloc: A, shape: Shape) -> Result<Self, AllocError> {
         let pages = 2 * shape.pages();
-        let cells = vec![in alloc; Word::Erased; pages * shape.words()]?;
+        let cells = Cells::erased(alloc, pages * shape.words())?;
         let wear = vec![in alloc; 0; pages]?;
         Ok(MemFlash {
             shape,
@@ -59,19 +53,12 @@ impl<A: Allocator> MemFlash<A> {
     ///
     /// # Errors
     ///
-    /// The first that applies, and both vectors are dropped: `WrongLength`, where the words or the
-    /// wears are not those of two sets of pages; `AllOnes`, where a word is held at `u64::MAX`.
-    pub fn from_cells(
-        shape: Shape,
-        cells: Vec<Word, A>,
-        wear: Vec<u64, A>,
-    ) -> Result<Self, CellFault> {
+    /// `WrongLength`, where the words or the wears are not those of two sets of
+    /// pages. Both are dropped.
+    pub fn from_cells(shape: Shape, cells: Cells<A>, wear: Vec<u64, A>) -> Result<Self, WrongLength> {
         let pages = 2 * shape.pages();
         if cells.len() != pages * shape.words() || wear.len() != pages {
-            return Err(CellFault::WrongLength);
-        }
-        if let Some(at) = first_all_ones(&cells) {
-            return Err(CellFault::AllOnes(at));
+            return Err(WrongLength);
         }
         Ok(MemFlash {
             shape,
@@ -126,7 +113,7 @@ impl<A: Allocator> MemFlash<A> {
     /// Puts a word in a place, whatever was there.
     fn set_word(&mut self, page: usize, at: usize, word: Word) {
         let start = self.page_start(page);
-        self.cells[start + at] = word;
+        self.cells.set(start + at, word);
     }
 
     /// Counts an erase of a page.
@@ -137,30 +124,7 @@ impl<A: Allocator> MemFlash<A> {
     /// Leaves a page as an erase with this tear does, a whole one where it is `Done`.
     fn tear_page(&mut self, page: usize, tear: Tear) {
         let start = self.page_start(page);
-        let end = start + self.shape.words();
-        tear_words(&mut self.cells[start..end], tear);
-    }
-}
-
-/// Whether the word is held at `u64::MAX`.
-fn is_all_ones(word: Word) -> bool {
-    matches!(word, Word::Held(u64::MAX))
-}
-
-/// The index of the first word that is held at `u64::MAX`.
-fn first_all_ones(words: &[Word]) -> Option<usize> {
-    for (at, word) in words.iter().enumerate() {
-        if is_all_ones(*word) {
-            return Some(at);
-        }
-    }
-    None
-}
-
-/// Puts the numbers of these words into the room, which is as long.
-fn put_numbers(words: &[Word], room: &mut [u64]) {
-    for (at, number) in room.iter_mut().enumerate() {
-        *number = words[at].number();
+        self.cells.tear(start, start + self.shape.words(), tear);
     }
 }
 
@@ -178,13 +142,11 @@ impl<A: Allocator> Flash for MemFlash<A> {
     }
 
     fn word(&self, page: usize, at: usize) -> Word {
-        self.cells[self.page_start(page) + at]
+        self.cells.word(self.page_start(page) + at)
     }
 
     fn run<'a>(&'a self, page: usize, at: usize, room: &'a mut [u64]) -> &'a [u64] {
-        let start = self.page_start(page) + at;
-        put_numbers(&self.cells[start..start + room.len()], room);
-        room
+        self.cells.numbers(self.page_start(page) + at, room.len())
     }
 
     /// Programs an erased word, as any device does; what a cut leaves is what the fuse says.

@@ -25,14 +25,16 @@
 //! (`some_page_wears`).
 use crate::rattle::prelude::*;
 
+mod cells;
 mod device;
 mod fuse;
 mod memory;
 mod shape;
 mod word;
 
+pub use cells::Cells;
 pub use device::{Cut, Flash};
 pub use fuse::{Fuse, Tear};
-pub use memory::{CellFault, MemFlash};
+pub use memory::{MemFlash, WrongLength};
 pub use shape::{HEADER_WORDS, Shape};
 pub use word::Word;

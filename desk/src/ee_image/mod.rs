@@ -9,11 +9,12 @@
 //!
 //! # What is proved
 //!
-//! What `read_image` reads is a device's text, and that device is on, with no cuts and no fuse (`found`, `at_rest`);
-//! every device's text is read, want of memory aside, and every other text has one fault, which is named (`only`,
-//! `fault`, `names`). `write_image` appends the text of any device, or leaves its buffer as it was (`ok`, `err`).
-//! `laws`: each text is a device's or has a fault; devices are told apart by their texts but for power and cuts, and no
-//! text has two faults, or a fault and a device.
+//! What `read_image` reads is a device's text, and that device is on, with no cuts and no fuse
+//! (`found`, `at_rest`); every device's text is read, want of memory aside, and every other text
+//! has one fault, which is named (`only`, `fault`, `names`). `write_image` appends the text of any
+//! device, or leaves its buffer as it was (`ok`, `err`). `laws`: each text is a device's or has a
+//! fault; devices are told apart by their texts but for power and cuts, and no text has two faults,
+//! or a fault and a device.
 use crate::rattle::prelude::*;
 
 mod fault;

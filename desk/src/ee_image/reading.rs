@@ -4,7 +4,7 @@ use crate::rattle::prelude::*;
 
 use crate::ee_image::ImageFault;
 use crate::ee_image::word::leading_word;
-use crate::ee_flash::{MemFlash, Shape, Word};
+use crate::ee_flash::{Cells, MemFlash, Shape, Word};
 use crate::ee_text::{Fields, next_field, next_line, number};
 use crate::rattle::alloc::Allocator;
 
@@ -19,9 +19,10 @@ const MOST_WEAR_BYTES: usize = 21;
 ///
 /// # Errors
 ///
-/// The first that applies: `TooLong`, more than 4194304 bytes; `BadLine(1)`, no size in the first line; `BadShape`, no
-/// 1 to 64 pages in each set or no 5 to 512 words in a page; `BadLine(n)`, the first line that is no page's, or is
-/// missing, or is one too many. `Memory`, memory ran out, can come in place of any answer but `TooLong`.
+/// The first that applies: `TooLong`, more than 4194304 bytes; `BadLine(1)`, no size in the first
+/// line; `BadShape`, no 1 to 64 pages in each set or no 5 to 512 words in a page; `BadLine(n)`, the
+/// first line that is no page's, or is missing, or is one too many. `Memory`, memory ran out, can
+/// come in place of any answer but `TooLong`.
 ///
 /// Source: ours.
 pub fn read_image<A: Allocator + Copy>(alloc: A, bytes: &[u8]) -> Result<MemFlash<A>, ImageFault> {
@@ -37,7 +38,7 @@ pub fn read_image<A: Allocator + Copy>(alloc: A, bytes: &[u8]) -> Result<MemFlas
     let (cells, wear) = read_pages(alloc, shape, rest)?;
     match MemFlash::from_cells(shape, cells, wear) {
         Ok(flash) => Ok(flash),
-        Err(_) => unreachable!("each page has its words and its wear, and no word is all ones"),
+        Err(_) => unreachable!("each page has its words and its wear"),
     }
 }
 
@@ -94,9 +95,9 @@ fn read_pages<A: Allocator + Copy>(
     alloc: A,
     shape: Shape,
     text: &[u8],
-) -> Result<(Vec<Word, A>, Vec<u64, A>), ImageFault> {
+) -> Result<(Cells<A>, Vec<u64, A>), ImageFault> {
     let pages = 2 * shape.pages();
-    let mut cells = Vec::with_capacity(alloc, pages * shape.words())?;
+    let mut cells = Cells::with_capacity(alloc, pages * shape.words())?;
     let mut wear = Vec::with_capacity(alloc, pages)?;
     let mut rest = text;
     for page in 0..pages {
@@ -122,7 +123,7 @@ fn read_pages<A: Allocator + Copy>(
 fn next_page<'a, A: Allocator>(
     text: &'a [u8],
     words: usize,
-    cells: &mut Vec<Word, A>,
+    cells: &mut Cells<A>,
 ) -> Result<(u64, &'a [u8]), PageFault> {
     let Some((wear, rest)) = leading_wear(text) else {
         return Err(PageFault::Bad);
@@ -140,12 +141,12 @@ fn leading_wear(text: &[u8]) -> Option<(u64, &[u8])> {
     Some((number(field)?, &text[field.len()..]))
 }
 
-/// Reads so many words, each behind one space, and gives what stands behind them. They go to the end
-/// of `cells`; after an error there may be a part of them.
+/// Reads so many words, each behind one space, and gives what stands behind them. They go to the
+/// end of `cells`; after an error there may be a part of them.
 fn read_words<'a, A: Allocator>(
     text: &'a [u8],
     count: usize,
-    cells: &mut Vec<Word, A>,
+    cells: &mut Cells<A>,
 ) -> Result<&'a [u8], PageFault> {
     let mut rest = text;
     for _ in 0..count {

@@ -30,8 +30,8 @@ fn leading_held(text: &[u8]) -> Option<(Word, &[u8])> {
     Some((Word::Held(read_digits(digits)?), behind))
 }
 
-/// The number, below `u64::MAX`, that sixteen digits spell. `hex` takes upper case too, so the text is
-/// compared with what would be written.
+/// The number, below `u64::MAX`, that sixteen digits spell. `hex` takes upper case too, so the text
+/// is compared with what would be written.
 fn read_digits(text: &[u8; 16]) -> Option<u64> {
     let value = u64::from_be_bytes(<[u8; 8]>::from_hex(text).ok()?);
     if digits_of(value) != *text || value == u64::MAX {

@@ -26,8 +26,8 @@ pub struct ImageAndText<A: Allocator = Global> {
 ///
 /// # Errors
 ///
-/// The first that applies: the text spells no device, or the device is not legal. Memory can run out in place of any
-/// answer.
+/// The first that applies: the text spells no device, or the device is not legal. Memory can run
+/// out in place of any answer.
 pub fn open_image<A: Allocator + Copy>(
     alloc: A,
     image: &[u8],

@@ -1,8 +1,9 @@
 // Made by desk/erase from crates/ee_index/src/costs.rt. Change that file.
-//! When an index pays: what looking for values has cost a store without one, beside what an index would cost.
+//! When an index pays: what looking for values has cost a store without one, beside what
+//! an index would cost.
 //!
-//! All is counted in looks at a slot for a value, each some ten instructions. The figures of an index were taken by
-//! callgrind.
+//! All is counted in looks at a slot for a value, each some ten instructions. The figures of an
+//! index were taken by callgrind.
 use crate::rattle::prelude::*;
 
 /// What a look through the slots for a value costs besides.
@@ -29,19 +30,20 @@ const KEEPING: u64 = 6;
 /// What an index costs for each live address when they are moved.
 const MOVING: u64 = 5;
 
-/// What an index costs with each read, where its addresses rise evenly. Else it costs more, the more often they can be
-/// halved.
+/// What an index costs with each read, where its addresses rise evenly. Else it costs more, the
+/// more often they can be halved.
 const READING: u64 = 6;
 
-/// An index is made when looking has cost so many times what it may cost, so that it takes no more than a tenth of what
-/// the lines before it took.
+/// An index is made when looking has cost so many times what it may cost, so that it takes no more
+/// than a tenth of what the lines before it took.
 const TIMES: u64 = 10;
 
 /// What looking through the slots costs and what an index costs, from line to line.
 #[derive(Clone, Copy)]
 pub struct Costs {
     has_index: bool,
-    /// How much more looking has cost than an index would have; where there is one, how much it may lose yet.
+    /// How much more looking has cost than an index would have; where there is one, how
+    /// much it may lose yet.
     ahead: u64,
     /// The most that `ahead` comes to.
     most: u64,
@@ -52,7 +54,7 @@ pub struct Costs {
     /// How many reads the measured one stands for.
     apart: u32,
     /// What the next distance is taken from.
-    dice: u32,
+    random: u32,
 }
 
 impl Costs {
@@ -65,11 +67,12 @@ impl Costs {
             losses: 0,
             left: 8,
             apart: 8,
-            dice: 1,
+            random: 1,
         }
     }
 
-    /// An index of so many used slots was made now. It may lose its reserve before it is given back.
+    /// An index of so many used slots was made now. It may lose its reserve before it is given
+    /// back.
     pub fn with_index(self, fill: usize) -> Costs {
         Costs {
             has_index: true,
@@ -109,7 +112,8 @@ impl Costs {
         self.balance(looking(fill), reading(fill));
     }
 
-    /// A value was read. Says whether it is this read's turn to be measured: one of some sixty is, at uneven distances.
+    /// A value was read. Says whether it is this read's turn to be measured: one of some sixty is,
+    /// at uneven distances.
     #[inline]
     pub fn note_read(&mut self) -> bool {
         self.left = self.left.saturating_sub(1);
@@ -122,19 +126,19 @@ impl Costs {
         self.left == 0
     }
 
-    /// This read, which is measured, takes so many looks, or one in an index of so many addresses. It stands for those
-    /// since the one before it.
+    /// This read, which is measured, takes so many looks, or one in an index of so many addresses.
+    /// It stands for those since the one before it.
     pub fn measure_read(&mut self, looks: usize, addresses: usize) {
         let reads = u64::from(self.apart);
         self.balance(
             looking(looks).saturating_mul(reads),
             reading(addresses).saturating_mul(reads),
         );
-        self.dice = self
-            .dice
+        self.random = self
+            .random
             .wrapping_mul(1_664_525)
             .wrapping_add(1_013_904_223);
-        self.apart = 1 + (self.dice >> 25);
+        self.apart = 1 + (self.random >> 25);
         self.left = self.apart;
     }
 
@@ -146,7 +150,8 @@ impl Costs {
         self.ahead >= self.price(fill).saturating_mul(TIMES)
     }
 
-    /// Whether an index pays for one count of so many live addresses, in a set of which so many slots are used.
+    /// Whether an index pays for one count of so many live addresses, in a set of which so
+    /// many slots are used.
     pub fn pays_for_a_count(&self, live: usize, fill: usize, slots: usize) -> bool {
         count_cost(live, fill, slots) >= self.price(fill)
     }
@@ -156,8 +161,9 @@ impl Costs {
         making(fill).saturating_add(self.reserve(fill))
     }
 
-    /// What an index may lose against looking before it is given back: half of what its making costs, and twice as much
-    /// each time that this was too little, for a move may be still to come that makes up for it.
+    /// What an index may lose against looking before it is given back: half of what its making
+    /// costs, and twice as much each time that this was too little, for a move may be still to come
+    /// that makes up for it.
     fn reserve(&self, fill: usize) -> u64 {
         (making(fill) / 2).saturating_mul(1 << self.losses.min(32))
     }
@@ -189,7 +195,8 @@ fn looking(looks: usize) -> u64 {
     (looks as u64).saturating_add(STARTING)
 }
 
-/// What a read in an index of so many addresses costs, between where they rise evenly and where they don't.
+/// What a read in an index of so many addresses costs, between where they rise evenly
+/// and where they don't.
 fn reading(addresses: usize) -> u64 {
     u64::from((usize::BITS - addresses.leading_zeros()) / 2).saturating_add(READING)
 }

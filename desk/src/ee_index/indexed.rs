@@ -4,7 +4,7 @@ use crate::rattle::prelude::*;
 
 use crate::ee_index::slot_index::{SlotIndex, index_of};
 use crate::ee_core::Store;
-use crate::ee_core::inner::{finish, store_of};
+use crate::ee_core::inner::{Known, finish, store_of};
 use crate::ee_flash::{Cut, Flash};
 use crate::ee_pages::{ScanFault, scan};
 use crate::rattle::alloc::{Allocator, Global};
@@ -22,8 +22,8 @@ pub enum IndexedFault {
     Cut,
 }
 
-/// Variables in a flash device, with an index in memory: the slot in which each live address stands.
-/// A read is one look in the index and one word of the flash.
+/// Variables in a flash device, with an index in memory: the slot in which each live address
+/// stands. A read is one look in the index and one word of the flash.
 ///
 /// Source: two sets, of which one takes the writes, AN4894; the rest is ours.
 pub type IndexedStore<F, A = Global> = Store<F, SlotIndex<A>>;
@@ -46,12 +46,12 @@ pub fn open_indexed<F: Flash, A: Allocator + Copy>(
         Err(fault) => return Err((flash, IndexedFault::Scan(fault))),
     };
     // The index is made before the first step, so want of memory leaves the device as it was.
-    let index = match index_of(alloc, &flash, &layout) {
+    let lookup = match index_of(alloc, &flash, &layout) {
         Ok(index) => index,
         Err(_) => return Err((flash, IndexedFault::Memory)),
     };
     match finish(&mut flash, &layout) {
-        Ok(()) => Ok(store_of(flash, layout, index)),
+        Ok(()) => Ok(store_of(flash, Known { layout, lookup })),
         Err(Cut) => Err((flash, IndexedFault::Cut)),
     }
 }

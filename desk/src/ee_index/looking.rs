@@ -1,6 +1,6 @@
 // Made by desk/erase from crates/ee_index/src/looking.rt. Change that file.
-//! Looks through the slots of a set by which a kind of store is chosen. No clause says what they find: whatever it is,
-//! the store that is chosen by it keeps the contract of `Variables`.
+//! Looks through the slots of a set by which a kind of store is chosen. No clause says what they
+//! find: whatever it is, the store that is chosen by it keeps the contract of `Variables`.
 use crate::rattle::prelude::*;
 
 use crate::ee_codec::{Address, Slot, ends_in, read_slot};
@@ -81,7 +81,7 @@ impl<A: Allocator> Told<A> {
 }
 
 /// How many slots a look for the value of an address goes through, from the newest down.
-pub fn looks_for<F: Flash>(flash: &F, layout: &Layout, address: Address) -> usize {
+pub fn look_count<F: Flash>(flash: &F, layout: &Layout, address: Address) -> usize {
     let first = first_page(flash, layout.side);
     let mut looks: usize = 0;
     for page in (0..2 * flash.shape().pages()).rev() {

@@ -2,8 +2,11 @@
 //! Values are found by an index, which follows each change.
 use crate::rattle::prelude::*;
 
-use crate::ee_index::index::{Index, batch_indexed, count_new, next_indexed, read_index, value_in};
-use crate::ee_index::index_changing::{append_indexed, enter_slot, make_room, move_indexed};
+use crate::ee_index::gathering::read_index;
+use crate::ee_index::index::Index;
+use crate::ee_index::index_changing::{append_indexed, enter_hidden, move_indexed};
+use crate::ee_index::listing::Listing;
+use crate::ee_index::reading::{batch_indexed, count_new, next_indexed, slot_in, value_indexed};
 use crate::ee_codec::Address;
 use crate::ee_core::inner::Change;
 use crate::ee_core::{Lookup, NoMemory, Put};
@@ -29,10 +32,10 @@ pub fn index_of<F: Flash, A: Allocator + Copy>(
 }
 
 impl<A: Allocator> SlotIndex<A> {
-    /// How many used slots, of so many, a look for the value of an address would go through, from the newest back to the
-    /// one that has it: all, if none has.
-    pub fn looks_for(&self, fill: usize, address: Address) -> usize {
-        match self.index.get(address) {
+    /// How many used slots, of so many, a look for the value of an address would go through, from
+    /// the newest back to the one that has it: all, if none has.
+    pub fn look_count(&self, fill: usize, address: Address) -> usize {
+        match slot_in(&self.index, address) {
             None => fill,
             Some(slot) => fill.saturating_sub(slot),
         }
@@ -40,24 +43,21 @@ impl<A: Allocator> SlotIndex<A> {
 
     /// How many addresses have a value.
     pub fn count(&self) -> usize {
-        self.index.len()
+        self.index.entries().len()
     }
 }
 
 impl<A: Allocator + Copy> Lookup for SlotIndex<A> {
     fn value_of<F: Flash>(&self, flash: &F, layout: &Layout, address: Address) -> Option<u32> {
-        match self.index.get(address) {
-            None => None,
-            Some(number) => Some(value_in(flash, layout, number)),
-        }
+        value_indexed(&self.index, flash, layout, address)
     }
 
     fn live_count<F: Flash>(&self, flash: &F, layout: &Layout) -> usize {
-        self.index.len()
+        self.index.entries().len()
     }
 
     fn live_with<F: Flash>(&self, flash: &F, layout: &Layout, puts: &[Put]) -> usize {
-        self.index.len() + count_new(&self.index, puts)
+        self.index.entries().len() + count_new(&self.index, puts)
     }
 
     fn next_live<F: Flash>(
@@ -84,7 +84,7 @@ impl<A: Allocator + Copy> Lookup for SlotIndex<A> {
         layout: &Layout,
         put: Put,
     ) -> Result<(), NoMemory> {
-        let Ok(()) = enter_slot(&mut self.index, put.address, layout.fill) else {
+        let Ok(()) = self.index.insert(put.address, layout.fill) else {
             return Err(NoMemory);
         };
         Ok(())
@@ -123,5 +123,18 @@ impl<A: Allocator + Copy> Lookup for SlotIndex<A> {
         forgets: bool,
     ) -> Result<(), Cut> {
         move_indexed(flash, layout, &mut self.index, puts, forgets)
+    }
+}
+
+/// Makes room in an index for the slots of these values: each new address gets a number that is no
+/// used slot's, of which there are so many. An `Err`, which only a new address meets, leaves the
+/// entries of used slots alone.
+fn make_room<A: Allocator>(index: &mut Index<A>, puts: &[Put], fill: usize) -> Result<(), NoMemory> {
+    match enter_hidden(index, puts, fill) {
+        Ok(()) => Ok(()),
+        Err(refused) => {
+            index.retain_used(fill);
+            Err(refused)
+        }
     }
 }

@@ -10,8 +10,8 @@ use crate::ee_pages::side::{Side, first_page};
 use crate::ee_codec::Address;
 use crate::ee_flash::{Flash, HEADER_WORDS};
 
-/// The live addresses of a stretch of addresses, with their values: as many as are found in one look
-/// through the slots.
+/// The live addresses of a stretch of addresses, with their values: as many as are found in one
+/// look through the slots.
 ///
 /// Source: ours.
 pub struct LiveBatch {
@@ -36,8 +36,8 @@ impl LiveBatch {
 
 /// Puts the next live addresses above `after`, or the first of all if `after` is `None`, into a
 /// batch, with their values, in place of what it held: up to `BATCH`, from one look through the
-/// slots. There may be none, and more behind `through`, where addresses were forgotten. The layout is
-/// the image's.
+/// slots. There may be none, and more behind `through`, where addresses were forgotten. The
+/// layout is the image's.
 ///
 /// Source: ours.
 pub fn next_batch<F: Flash>(
@@ -60,8 +60,8 @@ fn number_of(after: Option<Address>) -> u16 {
     }
 }
 
-/// Puts in the next addresses above this one of which a slot says something, each with what the last
-/// one says.
+/// Puts in the next addresses above this one of which a slot says something, each with
+/// what the last one says.
 fn gather<F: Flash>(flash: &F, side: Side, above: u16, nearest: &mut Batch) {
     for page in 0..flash.shape().pages() {
         gather_page(flash, side, page, above, nearest);
@@ -82,27 +82,24 @@ fn gather_page<F: Flash>(flash: &F, side: Side, page: usize, above: u16, nearest
     }
 }
 
-/// Notes what these numbers say, of so many addresses above this one, which are those that have a place
-/// in the batch. Gives how many have one then.
+/// Notes what these numbers say, of so many addresses above this one, which are those that have a
+/// place in the batch. Gives how many have one then.
 #[inline(never)]
 fn note_all(above: u16, span: u32, numbers: &[u64], nearest: &mut Batch) -> u32 {
     let mut span = span;
     for number in numbers {
-        span = note(above, span, *number, nearest);
+        span = note_within(above, span, *number, nearest);
     }
     span
 }
 
 /// Notes what a number says, if it is of one of so many addresses above this one.
-fn note(above: u16, span: u32, number: u64, nearest: &mut Batch) -> u32 {
+fn note_within(above: u16, span: u32, number: u64, nearest: &mut Batch) -> u32 {
     // Asked first, since most words are of an address that has no place in a batch.
     if !is_within(address_in(number), above, span) {
         return span;
     }
-    if nearest.note_last(number) {
-        return span;
-    }
-    if nearest.note(number) {
+    if nearest.note_any(number) {
         span_of(nearest, above)
     } else {
         span

@@ -1,5 +1,6 @@
 // Made by desk/erase from crates/ee_pages/src/batch_items.rt. Change that file.
-//! The room of a batch: up to `BATCH` addresses with their values, and while it is filled some with none.
+//! The room of a batch: up to `BATCH` addresses with their values, and while it is
+//! filled some with none.
 use crate::rattle::prelude::*;
 
 use crate::ee_pages::number::{address_in, gives_value, says_something};
@@ -8,8 +9,8 @@ use crate::ee_codec::{Address, element_word};
 /// How many addresses a batch has room for.
 pub const BATCH: usize = 28;
 
-/// Addresses with their values, up to `BATCH`, in the value itself. While it is filled an address may
-/// stand in it that has no value.
+/// Addresses with their values, up to `BATCH`, in the value itself. While it is filled an address
+/// may stand in it that has no value.
 ///
 /// Source: ours.
 pub struct Batch {
@@ -65,23 +66,12 @@ impl Batch {
         self.len = 0;
     }
 
-    /// Notes what an element or a forgetting says of the last address, if it is of that. It is asked first,
-    /// since an address that changes often has most of the slots.
+    /// Notes what a number with an address says of it, over what was noted of it, if it is that of
+    /// an element or a forgetting. Where there is no room the last address falls out. Says whether
+    /// there may be another last address, or one more, than before. It stands in the loop over a
+    /// run, so that no number of an address that has a place takes a call.
     #[inline(always)]
-    pub(crate) fn note_last(&mut self, number: u64) -> bool {
-        let len = self.len;
-        if len == 0 || !says_something(number) || !self.has(len - 1, address_in(number)) {
-            return false;
-        }
-        self.set(len - 1, number);
-        true
-    }
-
-    /// Notes what a number with an address says of it, over what was noted of it, if it is that of an
-    /// element or a forgetting. Where there is no room the last address falls out. Says whether there may
-    /// be another last address, or one more, than before.
-    #[inline(never)]
-    pub(crate) fn note(&mut self, number: u64) -> bool {
+    pub(crate) fn note_any(&mut self, number: u64) -> bool {
         says_something(number) && self.put(number)
     }
 
@@ -129,7 +119,8 @@ impl Batch {
         Address::new(address_in(self.numbers[BATCH - 1]))
     }
 
-    /// The greatest address that has a place in it: the last one, where there is no room for one more.
+    /// The greatest address that has a place in it: the last one, where there is no room for one
+    /// more.
     pub(crate) fn greatest(&self) -> u16 {
         if self.len < BATCH {
             return u16::MAX - 1;
@@ -148,8 +139,8 @@ fn one_more(count: usize) -> usize {
     if count < BATCH { count + 1 } else { BATCH }
 }
 
-/// How many of these addresses, which rise, are no greater than this one. It looks from the last down,
-/// since most addresses are above all.
+/// How many of these addresses, which rise, are no greater than this one. It looks from the last
+/// down, since most addresses are above all.
 fn place_in(rising: &[u64], address: u16) -> usize {
     let mut place = rising.len();
     while place > 0 && address < address_in(rising[place - 1]) {
@@ -158,8 +149,8 @@ fn place_in(rising: &[u64], address: u16) -> usize {
     place
 }
 
-/// Puts a number in at this place of a list, and moves what stands from there on to before `end` one
-/// further; the last of these falls out.
+/// Puts a number in at this place of a list, and moves what stands from there on to before `end`
+/// one further; the last of these falls out.
 fn put_in(list: &mut [u64], place: usize, end: usize, number: u64) {
     let mut carried = number;
     for at in place..end {

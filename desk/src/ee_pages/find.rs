@@ -1,12 +1,13 @@
 // Made by desk/erase from crates/ee_pages/src/find.rt. Change that file.
-//! The scan: where the live set of a legal image is and how far it is used, or why an image isn't legal.
+//! The scan: where the live set of a legal image is and how far it is used, or why
+//! an image isn't legal.
 use crate::rattle::prelude::*;
 
 use crate::ee_pages::number::is_slot;
 use crate::ee_pages::runs::{RUN, run_from};
 use crate::ee_pages::side::{Side, committed, first_page, set_word};
 use crate::ee_pages::state::{blank_to, is_blank, is_torn};
-use crate::ee_pages::table::{fits, place_of};
+use crate::ee_pages::table::fits_header;
 use crate::ee_flash::{Flash, HEADER_WORDS};
 
 /// Where the live set of a legal image is and how far it is used.
@@ -40,8 +41,8 @@ pub enum ScanFault {
     Foreign { page: usize, at: usize },
 }
 
-/// Finds the live set of a legal image. It reads each word of the live set at most twice, and behind
-/// each torn slot once more the words that stood in one run with it, up to 15.
+/// Finds the live set of a legal image. It reads each word of the live set at most twice, and
+/// behind each torn slot once more the words that stood in one run with it, up to 15.
 ///
 /// Source: one of two sets takes the writes, AN4894; the rest is ours.
 ///
@@ -99,96 +100,88 @@ fn live_set<F: Flash>(flash: &F) -> Result<(Side, u32), ScanFault> {
     }
 }
 
-/// How many slots of a live set are used, and the page of the last of them, the first page where none
-/// is; or the first word, by page and then place, that may not stand there. Pages are counted from the
-/// set's first.
+/// How many slots of a live set are used, and the page of the last of them, the first page where
+/// none is; or the first word, by page and then place, that may not stand there. Pages are counted
+/// from the set's first.
 fn front_of<F: Flash>(
     flash: &F,
     side: Side,
     generation: u32,
 ) -> Result<(usize, usize), (usize, usize)> {
     let shape = flash.shape();
+    let slots = shape.words() - HEADER_WORDS;
+    let mut used = 0;
+    let mut last = 0;
     for page in 0..shape.pages() {
-        match front_of_page(flash, side, generation, page) {
+        match used_of_page(flash, side, generation, page, used == page * slots) {
             Err(at) => return Err((page, at)),
-            Ok(used) => {
-                if used < shape.words() - HEADER_WORDS {
-                    return front_in(flash, side, page, used);
+            Ok(here) => {
+                if here > 0 {
+                    last = page;
                 }
+                used += here;
             }
         }
     }
-    Ok((shape.slots(), shape.pages() - 1))
+    Ok((used, last))
 }
 
-/// The same, where the first slot that isn't used is this one of a page: behind it all has to be erased.
-fn front_in<F: Flash>(
-    flash: &F,
-    side: Side,
-    page: usize,
-    used: usize,
-) -> Result<(usize, usize), (usize, usize)> {
-    blank_behind(flash, side, page)?;
-    let slots = flash.shape().words() - HEADER_WORDS;
-    let last = if used == 0 {
-        page.saturating_sub(1)
-    } else {
-        page
-    };
-    Ok((page * slots + used, last))
-}
-
-/// That the pages of a set behind this one are blank, or their first word, by page and then place, that
-/// is written.
-fn blank_behind<F: Flash>(flash: &F, side: Side, page: usize) -> Result<(), (usize, usize)> {
-    let shape = flash.shape();
-    let first = first_page(flash, side);
-    for behind in page + 1..shape.pages() {
-        let at = blank_to(flash, first + behind, 0);
-        if at < shape.words() {
-            return Err((behind, at));
-        }
-    }
-    Ok(())
-}
-
-/// How many slots of a page of a live set are used, where all before them are; or the first word of the
-/// page that may not stand there.
-fn front_of_page<F: Flash>(
+/// How many slots of a page of a live set are used, none where not all before them are; or the
+/// first word of the page that may not stand there.
+fn used_of_page<F: Flash>(
     flash: &F,
     side: Side,
     generation: u32,
     page: usize,
+    full: bool,
 ) -> Result<usize, usize> {
-    if let Some(at) = foreign_in_header(flash, side, generation, page) {
-        return Err(at);
-    }
-    let here = first_page(flash, side) + page;
-    let end = used_to(flash, here);
-    // Behind the slots that are used all have to be erased, the next one first of all.
-    let written = blank_to(flash, here, end);
+    let from = unused_from(flash, side, generation, page, full)?;
+    // From there on all have to be erased, the next slot first of all.
+    let written = blank_to(flash, first_page(flash, side) + page, from);
     if written < flash.shape().words() {
         return Err(written);
     }
-    Ok(end - HEADER_WORDS)
+    Ok(from.saturating_sub(HEADER_WORDS))
+}
+
+/// The place in a page of a live set from which on all has to be erased: behind its used slots, or
+/// its first word where not all slots before it are used. Or the first word of its header that
+/// doesn't fit its place.
+fn unused_from<F: Flash>(
+    flash: &F,
+    side: Side,
+    generation: u32,
+    page: usize,
+    full: bool,
+) -> Result<usize, usize> {
+    if !full {
+        return Ok(0);
+    }
+    match foreign_in_header(flash, side, generation, page) {
+        Some(at) => Err(at),
+        None => Ok(used_to(flash, first_page(flash, side) + page)),
+    }
 }
 
 /// The first word of the header of a page of a live set that doesn't fit its place.
 fn foreign_in_header<F: Flash>(flash: &F, side: Side, generation: u32, page: usize) -> Option<usize> {
-    for at in 0..HEADER_WORDS {
-        if !fits(
-            generation,
-            place_of(page, at),
-            set_word(flash, side, page, at),
-        ) {
+    for at in first_told(page)..HEADER_WORDS {
+        if !fits_header(generation, at, set_word(flash, side, page, at)) {
             return Some(at);
         }
     }
     None
 }
 
-/// The place of a page's first slot that is neither torn nor has an element or a forgetting; as many as
-/// the page has words where each is or has. It stays out of the opening, whose stack is deep without it.
+/// The place from which on the words of a header have to fit: those that commit the
+/// set are told apart.
+fn first_told(page: usize) -> usize {
+    if page == 0 { 2 } else { 0 }
+}
+
+/// The place of a page's first slot that is neither torn nor has an element or a forgetting;
+/// as many as the page has words where each is or has. It stays out of the opening, whose
+/// stack is deep without it.
 #[inline(never)]
 fn used_to<F: Flash>(flash: &F, page: usize) -> usize {
     let words = flash.shape().words();

@@ -50,7 +50,7 @@ pub use batch_items::{BATCH, Batch};
 pub use find::{Layout, ScanFault, scan};
 pub use judging::{RescuedSet, is_bad_word, rescued_set};
 pub use marking::mark;
-pub use read::{latest, live_count, next_live, slot_word, torn_slots};
+pub use read::{latest, live_count, next_live, slot_value, slot_word, torn_slots};
 pub use rescue::{bad_words, named_generation, rescued_side};
 pub use side::{Side, first_page};
 pub use state::{Mark, State, is_blank, state_of};

@@ -1,12 +1,13 @@
 // Made by desk/erase from crates/ee_pages/src/read.rt. Change that file.
-//! What the slots of a live set say: values, the next live address, how many are live, how many torn.
+//! What the slots of a live set say: values, the next live address, how many are
+//! live, how many torn.
 use crate::rattle::prelude::*;
 
 use crate::ee_pages::batch::{LiveBatch, next_batch};
 use crate::ee_pages::find::Layout;
 use crate::ee_pages::number::{address_in, gives_value, says_something};
 use crate::ee_pages::runs::RUN;
-use crate::ee_pages::side::{Side, first_page, page_slot, set_slot};
+use crate::ee_pages::side::{Side, first_page, page_slot, set_number, set_slot};
 use crate::ee_pages::state::is_torn;
 use crate::ee_codec::Address;
 use crate::ee_flash::{Flash, HEADER_WORDS, Word};
@@ -19,8 +20,17 @@ pub fn slot_word<F: Flash>(flash: &F, layout: &Layout, slot: usize) -> Word {
     set_slot(flash, layout.side, slot)
 }
 
-/// The value of an address, `None` if it has none. It reads the slots in runs from the newest down, each
-/// once, to the run with the first that says something of the address. The layout is the image's.
+/// The value that a slot of the live set says, by the slot's number, counted from 0 and below the
+/// capacity; any number where the slot says none. The layout is the image's.
+///
+/// Source: ours.
+pub fn slot_value<F: Flash>(flash: &F, layout: &Layout, slot: usize) -> u32 {
+    (set_number(flash, layout.side, slot) >> 32) as u32
+}
+
+/// The value of an address, `None` if it has none. It reads the slots in runs from the
+/// newest down, each once, to the run with the first that says something of the address. The
+/// layout is the image's.
 ///
 /// Source: the last element written for an address is its value, AN4894; a forgetting is ours.
 pub fn latest<F: Flash>(flash: &F, layout: &Layout, address: Address) -> Option<u32> {
@@ -62,8 +72,8 @@ pub fn next_live<F: Flash>(
     }
 }
 
-/// How many addresses have a value, 0 to the capacity. It looks through the slots once for each batch
-/// of live addresses. The layout is the image's.
+/// How many addresses have a value, 0 to the capacity. It looks through the slots once for each
+/// batch of live addresses. The layout is the image's.
 ///
 /// Source: ours.
 pub fn live_count<F: Flash>(flash: &F, layout: &Layout) -> usize {
@@ -80,8 +90,8 @@ pub fn live_count<F: Flash>(flash: &F, layout: &Layout) -> usize {
     }
 }
 
-/// How many slots of the live set are torn, 0 to its fill. It reads each slot once. The layout is the
-/// image's.
+/// How many slots of the live set are torn, 0 to its fill. It reads each slot once. The
+/// layout is the image's.
 ///
 /// Source: ours.
 pub fn torn_slots<F: Flash>(flash: &F, layout: &Layout) -> usize {
@@ -92,8 +102,8 @@ pub fn torn_slots<F: Flash>(flash: &F, layout: &Layout) -> usize {
     torn
 }
 
-/// How many slots are torn up to the end of a page of a set, where this many are torn before it. Page
-/// by page, since finding a slot by its number takes a division.
+/// How many slots are torn up to the end of a page of a set, where this many are torn before it.
+/// Page by page, since finding a slot by its number takes a division.
 fn torn_through<F: Flash>(flash: &F, side: Side, page: usize, before: usize) -> usize {
     let mut torn = before;
     for slot in 0..flash.shape().words() - HEADER_WORDS {
@@ -131,8 +141,8 @@ fn said_in_page<F: Flash>(
     None
 }
 
-/// How many of these numbers stand up to the last that ends in an address, 0 where none does. It does no
-/// more than that, since most numbers end in another one.
+/// How many of these numbers stand up to the last that ends in an address, 0 where none does. It
+/// does no more than that, since most numbers end in another one.
 #[inline(never)]
 fn ending_in(numbers: &[u64], address: Address) -> usize {
     let mut left = numbers.len();
@@ -142,8 +152,8 @@ fn ending_in(numbers: &[u64], address: Address) -> usize {
     left
 }
 
-/// What a number says of the address that it ends in: nothing, or that it has a value or none from here
-/// on.
+/// What a number says of the address that it ends in: nothing, or that it has a value
+/// or none from here on.
 fn said(number: u64) -> Option<Option<u32>> {
     if !says_something(number) {
         return None;

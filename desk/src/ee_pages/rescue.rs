@@ -52,8 +52,8 @@ pub fn named_generation<F: Flash>(flash: &F, side: Side) -> u32 {
     1
 }
 
-/// How many words of the set that is rescued are bad: they can't be read, or may not stand where they
-/// stand. 0 to the words of a set, and 0 where no set is begun.
+/// How many words of the set that is rescued are bad: they can't be read, or may not stand where
+/// they stand. 0 to the words of a set, and 0 where no set is begun.
 ///
 /// Source: ours.
 pub fn bad_words<F: Flash>(flash: &F) -> usize {
@@ -99,8 +99,8 @@ fn bad_in_page<F: Flash>(
     bad
 }
 
-/// Whether a word of a set can't be read, or may not stand in its place: `written` slots stand before
-/// the first erased one.
+/// Whether a word of a set can't be read, or may not stand in its place: `written` slots stand
+/// before the first erased one.
 pub(crate) fn is_bad(
     shape: Shape,
     generation: u32,
@@ -115,8 +115,8 @@ pub(crate) fn is_bad(
     is_torn(word) || !allowed || fails_to_commit(page, at, word)
 }
 
-/// How many slots of a set stand before the first erased one. Page by page, since finding a slot by its
-/// number takes a division.
+/// How many slots of a set stand before the first erased one. Page by page, since finding a slot by
+/// its number takes a division.
 pub(crate) fn written_front<F: Flash>(flash: &F, side: Side) -> usize {
     let shape = flash.shape();
     let slots = shape.words() - HEADER_WORDS;

@@ -7,8 +7,8 @@ use crate::ee_flash::Flash;
 /// How many words a loop over a page asks its flash for at once.
 pub(crate) const RUN: usize = 16;
 
-/// The numbers of the words of a page from a place on: up to `RUN` of them, all before `end`, and at
-/// least one.
+/// The numbers of the words of a page from a place on: up to `RUN` of them, all before
+/// `end`, and at least one.
 #[inline(always)]
 pub(crate) fn run_from<'a, F: Flash>(
     flash: &'a F,

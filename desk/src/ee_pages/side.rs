@@ -2,8 +2,11 @@
 //! The two sets of a device, and the places of their pages, words and slots.
 use crate::rattle::prelude::*;
 
-use crate::ee_codec::{MarkRead, read_mark, read_receive};
+use crate::ee_codec::{MARK, read_receive};
 use crate::ee_flash::{Flash, HEADER_WORDS, Word};
+
+/// How many words commit a set: the first ones of its first page.
+const COMMITTING: usize = 2;
 
 /// One of the two sets of pages.
 ///
@@ -52,10 +55,32 @@ pub(crate) fn set_slot<F: Flash>(flash: &F, side: Side, slot: usize) -> Word {
     page_slot(flash, side, slot / slots, slot % slots)
 }
 
+/// The number of the slot of this number of a page of a set, both counted from 0: it says
+/// what the slot says.
+fn page_number<F: Flash>(flash: &F, side: Side, page: usize, slot: usize) -> u64 {
+    let mut room = [0; 1];
+    let run = flash.run(
+        first_page(flash, side) + page,
+        HEADER_WORDS + slot,
+        &mut room,
+    );
+    run[0]
+}
+
+/// The number of the slot of this number of a set, counted from 0: it says what the slot says.
+pub(crate) fn set_number<F: Flash>(flash: &F, side: Side, slot: usize) -> u64 {
+    let slots = flash.shape().words() - HEADER_WORDS;
+    page_number(flash, side, slot / slots, slot % slots)
+}
+
 /// The generation with which a set is committed.
 pub(crate) fn committed<F: Flash>(flash: &F, side: Side) -> Option<u32> {
-    match read_mark(set_word(flash, side, 0, 1)) {
-        MarkRead::Present => read_receive(set_word(flash, side, 0, 0)),
-        _ => None,
+    let mut room = [1; COMMITTING];
+    let numbers = flash.run(first_page(flash, side), 0, &mut room[..COMMITTING]);
+    // A torn word is 0 in a run, and an erased one all ones: neither is a mark or a receive word.
+    if numbers[1] == MARK {
+        read_receive(Word::Held(numbers[0]))
+    } else {
+        None
     }
 }

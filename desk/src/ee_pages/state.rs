@@ -59,26 +59,25 @@ pub fn state_of<F: Flash>(flash: &F, page: usize) -> State {
 ///
 /// Source: ours.
 pub fn is_blank<F: Flash>(flash: &F, page: usize) -> bool {
-    // Asked first, since it is written in most pages that aren't blank.
-    if is_written(flash.word(page, 0)) {
-        return false;
-    }
     blank_to(flash, page, 0) == flash.shape().words()
 }
 
-/// The place, from one on, of a page's first word that is written; as many as it has words where none
-/// is.
+/// The place, from one on, of a page's first word that is written; as many as it has
+/// words where none is.
 pub(crate) fn blank_to<F: Flash>(flash: &F, page: usize, from: usize) -> usize {
     let words = flash.shape().words();
     let mut room = [1; RUN];
     let mut at = from;
+    // The first run has one word, since that is written in most pages that aren't blank.
+    let mut end = from + 1;
     while at < words {
-        let run = run_from(flash, page, at, words, &mut room);
+        let run = run_from(flash, page, at, end, &mut room);
         // Asked first, since most runs are, and it is a shorter loop than one that counts.
         if !is_erased(run) {
             return at + erased_in(run);
         }
         at += run.len();
+        end = words;
     }
     words
 }

@@ -3,7 +3,7 @@
 use crate::rattle::prelude::*;
 
 use crate::ee_pages::state::is_written;
-use crate::ee_codec::{MarkRead, Slot, read_mark, read_slot, receive_word};
+use crate::ee_codec::{MARK, MarkRead, Slot, read_mark, read_slot, receive_word};
 use crate::ee_flash::Word;
 
 /// The places of a live set, by what may stand in them.
@@ -38,8 +38,9 @@ pub(crate) fn place_of(page: usize, at: usize) -> Place {
     }
 }
 
-/// Whether the word may stand in the place of a live set of this generation. It stands in each of its
-/// callers, so that an opening has the same code in firmware whether bad words are counted or not.
+/// Whether the word may stand in the place of a live set of this generation. It stands in
+/// each of its callers, so that an opening has the same code in firmware whether bad words
+/// are counted or not.
 #[inline(always)]
 pub(crate) fn fits(generation: u32, place: Place, word: Word) -> bool {
     match place {
@@ -51,5 +52,20 @@ pub(crate) fn fits(generation: u32, place: Place, word: Word) -> bool {
         Place::Marking => !matches!(read_mark(word), MarkRead::Foreign),
         Place::Erasing => !is_written(word),
         Place::InSlot => !matches!(read_slot(word), Slot::Foreign),
+    }
+}
+
+/// Whether the word may stand in this place of the header of a page of a live set of this
+/// generation, but for the two that commit the set. It does so exactly where `fits` does.
+pub(crate) fn fits_header(generation: u32, at: usize, word: Word) -> bool {
+    let expected = if at == 0 {
+        receive_word(generation)
+    } else {
+        MARK
+    };
+    match word {
+        Word::Erased => true,
+        Word::Torn => at < 3,
+        Word::Held(number) => at < 3 && number == expected,
     }
 }

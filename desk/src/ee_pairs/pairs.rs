@@ -4,11 +4,12 @@ use crate::rattle::prelude::*;
 
 use crate::ee_pairs::low_pair::{LowPair, first_low};
 use crate::ee_pairs::nor::Nor;
-use crate::ee_pairs::runs::fill_run;
+use crate::ee_pairs::runs::{fill_run, is_whole};
 use crate::ee_pairs::wiping::wipe;
 use crate::ee_flash::{Cut, Flash, Shape, Word};
 
-/// A device of words on a flash of numbers: each word is two of them, a value beside its complement.
+/// A device of words on a flash of numbers: each word is two of them, a value beside its
+/// complement.
 ///
 /// Source: ours.
 pub struct Pairs<N: Nor> {
@@ -16,13 +17,15 @@ pub struct Pairs<N: Nor> {
 }
 
 impl<N: Nor> Pairs<N> {
-    /// The device of words of a flash that a store wrote, or that is blank. It reads each number once, whether power is on
-    /// or off, and changes nothing. Of a flash that clears first it reads none: there a cut erase leaves any numbers.
+    /// The device of words of a flash that a store wrote, or that is blank. It reads each number
+    /// once, whether power is on or off, and changes nothing. Of a flash that clears first it reads
+    /// none: there a cut erase leaves any numbers.
     ///
     /// # Errors
     ///
-    /// `LowPair`, with the flash as it was: it doesn't clear first, and this is the first word whose two numbers sum to less
-    /// than `u64::MAX`. The flash held something else; `wipe` makes it blank.
+    /// `LowPair`, with the flash as it was: it doesn't clear first, and this is the first
+    /// word whose two numbers sum to less than `u64::MAX`. The flash held something else;
+    /// `wipe` makes it blank.
     pub fn of(nor: N) -> Result<Pairs<N>, (N, LowPair)> {
         if nor.clears_first() {
             return Ok(Pairs { nor });
@@ -33,12 +36,13 @@ impl<N: Nor> Pairs<N> {
         }
     }
 
-    /// The device of words of a flash that may hold anything: each page that isn't blank is erased, by rising page. The flash
-    /// is on, as a condition.
+    /// The device of words of a flash that may hold anything: each page that isn't blank is erased,
+    /// by rising page. The flash is on, as a condition.
     ///
     /// # Errors
     ///
-    /// `Cut`, with the flash, which is off: power failed in an erase. The pages before it are blank.
+    /// `Cut`, with the flash, which is off: power failed in an erase. The pages
+    /// before it are blank.
     pub fn wipe(mut nor: N) -> Result<Pairs<N>, (N, Cut)> {
         match wipe(&mut nor) {
             Ok(()) => Ok(Pairs { nor }),
@@ -46,8 +50,10 @@ impl<N: Nor> Pairs<N> {
         }
     }
 
-    /// The device of words of a flash that clears first, or of which it is known that no word's numbers sum to less than
-    /// `u64::MAX`, since it was looked at before and only such devices wrote to it. Nothing is read.
+    /// The device of words of a flash that clears first, or of which it is known that no word's
+    /// numbers sum to less than `u64::MAX`, since it was looked at before and only such devices
+    /// wrote to it. Where power is cut in no step, it is of any flash, as of one that `of` refuses
+    /// and that is rescued: such a word is torn. Nothing is read.
     pub fn known(nor: N) -> Pairs<N> {
         Pairs { nor }
     }
@@ -58,23 +64,18 @@ impl<N: Nor> Pairs<N> {
     }
 }
 
-/// The word that two numbers are: erased where both are `u64::MAX`, held where the second is the complement of the first, which
-/// is below `u64::MAX`; else torn.
+/// The word that two numbers are: erased where both are `u64::MAX`, held where the second is the
+/// complement of the first, which is below `u64::MAX`; else torn.
 ///
 /// Source: ours.
 pub fn word_of(number: u64, check: u64) -> Word {
+    if !is_whole(number, check) {
+        return Word::Torn;
+    }
     if number == u64::MAX {
-        return if check == u64::MAX {
-            Word::Erased
-        } else {
-            Word::Torn
-        };
+        return Word::Erased;
     }
-    if check == complement_of(number) {
-        Word::Held(number)
-    } else {
-        Word::Torn
-    }
+    Word::Held(number)
 }
 
 /// The number that has a one where this one has a zero.

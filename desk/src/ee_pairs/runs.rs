@@ -3,7 +3,6 @@
 use crate::rattle::prelude::*;
 
 use crate::ee_pairs::nor::Nor;
-use crate::ee_pairs::pairs::word_of;
 
 /// Puts the numbers of as many words as there is room for into the room, from a place of a page on:
 /// those that the flash has in memory are not read one by one.
@@ -16,8 +15,8 @@ pub(crate) fn fill_run<N: Nor>(nor: &N, page: usize, at: usize, room: &mut [u64]
 
 /// The same of numbers in memory, two of each word.
 fn fill_from_window(numbers: &[u64], room: &mut [u64]) {
-    for (word, number) in room.iter_mut().enumerate() {
-        *number = number_of_pair(numbers[2 * word], numbers[2 * word + 1]);
+    for word in 0..room.len() {
+        room[word] = number_of_pair(numbers[2 * word], numbers[2 * word + 1]);
     }
 }
 
@@ -31,5 +30,22 @@ fn fill_by_reading<N: Nor>(nor: &N, page: usize, at: usize, room: &mut [u64]) {
 
 /// The number of the word that two numbers are: `u64::MAX` of an erased word, 0 of a torn one.
 fn number_of_pair(number: u64, check: u64) -> u64 {
-    word_of(number, check).number()
+    if is_whole(number, check) { number } else { 0 }
+}
+
+/// Whether two numbers are a word that isn't torn. It looks at halves of 32 bits, which is shorter
+/// on the cores of firmware.
+#[inline(always)]
+pub(crate) fn is_whole(number: u64, check: u64) -> bool {
+    let (low, high) = halves(number);
+    let (check_low, check_high) = halves(check);
+    if low & high == u32::MAX {
+        return check_low & check_high == u32::MAX;
+    }
+    low.wrapping_add(check_low) & high.wrapping_add(check_high) == u32::MAX
+}
+
+/// The lower and the upper 32 bits of a number.
+fn halves(number: u64) -> (u32, u32) {
+    ((number & 0xffff_ffff) as u32, (number >> 32) as u32)
 }

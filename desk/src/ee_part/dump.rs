@@ -10,16 +10,17 @@ use crate::ee_image_store::text_of;
 use crate::rattle::alloc::Allocator;
 
 /// The text of the image of a part of this shape whose words a dump has: those of both sets, page
-/// after page, each in eight bytes with the least first, and an erased word as eight bytes of 255; or, of
-/// pairs, with those of its complement behind, and what is neither as a torn word. No page of it has wear.
+/// after page, each in eight bytes with the least first, and an erased word as eight bytes of
+/// 255; or, of pairs, with those of its complement behind, and what is neither as a torn word. No
+/// page of it has wear.
 ///
 /// Source: ours.
 ///
 /// # Errors
 ///
-/// The first that applies: `DumpLength`, where the dump has not `16 × pages × words` bytes, or twice as many for pairs;
-/// `LowPair`, the first two numbers that sum to less than `u64::MAX`. `Memory` can come in place of any answer but
-/// `DumpLength`.
+/// The first that applies: `DumpLength`, where the dump has not `16 × pages × words` bytes, or
+/// twice as many for pairs; `LowPair`, the first two numbers that sum to less than `u64::MAX`.
+/// `Memory` can come in place of any answer but `DumpLength`.
 pub fn import_image<A: Allocator + Copy>(
     alloc: A,
     shape: Shape,
@@ -39,8 +40,8 @@ pub fn import_image<A: Allocator + Copy>(
 ///
 /// # Errors
 ///
-/// The first that applies: the image is no device's; `TornWord`, its first torn word, which no bytes
-/// stand for. `Memory` can come in place of any answer.
+/// The first that applies: the image is no device's; `TornWord`, its first torn word, which no
+/// bytes stand for. `Memory` can come in place of any answer.
 pub fn export_image<A: Allocator + Copy>(
     alloc: A,
     form: Form,

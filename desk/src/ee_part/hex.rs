@@ -9,16 +9,17 @@ use crate::ee_faults::{Fault, File};
 use crate::ee_flash::{Flash, Shape};
 use crate::rattle::alloc::Allocator;
 
-/// The text of the image of a part of this shape, whose first word stands at the address `base`, from what an Intel HEX
-/// text says of it: what `import_image` gives of its bytes, with an erased byte where the text says none.
+/// The text of the image of a part of this shape, whose first word stands at the address `base`,
+/// from what an Intel HEX text says of it: what `import_image` gives of its bytes, with an erased
+/// byte where the text says none.
 ///
 /// Source: ours.
 ///
 /// # Errors
 ///
-/// The first that applies: `Base`, where `base + 16 × pages × words`, or with twice as many of pairs, is past `2^32`; `BadLine`
-/// of the dump, the first line of the text that is bad; `LowPair`, as in `import_image`. `Memory` can come in place of any
-/// answer but `Base`.
+/// The first that applies: `Base`, where `base + 16 × pages × words`, or with twice as many of
+/// pairs, is past `2^32`; `BadLine` of the dump, the first line of the text that is bad; `LowPair`,
+/// as in `import_image`. `Memory` can come in place of any answer but `Base`.
 pub fn import_hex<A: Allocator + Copy>(
     alloc: A,
     shape: Shape,
@@ -36,14 +37,16 @@ pub fn import_hex<A: Allocator + Copy>(
     import_image(alloc, shape, form, &dump)
 }
 
-/// The Intel HEX text of the part that an image's text spells, with its first word at the address `base`.
+/// The Intel HEX text of the part that an image's text spells, with its first word at
+/// the address `base`.
 ///
 /// Source: ours.
 ///
 /// # Errors
 ///
-/// The first that applies: the image is no device's; `Base`, where `base + 16 × pages × words`, or with twice as many of pairs,
-/// is past `2^32`; `TornWord`, its first torn word. `Memory` can come in place of any answer.
+/// The first that applies: the image is no device's; `Base`, where `base + 16 × pages × words`, or
+/// with twice as many of pairs, is past `2^32`; `TornWord`, its first torn word. `Memory` can come
+/// in place of any answer.
 pub fn export_hex<A: Allocator + Copy>(
     alloc: A,
     form: Form,
@@ -58,7 +61,8 @@ pub fn export_hex<A: Allocator + Copy>(
     Ok(write_hex(alloc, base, &dump)?)
 }
 
-/// Whether each byte of a part of this shape has an address of 32 bits, where its first has this one.
+/// Whether each byte of a part of this shape has an address of 32 bits, where its
+/// first has this one.
 fn fits(base: u32, form: Form, shape: Shape) -> bool {
     u64::from(base) + form.dump_length(shape) as u64 <= 1 << 32
 }

@@ -11,13 +11,14 @@ use crate::ee_pages::{Layout, ScanFault, Side, first_page, scan, slot_word, torn
 use crate::ee_text::push_number_behind;
 use crate::rattle::alloc::{AllocError, Allocator};
 
-/// What the image that a text spells shows, also where no store can work on it. First `scan ok`, or `scan` and why the
-/// image has no live set. With a live set there follows `set S generation G fill F room R live N pending Q superseded U
-/// torn T`: which set it is, 0 or 1, its generation, its used and its free slots, how many addresses have a value, how
-/// many pages wait to be erased, how many used slots hold what is no longer so, and how many are torn. Then a line for
-/// each torn word, by page and place, `torn PAGE AT` and `slot` or `header`, where it is such a word of the live set,
-/// or `other`. Last, by rising address, `doubt A` for each address that the live set speaks of for the last time before
-/// a torn slot: its latest change may be lost.
+/// What the image that a text spells shows, also where no store can work on it. First `scan ok`, or
+/// `scan` and why the image has no live set. With a live set there follows `set S generation G fill
+/// F room R live N pending Q superseded U torn T`: which set it is, 0 or 1, its generation, its
+/// used and its free slots, how many addresses have a value, how many pages wait to be erased, how
+/// many used slots hold what is no longer so, and how many are torn. Then a line for each torn
+/// word, by page and place, `torn PAGE AT` and `slot` or `header`, where it is such a word of the
+/// live set, or `other`. Last, by rising address, `doubt A` for each address that the live set
+/// speaks of for the last time before a torn slot: its latest change may be lost.
 ///
 /// Source: ours.
 ///
@@ -39,7 +40,8 @@ fn findings<A: Allocator + Copy, F: Flash>(alloc: A, flash: &F) -> Result<Vec<u8
     Ok(text)
 }
 
-/// Writes what there is to say of a device with a live set. After an error there may be a part of it.
+/// Writes what there is to say of a device with a live set. After an error there may be a part of
+/// it.
 fn push_live<A: Allocator + Copy, F: Flash>(
     alloc: A,
     flash: &F,
@@ -236,8 +238,8 @@ fn name_of<F: Flash>(flash: &F, live: Option<Side>, page: usize, at: usize) -> &
     }
 }
 
-/// Writes the lines of the addresses that are in doubt, by the last slot that speaks of each. After an
-/// error there may be a part of them.
+/// Writes the lines of the addresses that are in doubt, by the last slot that speaks of each. After
+/// an error there may be a part of them.
 fn push_doubts<A: Allocator, F: Flash>(
     flash: &F,
     layout: &Layout,
@@ -269,13 +271,13 @@ fn last_spoken<A: Allocator, F: Flash>(
     // The slots behind the fill are erased.
     let mut spoken = zeroes(alloc, 65535)?;
     for slot in 0..layout.fill {
-        note(&mut spoken, slot_word(flash, layout, slot), slot + 1);
+        note_address(&mut spoken, slot_word(flash, layout, slot), slot + 1);
     }
     Ok(spoken)
 }
 
 /// Notes what a slot speaks of, which is the last of so many.
-fn note<A: Allocator>(spoken: &mut Vec<usize, A>, word: Word, count: usize) {
+fn note_address<A: Allocator>(spoken: &mut Vec<usize, A>, word: Word, count: usize) {
     let Some(address) = address_of(word) else {
         return;
     };
@@ -298,8 +300,8 @@ fn address_of(word: Word) -> Option<usize> {
     }
 }
 
-/// Writes the lines of the addresses that are in doubt, by the last slot that speaks of each, and the
-/// last torn one. After an error there may be a part of them.
+/// Writes the lines of the addresses that are in doubt, by the last slot that speaks of each, and
+/// the last torn one. After an error there may be a part of them.
 fn push_doubted<A: Allocator>(
     spoken: &[usize],
     torn: usize,

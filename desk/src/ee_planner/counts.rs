@@ -6,8 +6,8 @@ use super::counting::{count, flats, greatest};
 use crate::ee_check::{Change, LiveSet};
 use crate::rattle::alloc::{AllocError, Allocator};
 
-/// How many addresses are live before each change of the first round, and of each later one. The second
-/// round leaves the addresses that it found, and so does each after it.
+/// How many addresses are live before each change of the first round, and of each later one. The
+/// second round leaves the addresses that it found, and so does each after it.
 pub(crate) struct Counts<A: Allocator> {
     pub(crate) first: Vec<u64, A>,
     pub(crate) later: Vec<u64, A>,

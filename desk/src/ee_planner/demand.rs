@@ -10,8 +10,8 @@ use crate::rattle::alloc::AllocError;
 pub enum Demand {
     /// So many transfers: some store makes as few, and none makes fewer.
     Transfers(u64),
-    /// This change, counted from 1, is the first write of a new address while as many addresses are live as
-    /// there are slots.
+    /// This change, counted from 1, is the first write of a new address while as many addresses are
+    /// live as there are slots.
     NotFitting(u64),
 }
 

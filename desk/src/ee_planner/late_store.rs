@@ -6,7 +6,8 @@ use super::planned::PlanFault;
 use crate::ee_check::{Change, LiveSet, Start, Stretch};
 use crate::rattle::alloc::{AllocError, Allocator};
 
-/// A store that transfers exactly when each slot is used, on its way through a trace. It has no flash: it only counts.
+/// A store that transfers exactly when each slot is used, on its way through a trace. It has no
+/// flash: it only counts.
 pub(crate) struct LateStore<A: Allocator> {
     slots: u64,
     /// How many slots are used.

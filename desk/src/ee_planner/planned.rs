@@ -23,8 +23,8 @@ pub struct Plan<A: Allocator = Global> {
 /// Source: ours.
 #[derive(Clone, Copy, Debug, PartialEq, Eq)]
 pub enum PlanFault {
-    /// This change, counted from 1, is the first write of a new address while as many addresses are live as
-    /// there are slots.
+    /// This change, counted from 1, is the first write of a new address while as many addresses are
+    /// live as there are slots.
     NotFitting(u64),
     /// Memory ran out.
     Memory,

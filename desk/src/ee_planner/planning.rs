@@ -7,15 +7,15 @@ use super::planned::{Plan, PlanFault};
 use crate::ee_check::{Certificate, Change, Start};
 use crate::rattle::alloc::Allocator;
 
-/// The fewest transfers that the trace takes of any store that appends each change and transfers by copying
-/// the live addresses, when it makes them, and how many slots they leave free.
+/// The fewest transfers that the trace takes of any store that appends each change and transfers by
+/// copying the live addresses, when it makes them, and how many slots they leave free.
 ///
 /// Source: ours.
 ///
 /// # Errors
 ///
-/// The first change that makes more addresses live than there are slots; want of memory can come in place of
-/// any answer.
+/// The first change that makes more addresses live than there are slots; want of memory can come in
+/// place of any answer.
 pub fn plan<A: Allocator + Copy, B: Allocator>(
     alloc: A,
     start: &Start<B>,

@@ -8,8 +8,8 @@ use super::walking::{first_over, transfers};
 use crate::ee_check::Change;
 use crate::rattle::alloc::{Allocator, Global};
 
-/// A trace that is made so many times, one after another. It takes three numbers of memory for each change
-/// of the trace, however often it is made.
+/// A trace that is made so many times, one after another. It takes three numbers of memory for each
+/// change of the trace, however often it is made.
 ///
 /// Source: ours.
 pub struct Rounds<A: Allocator = Global> {
@@ -25,7 +25,8 @@ impl<A: Allocator + Copy> Rounds<A> {
     ///
     /// # Errors
     ///
-    /// `TooMany` exactly where the changes of all rounds are 2^63 or more; otherwise memory can run out.
+    /// `TooMany` exactly where the changes of all rounds are 2^63 or more; otherwise
+    /// memory can run out.
     pub fn new(alloc: A, trace: Vec<Change, A>, runs: u64) -> Result<Rounds<A>, RoundsFault> {
         match runs.checked_mul(trace.len() as u64) {
             Some(total) if total < 1 << 63 => {}
@@ -48,9 +49,9 @@ impl<A: Allocator> Rounds<A> {
         self.runs * self.trace.as_slice().len() as u64
     }
 
-    /// What the rounds demand of a set of so many slots that starts empty: the fewest transfers of any
-    /// store that appends each change and transfers by copying the live addresses, when it likes; or the
-    /// first change that doesn't fit.
+    /// What the rounds demand of a set of so many slots that starts empty: the fewest transfers of
+    /// any store that appends each change and transfers by copying the live addresses, when it
+    /// likes; or the first change that doesn't fit.
     ///
     /// Source: ours.
     pub fn demand(&self, slots: u32) -> Demand {

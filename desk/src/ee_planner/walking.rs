@@ -26,9 +26,9 @@ pub(crate) fn transfers<A: Allocator>(counts: &Counts<A>, slots: u64, total: u64
     }
 }
 
-/// Walks until it comes to a change of the trace at which it has transferred before, and from there by as
-/// many whole periods at once as there are changes for. Where it has been is remembered of one place only,
-/// each time that the transfers have doubled.
+/// Walks until it comes to a change of the trace at which it has transferred before, and from there
+/// by as many whole periods at once as there are changes for. Where it has been is remembered of
+/// one place only, each time that the transfers have doubled.
 fn leap<A: Allocator>(counts: &Counts<A>, slots: u64, total: u64) -> Walk {
     let mut walk = Walk { place: 0, made: 0 };
     let mut mark = walk;
@@ -57,8 +57,8 @@ fn by_periods(mark: Walk, walk: Walk, total: u64) -> Walk {
     }
 }
 
-/// One transfer further, or as many at once as come while as many addresses are live; none, where the
-/// next one would come behind the last change.
+/// One transfer further, or as many at once as come while as many addresses are live; none, where
+/// the next one would come behind the last change.
 fn onward<A: Allocator>(counts: &Counts<A>, slots: u64, total: u64, walk: Walk) -> Walk {
     let step = slots.saturating_sub(counts.after(walk.place)) + 1;
     let more = counts.flat(walk.place) / step;

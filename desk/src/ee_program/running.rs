@@ -1,5 +1,6 @@
 // Made by desk/erase from crates/ee_program/src/running.rt. Change that file.
-//! The jobs of the program: files are read whole, then the work is done, and what it gives is written.
+//! The jobs of the program: files are read whole, then the work is done, and what it gives is
+//! written.
 use crate::rattle::prelude::*;
 
 use crate::ee_by_name::{
@@ -336,7 +337,8 @@ fn tell_states<R: Files + Print + AllocGlobal>(rt: &R, image: &str) -> Result<()
     print_text(rt, states_text(rt.alloc(), &before))
 }
 
-/// Erases the pages of an image that wait for it, writes the image in its place, and prints their number.
+/// Erases the pages of an image that wait for it, writes the image in its place, and
+/// prints their number.
 fn clean_file<R: FileLocks + Print + AllocGlobal>(rt: &R, image: &str) -> Result<(), Fault> {
     let before = read_file(rt, File::Image, image)?;
     let cleaned = clean_image(rt.alloc(), &before);
@@ -369,7 +371,8 @@ fn tell_stale<R: Files + Print + AllocGlobal>(
     print_text(rt, text)
 }
 
-/// Forgets the addresses of an image that no setting has, writes the image in its place, and prints their number.
+/// Forgets the addresses of an image that no setting has, writes the image in its place, and
+/// prints their number.
 fn tidy_file<R: FileLocks + Print + AllocGlobal>(
     rt: &R,
     image: &str,
@@ -405,7 +408,8 @@ fn named_values<R: Files + AllocGlobal>(
     list_text(rt.alloc(), rt.alloc(), image, Some(&table))
 }
 
-/// Prints for each number of pages whether it bears so many runs of a script. Where none does, that is told behind it.
+/// Prints for each number of pages whether it bears so many runs of a script. Where none does,
+/// that is told behind it.
 fn tell_sizes<R: Files + Print + AllocGlobal>(
     rt: &R,
     words: u16,
@@ -434,8 +438,8 @@ fn read_file<R: Files + AllocGlobal>(rt: &R, file: File, path: &str) -> Result<V
     }
 }
 
-/// Writes an image in the place of its file, of which `before` was read, if it was: then only where the
-/// file still is that. Its file is closed afterwards.
+/// Writes an image in the place of its file, of which `before` was read, if it was: then only where
+/// the file still is that. Its file is closed afterwards.
 fn write_image<R: FileLocks + AllocGlobal>(
     rt: &R,
     path: &str,
@@ -444,7 +448,7 @@ fn write_image<R: FileLocks + AllocGlobal>(
 ) -> Result<(), Fault> {
     match save(rt, path, before, image) {
         Ok(()) => Ok(()),
-        Err(fault) => Err(fault.told()),
+        Err(fault) => Err(fault.into_fault()),
     }
 }
 
@@ -459,7 +463,8 @@ fn write_new<R: FileLocks + Print + AllocGlobal>(
     print(rt, said)
 }
 
-/// Writes the image that a command left, in the place of its file, of which `before` was read, and prints its text.
+/// Writes the image that a command left, in the place of its file, of which `before` was read,
+/// and prints its text.
 fn write_changed<R: FileLocks + Print + AllocGlobal>(
     rt: &R,
     path: &str,
@@ -479,7 +484,7 @@ fn write_dump<R: FileLocks + Print + AllocGlobal>(
 ) -> Result<(), Fault> {
     match save(rt, path, None, &dump?) {
         Ok(()) => print(rt, b"exported\n"),
-        Err(fault) => Err(fault.told_of_dump()),
+        Err(fault) => Err(fault.into_dump_fault()),
     }
 }
 

@@ -1,176 +1,209 @@
 // Made by desk/erase from crates/ee_replay/src/desk.rt. Change that file.
-//! A device on the desk, with a store open on it or without: a cut is armed, and power comes back.
+//! A device on the desk, and what a store of it knows: a cut is armed, and power comes back.
+//! Values are found through the slots or by an index. Where the look-up may change, the desk
+//! makes an index when looking through the slots has cost more than that, and gives it back when
+//! looking would cost less.
 use crate::rattle::prelude::*;
 
-use super::either::{Apart, EitherStore, Kind, armed};
+use super::either_lookup::EitherLookup;
+use crate::ee_check::Start;
 use crate::ee_codec::Address;
-use crate::ee_core::{ForgetFault, Off, OpenFault, Store, Variables, WriteFault, Written, open};
-use crate::ee_flash::{Flash, Fuse, MemFlash};
+use crate::ee_core::inner::{Known, clean, open_on, parts_of, store_of};
+use crate::ee_core::{ForgetFault, Lookup, Off, OpenFault, Slots, Store, WriteFault, Written};
+use crate::ee_faults::ReplayFault;
+use crate::ee_flash::{Cut, Flash, Fuse, MemFlash};
+use crate::ee_image_store::open_image;
+use crate::ee_index::inner::{Costs, index_of};
+use crate::ee_plan::start_of;
 use crate::ee_script::Answer;
 use crate::rattle::alloc::{AllocError, Allocator, Global};
-use crate::rattle::mem::replace;
 
-/// A device, with a store open on it or without.
-pub(crate) enum Desk<A: Allocator + Copy = Global> {
-    /// A store. It is open as long as its device is on.
-    Open(EitherStore<A>),
-    /// A store, taken apart since its device was armed. It is open.
-    Armed(Apart<A>),
-    /// The device alone.
-    Bare(MemFlash<A>),
-    /// Nothing, while a call has taken what is there.
-    Gone,
+/// How the values of a store are found.
+#[derive(Clone, Copy)]
+pub(crate) enum Kind {
+    /// Through the slots.
+    Plain,
+    /// By an index.
+    Indexed,
+    /// Through the slots until an index pays. Where memory for one is refused it goes on without.
+    AsPays,
+}
+
+/// A device, and what a store of it knows. The store is open while the device is on.
+pub(crate) struct Desk<A: Allocator + Copy = Global> {
+    flash: MemFlash<A>,
+    known: Known<EitherLookup<A>>,
+    /// What is counted to tell which look-up pays.
+    costs: Costs,
 }
 
 impl<A: Allocator + Copy> Desk<A> {
-    /// Whether a store is open.
-    pub(crate) fn is_open(&self) -> bool {
-        match self {
-            Desk::Open(either) => either.store.is_on(),
-            Desk::Armed(apart) => apart.is_on(),
-            Desk::Bare(_) | Desk::Gone => false,
+    /// A desk with this store, whose values are found through the slots.
+    pub(crate) fn of(store: Store<MemFlash<A>>) -> Desk<A> {
+        let (flash, known) = parts_of(store);
+        let lookup = EitherLookup::Slots(known.lookup);
+        let known = Known {
+            layout: known.layout,
+            lookup,
+        };
+        Desk {
+            flash,
+            known,
+            costs: Costs::new(),
         }
     }
 
-    /// The device. A store that was open on it is closed.
-    pub(crate) fn into_flash(self) -> MemFlash<A> {
-        match self {
-            Desk::Open(either) => either.store.into_flash(),
-            Desk::Armed(apart) => apart.into_flash(),
-            Desk::Bare(flash) => flash,
-            Desk::Gone => unreachable!("it is there"),
+    /// The store of the image that a text spells, whose values are found so.
+    pub(crate) fn open(alloc: A, image: &[u8], kind: Kind) -> Result<Desk<A>, ReplayFault> {
+        let mut desk = Desk::of(open_image(alloc, image)?);
+        if let Kind::Indexed = kind {
+            desk.make_index(alloc)?;
         }
+        desk.settle_to_count(alloc, kind);
+        Ok(desk)
     }
 
-    /// Writes. Where no store is open, the fault is `Off`.
+    /// The same desk, and what its store gives a trace to start from.
+    pub(crate) fn started(self, alloc: A) -> Result<(Desk<A>, Start<A>), AllocError> {
+        let costs = self.costs;
+        let store = self.into_store();
+        let start = start_of(alloc, &store)?;
+        let (flash, known) = parts_of(store);
+        let desk = Desk {
+            flash,
+            known,
+            costs,
+        };
+        Ok((desk, start))
+    }
+
+    /// The store.
+    pub(crate) fn into_store(self) -> Store<MemFlash<A>, EitherLookup<A>> {
+        store_of(self.flash, self.known)
+    }
+
+    /// Writes.
+    #[inline(always)]
     pub(crate) fn write(&mut self, address: Address, value: u32) -> Result<Written, WriteFault> {
-        self.make_whole();
-        match self {
-            Desk::Open(either) => either.store.write(address, value),
-            Desk::Armed(_) => unreachable!("it is whole"),
-            Desk::Bare(_) | Desk::Gone => Err(WriteFault::Off),
-        }
+        self.known.write(&mut self.flash, address, value)
     }
 
-    /// Forgets. Where no store is open, the fault is `Off`.
+    /// Forgets.
     pub(crate) fn forget(&mut self, address: Address) -> Result<Written, ForgetFault> {
-        self.make_whole();
-        match self {
-            Desk::Open(either) => either.store.forget(address),
-            Desk::Armed(_) => unreachable!("it is whole"),
-            Desk::Bare(_) | Desk::Gone => Err(ForgetFault::Off),
-        }
+        self.known.forget(&mut self.flash, address)
     }
 
-    /// Takes a clean step. Where no store is open, the fault is `Off`.
+    /// Takes a clean step.
     pub(crate) fn clean_step(&mut self) -> Result<bool, WriteFault> {
-        self.make_whole();
-        match self {
-            Desk::Open(either) => either.store.clean_step(),
-            Desk::Armed(_) => unreachable!("it is whole"),
-            Desk::Bare(_) | Desk::Gone => Err(WriteFault::Off),
-        }
+        self.known.clean_step(&mut self.flash)
     }
 
     /// Reads.
-    pub(crate) fn read(&mut self, address: Address) -> Result<Option<u32>, Off> {
-        self.make_whole();
-        match self {
-            Desk::Open(either) => either.store.read(address),
-            Desk::Armed(_) => unreachable!("it is whole"),
-            Desk::Bare(_) | Desk::Gone => Err(Off),
-        }
+    pub(crate) fn read(&self, address: Address) -> Result<Option<u32>, Off> {
+        self.known.read(&self.flash, address)
     }
 
     /// How many slots are used.
     pub(crate) fn fill(&self) -> usize {
-        match self {
-            Desk::Open(either) => either.store.fill(),
-            Desk::Armed(_) | Desk::Bare(_) | Desk::Gone => unreachable!("a whole store is open"),
+        self.known.layout.fill
+    }
+
+    /// Arms a cut.
+    pub(crate) fn arm(&mut self, fuse: Fuse) {
+        self.flash.arm(fuse)
+    }
+
+    /// Turns power on and opens the store, whose values are found so, which changes nothing where
+    /// one is open. An error says that memory ran out.
+    pub(crate) fn power_on(&mut self, alloc: A, kind: Kind) -> Result<Answer, AllocError> {
+        if self.flash.is_on() {
+            return Ok(Answer::Opened);
+        }
+        self.flash.power_on();
+        match open_on(&mut self.flash) {
+            Ok(layout) => {
+                let lookup = EitherLookup::Slots(Slots);
+                self.known = Known { layout, lookup };
+                self.costs = Costs::new();
+                if let Kind::Indexed = kind {
+                    self.make_index(alloc)?;
+                }
+                Ok(Answer::Opened)
+            }
+            Err(OpenFault::Cut) => Ok(Answer::Cut),
+            Err(OpenFault::Scan(_)) => unreachable!("its image is legal"),
         }
     }
 
-    /// The store that is open.
-    fn into_open(self) -> EitherStore<A> {
-        match self {
-            Desk::Open(either) => either,
-            Desk::Armed(apart) => apart.whole(),
-            Desk::Bare(_) | Desk::Gone => unreachable!("a store is open"),
-        }
-    }
-
-    /// Arms a cut. A store that is open stays so, with all that it keeps in memory.
-    pub(crate) fn arm(self, fuse: Fuse) -> Desk<A> {
-        if !self.is_open() {
-            return Desk::Bare(armed(self.into_flash(), fuse));
-        }
-        Desk::Armed(Apart::of(self.into_open()).armed(fuse))
-    }
-
-    /// Puts a store together that was taken apart.
+    /// Takes note of what a line took, and says whether the look-up is to be settled now.
+    // One for each line of a script, and most lines are appended or read.
     #[inline(always)]
-    fn make_whole(&mut self) {
-        if let Desk::Armed(_) = self {
-            let desk = replace(self, Desk::Gone);
-            *self = desk.whole();
+    pub(crate) fn weigh_line(&mut self, answer: Answer) -> bool {
+        match answer {
+            Answer::Appended => self.costs.note_append(),
+            Answer::Value(_) => self.costs.note_read(),
+            Answer::NoValue | Answer::Absent | Answer::Moved => self.note_looks(answer),
+            _ => false,
         }
     }
 
-    /// The same desk. A store on it that was taken apart is put together.
+    /// Takes note of what a line costs for which all slots are looked at. Says whether the other
+    /// look-up may pay now.
     #[inline(never)]
-    fn whole(self) -> Desk<A> {
-        match self {
-            Desk::Armed(apart) => Desk::Open(apart.whole()),
-            desk => desk,
+    fn note_looks(&mut self, answer: Answer) -> bool {
+        let fill = self.known.layout.fill;
+        if answer == Answer::Moved {
+            self.costs.note_move(fill, self.flash.shape().slots());
+        } else {
+            self.costs.note_absent(fill);
+        }
+        self.costs.is_time_to_change(fill)
+    }
+
+    /// Goes on with the look-up that pays behind a line about this address.
+    #[inline(never)]
+    pub(crate) fn settle(&mut self, alloc: A, address: Address) {
+        let Known { layout, lookup } = &self.known;
+        if self.costs.measures_now() {
+            let looks = lookup.look_count(&self.flash, layout, address);
+            self.costs.measure_read(looks, lookup.count(layout));
+        }
+        if !self.flash.is_on() || !self.costs.is_time_to_change(layout.fill) {
+            return;
+        }
+        if let EitherLookup::Slots(_) = lookup {
+            let _ = self.make_index(alloc);
+            return;
+        }
+        self.known.lookup = EitherLookup::Slots(Slots);
+        self.costs = self.costs.without_index();
+    }
+
+    /// Goes on with the look-up by which a store that is open, and whose look-up may
+    /// change, is counted sooner.
+    pub(crate) fn settle_to_count(&mut self, alloc: A, kind: Kind) {
+        let slots = self.flash.shape().slots();
+        let Known { layout, lookup } = &self.known;
+        if matches!(kind, Kind::AsPays)
+            && self.flash.is_on()
+            && lookup.pays_to_count(alloc, &self.flash, layout, &self.costs, slots)
+        {
+            let _ = self.make_index(alloc);
         }
     }
 
-    /// Takes note of what a line took, and says whether the store is to be settled now.
-    #[inline(always)]
-    pub(crate) fn note(&mut self, answer: Answer) -> bool {
-        match self {
-            Desk::Open(either) => either.note(answer),
-            Desk::Armed(_) | Desk::Bare(_) | Desk::Gone => false,
-        }
-    }
-
-    /// A store that is open, in the kind that pays behind a line about this address.
-    pub(crate) fn settled(self, alloc: A, address: Address) -> Desk<A> {
-        if !self.is_open() {
-            return self;
-        }
-        Desk::Open(self.into_open().settled(alloc, address))
-    }
-
-    /// A store that is open, and whose kind may change, in the kind that counts its variables sooner. One that was
-    /// taken apart is put together.
-    pub(crate) fn settled_to_count(self, alloc: A, kind: Kind) -> Desk<A> {
-        if !self.is_open() || !matches!(kind, Kind::AsPays) {
-            return self.whole();
-        }
-        Desk::Open(self.into_open().settled_to_count(alloc))
-    }
-
-    /// Turns power on and opens the store, of this kind, which changes nothing where one is open. An error
-    /// says that memory ran out.
-    pub(crate) fn power_on(self, alloc: A, kind: Kind) -> (Desk<A>, Result<Answer, AllocError>) {
-        if self.is_open() {
-            return (self, Ok(Answer::Opened));
-        }
-        let mut flash = self.into_flash();
-        flash.power_on();
-        match open(flash) {
-            Ok(store) => Desk::of(alloc, store, kind),
-            Err((flash, OpenFault::Cut)) => (Desk::Bare(flash), Ok(Answer::Cut)),
-            Err((_, OpenFault::Scan(_))) => unreachable!("its image is legal"),
-        }
-    }
-
-    /// A desk with this store, of this kind, on it. An error says that memory for its index ran out.
-    fn of(alloc: A, store: Store<MemFlash<A>>, kind: Kind) -> (Desk<A>, Result<Answer, AllocError>) {
-        match EitherStore::of(alloc, store, kind) {
-            Ok(either) => (Desk::Open(either), Ok(Answer::Opened)),
-            Err(store) => (Desk::Bare(store.into_flash()), Err(AllocError)),
+    /// Goes on with an index. An error says that memory is refused: costs are counted anew then.
+    fn make_index(&mut self, alloc: A) -> Result<(), AllocError> {
+        match index_of(alloc, &self.flash, &self.known.layout) {
+            Ok(index) => {
+                self.known.lookup = EitherLookup::Index(index);
+                self.costs = self.costs.with_index(self.known.layout.fill);
+                Ok(())
+            }
+            Err(error) => {
+                self.costs = Costs::new();
+                Err(error)
+            }
         }
     }
 }

@@ -7,7 +7,7 @@ use crate::ee_core::inner::Change;
 use crate::ee_core::{LiveBatch, Lookup, NoMemory, Put, Slots};
 use crate::ee_flash::{Cut, Flash};
 use crate::ee_index::SlotIndex;
-use crate::ee_index::inner::{Costs, count_live, looks_for};
+use crate::ee_index::inner::{Costs, count_live, look_count};
 use crate::ee_pages::Layout;
 use crate::rattle::alloc::{Allocator, Global};
 
@@ -20,16 +20,17 @@ pub(crate) enum EitherLookup<A: Allocator = Global> {
 }
 
 impl<A: Allocator + Copy> EitherLookup<A> {
-    /// How many used slots a look for the value of an address goes through without an index, from the newest down.
-    pub(crate) fn looks_for<F: Flash>(
+    /// How many used slots a look for the value of an address goes through without an index,
+    /// from the newest down.
+    pub(crate) fn look_count<F: Flash>(
         &self,
         flash: &F,
         layout: &Layout,
         address: Address,
     ) -> usize {
         match self {
-            EitherLookup::Slots(_) => looks_for(flash, layout, address),
-            EitherLookup::Index(index) => index.looks_for(layout.fill, address),
+            EitherLookup::Slots(_) => look_count(flash, layout, address),
+            EitherLookup::Index(index) => index.look_count(layout.fill, address),
         }
     }
 

@@ -7,8 +7,8 @@ use crate::ee_core::Written;
 use crate::ee_script::Answer;
 use crate::rattle::alloc::{AllocError, Allocator, Global};
 
-/// What is noted of the changes that a store accepted, and whether power was cut. It takes memory for
-/// each move, and none for anything else.
+/// What is noted of the changes that a store accepted, and whether power was cut. It takes memory
+/// for each move, and none for anything else.
 pub(crate) struct Notes<A: Allocator = Global> {
     /// How many changes were accepted.
     changes: u64,
@@ -31,8 +31,9 @@ impl<A: Allocator> Notes<A> {
         }
     }
 
-    /// Notes how a change was stored, behind which so many slots are used, and gives the answer to it.
-    pub(crate) fn note(&mut self, written: Written, fill: u64) -> Result<Answer, AllocError> {
+    /// Notes how a change was stored, behind which so many slots are used, and gives the answer to
+    /// it.
+    pub(crate) fn count_change(&mut self, written: Written, fill: u64) -> Result<Answer, AllocError> {
         match written {
             Written::Appended => {
                 self.changes += 1;

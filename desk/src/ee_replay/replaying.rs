@@ -1,8 +1,9 @@
 // Made by desk/erase from crates/ee_replay/src/replaying.rt. Change that file.
-//! The calls that answer a script on an image: a store is opened, serves the script, and is left as a text.
+//! The calls that answer a script on an image: a store is opened, serves the script,
+//! and is left as a text.
 use crate::rattle::prelude::*;
 
-use super::either::{EitherStore, Kind, open_as};
+use super::desk::{Desk, Kind};
 use super::reporting::report_on;
 use super::serving::Server;
 use crate::ee_check::Start;
@@ -10,7 +11,6 @@ use crate::ee_command_line::MOST_READS;
 use crate::ee_faults::ReplayFault;
 use crate::ee_flash::{MemFlash, Shape};
 use crate::ee_image_store::{new_store, text_of};
-use crate::ee_plan::start_of;
 use crate::ee_script::{answer_reader, answer_script};
 use crate::rattle::alloc::{Allocator, Global};
 use crate::rattle::io::Read;
@@ -22,13 +22,14 @@ use crate::rattle::io::Read;
 pub struct Replayed<A: Allocator = Global> {
     /// The text of the image afterwards.
     pub image: Vec<u8, A>,
-    /// One line for each line of the script, the line of the end, and the text of the certificate that
-    /// no store makes the accepted changes with fewer moves, or that there is none, after a cut.
+    /// One line for each line of the script, the line of the end, and the text of the
+    /// certificate that no store makes the accepted changes with fewer moves, or that there
+    /// is none, after a cut.
     pub report: Vec<u8, A>,
 }
 
-/// Answers a script on the store whose image a text spells, and gives the image that this leaves and
-/// the report. Marks that a cut left to set are set.
+/// Answers a script on the store whose image a text spells, and gives the image that this leaves
+/// and the report. Marks that a cut left to set are set.
 ///
 /// Source: ours.
 ///
@@ -69,31 +70,33 @@ fn replay_as<A: Allocator + Copy>(
     script: &[u8],
     kind: Kind,
 ) -> Result<Replayed<A>, ReplayFault> {
-    let store = open_as(alloc, image, kind)?;
-    run_on(alloc, store, kind, script)
+    let desk = Desk::open(alloc, image, kind)?;
+    run_on(alloc, desk, kind, script)
 }
 
-/// `replay` of a script that a reader gives in pieces. The image is opened before the first read; what
-/// one read call gives is judged before the next; no more than `MOST_READS` read calls are made, tries
-/// after an interruption among them. Of the script no more is kept than one unfinished line.
+/// `replay` of a script that a reader gives in pieces. The image is opened before the first
+/// read; what one read call gives is judged before the next; no more than `MOST_READS` read
+/// calls are made, tries after an interruption among them. Of the script no more is kept than
+/// one unfinished line.
 ///
 /// Source: ours.
 ///
 /// # Errors
 ///
-/// The first `ReplayFault` that applies, and of those of the script the one that is met first: `Read` where a read
-/// failed or there were too many, with no bad line judged before. `Memory` can come in place of any answer.
+/// The first `ReplayFault` that applies, and of those of the script the one that is met first:
+/// `Read` where a read failed or there were too many, with no bad line judged before. `Memory` can
+/// come in place of any answer.
 pub fn replay_reader<A: Allocator + Copy, R: Read>(
     alloc: A,
     image: &[u8],
     reader: &mut R,
 ) -> Result<Replayed<A>, ReplayFault> {
-    let store = open_as(alloc, image, Kind::Plain)?;
-    run_reader(alloc, store, reader)
+    let desk = Desk::open(alloc, image, Kind::Plain)?;
+    run_reader(alloc, desk, reader)
 }
 
-/// Answers a script on a new device of this shape, which is formatted first, and gives the image that
-/// this leaves and the report.
+/// Answers a script on a new device of this shape, which is formatted first, and gives the image
+/// that this leaves and the report.
 ///
 /// Source: ours.
 ///
@@ -106,18 +109,18 @@ pub fn try_script<A: Allocator + Copy>(
     script: &[u8],
 ) -> Result<Replayed<A>, ReplayFault> {
     let new = new_store(alloc, shape)?;
-    run_on(alloc, EitherStore::new(new), Kind::Plain, script)
+    run_on(alloc, Desk::of(new), Kind::Plain, script)
 }
 
-/// Answers a script on a store of this kind, and gives the image that this leaves and the report.
+/// Answers a script at a desk, and gives the image that this leaves and the report.
 fn run_on<A: Allocator + Copy>(
     alloc: A,
-    either: EitherStore<A>,
+    desk: Desk<A>,
     kind: Kind,
     script: &[u8],
 ) -> Result<Replayed<A>, ReplayFault> {
-    let start = start_of(alloc, &either.store)?;
-    let server = Server::new(alloc, either, kind);
+    let (desk, start) = desk.started(alloc)?;
+    let server = Server::new(alloc, desk, kind);
     let (server, lines) = answer_script(alloc, server, script)?;
     left_by(alloc, server, &start, lines)
 }
@@ -125,17 +128,17 @@ fn run_on<A: Allocator + Copy>(
 /// The same of a script that a reader gives.
 fn run_reader<A: Allocator + Copy, R: Read>(
     alloc: A,
-    either: EitherStore<A>,
+    desk: Desk<A>,
     reader: &mut R,
 ) -> Result<Replayed<A>, ReplayFault> {
-    let start = start_of(alloc, &either.store)?;
-    let server = Server::new(alloc, either, Kind::Plain);
+    let (desk, start) = desk.started(alloc)?;
+    let server = Server::new(alloc, desk, Kind::Plain);
     let (server, lines) = answer_reader(alloc, server, reader, MOST_READS)?;
     left_by(alloc, server, &start, lines)
 }
 
-/// The image and the report that a script leaves: `start` is what its trace began from, `lines` are those of
-/// its answers.
+/// The image and the report that a script leaves: `start` is what its trace began from, `lines` are
+/// those of its answers.
 fn left_by<A: Allocator + Copy>(
     alloc: A,
     server: Server<A>,
@@ -148,8 +151,10 @@ fn left_by<A: Allocator + Copy>(
         kind,
         ..
     } = server;
-    let desk = desk.settled_to_count(alloc, kind);
-    let report = report_on(start, notes, &desk, lines)?;
-    let image = text_of(alloc, &desk.into_flash())?;
+    let mut desk = desk;
+    desk.settle_to_count(alloc, kind);
+    let store = desk.into_store();
+    let report = report_on(start, notes, &store, lines)?;
+    let image = text_of(alloc, store.flash())?;
     Ok(Replayed { image, report })
 }

@@ -2,35 +2,34 @@
 //! What serves a script's commands at a desk.
 use crate::rattle::prelude::*;
 
-use super::desk::Desk;
-use super::either::{EitherStore, Kind};
+use super::desk::{Desk, Kind};
 use super::noting::Notes;
 use crate::ee_codec::Address;
-use crate::ee_core::{ForgetFault, Off, Variables, WriteFault};
-use crate::ee_flash::{Fuse, MemFlash};
+use crate::ee_core::{ForgetFault, Off, WriteFault};
+use crate::ee_flash::Fuse;
 use crate::ee_script::{Answer, Command, Serve};
 use crate::rattle::alloc::{AllocError, Allocator, Global};
-use crate::rattle::mem::replace;
 
 /// A desk, and what is noted of the changes that the store on it accepted.
 pub(crate) struct Server<A: Allocator + Copy = Global> {
     alloc: A,
-    /// In which kind a store is opened when power comes back.
+    /// How the values of a store are found.
     pub(crate) kind: Kind,
-    /// The device, with a store open on it or without.
+    /// The device, and what a store of it knows.
     pub(crate) desk: Desk<A>,
-    /// How many changes were accepted, the stretches of their certificate, and whether power was cut.
+    /// How many changes were accepted, the stretches of their certificate, and
+    /// whether power was cut.
     pub(crate) notes: Notes<A>,
 }
 
 impl<A: Allocator + Copy> Server<A> {
-    /// What serves with this store, of this kind, before the first command.
-    pub(crate) fn new(alloc: A, either: EitherStore<A>, kind: Kind) -> Server<A> {
-        let notes = Notes::new(alloc, either.store.fill() as u64);
+    /// What serves at this desk before the first command. Values are found so.
+    pub(crate) fn new(alloc: A, desk: Desk<A>, kind: Kind) -> Server<A> {
+        let notes = Notes::new(alloc, desk.fill() as u64);
         Server {
             alloc,
             kind,
-            desk: Desk::Open(either),
+            desk,
             notes,
         }
     }
@@ -40,7 +39,7 @@ impl<A: Allocator + Copy> Server<A> {
         match self.desk.write(address, value) {
             Ok(written) => {
                 let fill = self.desk.fill();
-                self.notes.note(written, fill as u64)
+                self.notes.count_change(written, fill as u64)
             }
             Err(WriteFault::Full) => Ok(Answer::Full),
             Err(WriteFault::Spent) => Ok(Answer::Spent),
@@ -55,7 +54,7 @@ impl<A: Allocator + Copy> Server<A> {
         match self.desk.forget(address) {
             Ok(written) => {
                 let fill = self.desk.fill();
-                self.notes.note(written, fill as u64)
+                self.notes.count_change(written, fill as u64)
             }
             Err(ForgetFault::Absent) => Ok(Answer::Absent),
             Err(ForgetFault::Spent) => Ok(Answer::Spent),
@@ -86,35 +85,24 @@ impl<A: Allocator + Copy> Server<A> {
 
     /// Arms a cut.
     fn arm(&mut self, fuse: Fuse) -> Answer {
-        let desk = replace(&mut self.desk, Desk::Gone);
-        self.desk = desk.arm(fuse);
+        self.desk.arm(fuse);
         Answer::Armed
     }
 
     /// Turns power on and opens the store. An error says that memory ran out.
     fn power_on(&mut self) -> Result<Answer, AllocError> {
-        let desk = replace(&mut self.desk, Desk::Gone);
-        let (desk, answer) = desk.power_on(self.alloc, self.kind);
-        self.desk = desk;
-        match answer {
+        match self.desk.power_on(self.alloc, self.kind) {
             Ok(Answer::Cut) => Ok(self.notes.note_cut()),
             answer => answer,
         }
     }
 
-    /// Takes note of what a line about this address took, and goes on with the kind of store that pays.
+    /// Takes note of what a line about this address took, and goes on with the look-up that pays.
     #[inline(always)]
     fn settle(&mut self, address: Address, answer: Answer) {
-        if matches!(self.kind, Kind::AsPays) && self.desk.note(answer) {
-            self.change_kind(address);
+        if matches!(self.kind, Kind::AsPays) && self.desk.weigh_line(answer) {
+            self.desk.settle(self.alloc, address);
         }
-    }
-
-    /// Goes on with the kind of store that pays behind a line about this address.
-    #[inline(never)]
-    fn change_kind(&mut self, address: Address) {
-        let desk = replace(&mut self.desk, Desk::Gone);
-        self.desk = desk.settled(self.alloc, address);
     }
 }
 

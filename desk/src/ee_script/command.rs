@@ -15,8 +15,8 @@ pub enum Command {
     Forget { address: Address },
     /// `c`: one clean step.
     Clean,
-    /// `x N T`: `fuse.after`, which is N - 1, further steps of the device pass, and the next one is cut.
-    /// T is the tear: `n` for nothing, `d` for done, `t` for torn, `m` for mixed.
+    /// `x N T`: `fuse.after`, which is N - 1, further steps of the device pass, and the next one is
+    /// cut. T is the tear: `n` for nothing, `d` for done, `t` for torn, `m` for mixed.
     Arm { fuse: Fuse },
     /// `p`: power is turned on, and the store is opened.
     PowerOn,

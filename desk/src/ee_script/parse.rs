@@ -15,8 +15,8 @@ pub fn read_command(line: &[u8]) -> Option<Command> {
     }
 }
 
-/// The command whose line stands at the front of a text, and what stands behind the line. None where
-/// no good line stands there.
+/// The command whose line stands at the front of a text, and what stands behind the line. None
+/// where no good line stands there.
 #[inline(always)]
 pub fn next_command(text: &[u8]) -> Option<(Command, &[u8])> {
     match leading_command(text) {
@@ -25,8 +25,8 @@ pub fn next_command(text: &[u8]) -> Option<(Command, &[u8])> {
     }
 }
 
-/// The command that is spelled at the front of a text, and what stands behind it: a number that ends
-/// it goes up to the first byte that is no digit.
+/// The command that is spelled at the front of a text, and what stands behind it: a number that
+/// ends it goes up to the first byte that is no digit.
 #[inline(always)]
 fn leading_command(text: &[u8]) -> Option<(Command, &[u8])> {
     match text {

@@ -78,8 +78,9 @@ impl<S: Serve, A: Allocator> Session<S, A> {
         }
     }
 
-    /// Takes the next piece of the script: each line that ends in it is answered. A line is judged
-    /// when its line feed comes, or at the end of the piece that makes it longer than any good line.
+    /// Takes the next piece of the script: each line that ends in it is answered. A line is
+    /// judged when its line feed comes, or at the end of the piece that makes it longer
+    /// than any good line.
     pub fn feed(mut self, piece: &[u8]) -> Result<Session<S, A>, ScriptFault> {
         if self.unfinished.is_empty() {
             self.judge(piece)?;
@@ -94,8 +95,8 @@ impl<S: Serve, A: Allocator> Session<S, A> {
         Ok(self)
     }
 
-    /// Takes what a reader gives, to its end. What one read call gives is judged before the next, and
-    /// a read that was interrupted is tried again. No more than `most` read calls are made.
+    /// Takes what a reader gives, to its end. What one read call gives is judged before the next,
+    /// and a read that was interrupted is tried again. No more than `most` read calls are made.
     pub fn feed_all<R: Read>(self, reader: &mut R, most: u32) -> Result<Session<S, A>, StreamFault> {
         let mut session = self;
         let mut piece = [0u8; CHUNK];
@@ -115,7 +116,8 @@ impl<S: Serve, A: Allocator> Session<S, A> {
         Err(StreamFault::Read)
     }
 
-    /// Ends the script, and gives what served it and the report. A line that no line feed ended is bad.
+    /// Ends the script, and gives what served it and the report. A line that no line feed ended is
+    /// bad.
     pub fn finish(self) -> Result<(S, Vec<u8, A>), ScriptFault> {
         if !self.unfinished.is_empty() {
             return Err(self.bad_line());
@@ -153,8 +155,8 @@ impl<S: Serve, A: Allocator> Session<S, A> {
         Ok(())
     }
 
-    /// Keeps the bytes of a line that isn't ended yet. They make it a bad line if they end it, since
-    /// no good line begins so, or if they make it too long.
+    /// Keeps the bytes of a line that isn't ended yet. They make it a bad line if they end it,
+    /// since no good line begins so, or if they make it too long.
     fn keep(&mut self, bytes: &[u8]) -> Result<(), ScriptFault> {
         if let Some(_) = next_line(bytes) {
             return Err(self.bad_line());

@@ -19,14 +19,14 @@ pub fn answer_script<S: Serve, A: Allocator>(
     Session::new(alloc, server).feed(script)?.finish()
 }
 
-/// Answers the script that a reader gives, and gives what served it and the report. What one read call
-/// gives is judged before the next, and a read that was interrupted is tried again. Of the script no
-/// more is kept than one unfinished line.
+/// Answers the script that a reader gives, and gives what served it and the report. What one read
+/// call gives is judged before the next, and a read that was interrupted is tried again. Of the
+/// script no more is kept than one unfinished line.
 ///
 /// # Errors
 ///
-/// What is met first: `Read` where a read fails, at the latest after `most` calls; the number of the
-/// first bad line; want of memory can come in place of any answer.
+/// What is met first: `Read` where a read fails, at the latest after `most` calls; the number of
+/// the first bad line; want of memory can come in place of any answer.
 pub fn answer_reader<S: Serve, A: Allocator, R: Read>(
     alloc: A,
     server: S,

@@ -33,7 +33,8 @@ pub enum GetFault {
     Off,
 }
 
-/// Why a setting isn't set, the first cause that applies. All but a `Cut` of the store leave the device as it was.
+/// Why a setting isn't set, the first cause that applies. All but a `Cut` of the store leave
+/// the device as it was.
 ///
 /// Source: ours.
 #[derive(Clone, Copy, Debug, PartialEq, Eq)]
@@ -84,6 +85,7 @@ pub enum TidyFault {
     /// A forgetting was refused, and changed nothing: every slot is used, and the generation is the
     /// greatest, 4294967294.
     Spent,
-    /// Power failed in a forgetting. The device is off; the address has its value still or has none.
+    /// Power failed in a forgetting. The device is off; the address has its value still or has
+    /// none.
     Cut,
 }

@@ -34,7 +34,8 @@ pub enum Held {
 pub struct Listed {
     /// The address.
     pub address: Address,
-    /// The number of its setting's entry, by rising name, from 1. `None`: no setting has the address.
+    /// The number of its setting's entry, by rising name, from 1. `None`: no setting has the
+    /// address.
     pub entry: Option<u64>,
     /// What it holds.
     pub held: Held,

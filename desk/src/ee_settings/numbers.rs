@@ -1,5 +1,6 @@
 // Made by desk/erase from crates/ee_settings/src/numbers.rt. Change that file.
-//! The numbers of a setting: its address, its range and its default, and what a stored value is to them.
+//! The numbers of a setting: its address, its range and its default, and what a
+//! stored value is to them.
 use crate::rattle::prelude::*;
 
 use crate::ee_settings::listing::Held;

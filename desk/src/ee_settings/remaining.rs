@@ -7,8 +7,8 @@ use crate::rattle::alloc::Allocator;
 use crate::rattle::collections::BTreeMap;
 use crate::rattle::collections::btree_map::Iter;
 
-/// The entries of a map that are left to go over, by rising address. The first of them is at hand, so
-/// that it can be compared to that of another map before it is taken.
+/// The entries of a map that are left to go over, by rising address. The first of them is at hand,
+/// so that it can be compared to that of another map before it is taken.
 pub(crate) struct Remaining<'a, T: Copy> {
     first: Option<(Address, T)>,
     behind: Iter<'a, Address, T>,

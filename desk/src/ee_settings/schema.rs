@@ -31,9 +31,10 @@ impl<A: Allocator> Schema<A> {
         }
     }
 
-    /// The schema that a table spells. Each entry of the table is a setting: its key is the name,
-    /// its value a table of the whole numbers `address`, `min`, `max` and `default`. A table with
-    /// no entries is a schema with no settings. The names of a table rise, so it has one first fault.
+    /// The schema that a table spells. Each entry of the table is a setting: its key is the
+    /// name, its value a table of the whole numbers `address`, `min`, `max` and `default`. A
+    /// table with no entries is a schema with no settings. The names of a table rise, so it
+    /// has one first fault.
     ///
     /// # Errors
     ///
@@ -66,7 +67,8 @@ impl<A: Allocator> Schema<A> {
         }
     }
 
-    /// Writes a value for the setting of a name, at its address in a store. `laws` says what is read then.
+    /// Writes a value for the setting of a name, at its address in a store. `laws`
+    /// says what is read then.
     ///
     /// # Errors
     ///

@@ -24,8 +24,8 @@ pub struct Stale {
 }
 
 impl<A: Allocator> Schema<A> {
-    /// The entries whose stored value isn't in their range, rising: what reads as its default though
-    /// a value is stored. Entries are counted by rising name, from 1.
+    /// The entries whose stored value isn't in their range, rising: what reads as its default
+    /// though a value is stored. Entries are counted by rising name, from 1.
     ///
     /// # Errors
     ///

@@ -16,8 +16,8 @@ impl<A: Allocator> Schema<A> {
     ///
     /// # Errors
     ///
-    /// The first `TidyFault` that applies. `Spent` and `Cut` are the answer of a forgetting that was
-    /// made, behind others: what was forgotten before it stays so.
+    /// The first `TidyFault` that applies. `Spent` and `Cut` are the answer of a forgetting that
+    /// was made, behind others: what was forgotten before it stays so.
     ///
     /// Source: ours.
     pub fn tidy<V: Variables>(&self, store: &mut V) -> Result<u64, TidyFault> {

@@ -4,7 +4,8 @@ use crate::rattle::prelude::*;
 
 use crate::ee_text::cuts::cut_at_first;
 
-/// The first field of `rest`, and what stands after its space: None where the field is all of `rest`.
+/// The first field of `rest`, and what stands after its space: None where the field is all of
+/// `rest`.
 pub fn next_field(rest: &[u8]) -> (&[u8], Option<&[u8]>) {
     match cut_at_first(rest, b' ') {
         Some((field, tail)) => (field, Some(tail)),

@@ -87,9 +87,9 @@ fn front_len(digits: u8x8) -> usize {
     }
 }
 
-/// What digits are worth that are the bytes of a word, the last the lowest one, with zeros in front.
-/// Each two bytes, h * 256 + l, become h * 10 + l. Then each two of these pairs become one number,
-/// and then the two numbers that are left.
+/// What digits are worth that are the bytes of a word, the last the lowest one, with zeros in
+/// front. Each two bytes, h * 256 + l, become h * 10 + l. Then each two of these pairs become one
+/// number, and then the two numbers that are left.
 #[inline(always)]
 fn worth_of(word: u64) -> u64 {
     let pairs = word - (256 - 10) * (word >> 8 & 0x00ff_00ff_00ff_00ff);

@@ -4,7 +4,8 @@ use crate::rattle::prelude::*;
 
 use crate::ee_text::cuts::cut_at_first;
 
-/// What stands in the first line, and what stands after the line. None where no line feed ends a line.
+/// What stands in the first line, and what stands after the line. None where no line feed ends a
+/// line.
 pub fn next_line(bytes: &[u8]) -> Option<(&[u8], &[u8])> {
     cut_at_first(bytes, b'\n')
 }

@@ -40,7 +40,8 @@ pub fn push_number<A: Allocator>(out: &mut Vec<u8, A>, n: u64) -> Result<(), All
     out.extend_from_slice(Buffer::new().format(n).as_bytes())
 }
 
-/// Writes the words, and the number behind them, at the end. After an error there may be a part of them.
+/// Writes the words, and the number behind them, at the end. After an error there
+/// may be a part of them.
 pub fn push_number_behind<A: Allocator>(
     out: &mut Vec<u8, A>,
     words: &[u8],

@@ -8,11 +8,12 @@
 //!
 //! # What is proved
 //!
-//! `Ledger::of` gives the wear of each page of any device (`wear`, `total`); `since` gives the differences page by page
-//! exactly where there are as many pages and none has less wear than before, and each refusal has its cause, the lowest
-//! page that fell among them (`value`, `none_fell`, `fault`); `total`, `least` and `greatest` are exact. `laws`: the
-//! differences together are the difference of the totals; no step's outcome makes a wear fall; a program wears nothing,
-//! and an erase that starts wears one, cut or not, below the greatest wear.
+//! `Ledger::of` gives the wear of each page of any device (`wear`, `total`); `since` gives the
+//! differences page by page exactly where there are as many pages and none has less wear than
+//! before, and each refusal has its cause, the lowest page that fell among them (`value`,
+//! `none_fell`, `fault`); `total`, `least` and `greatest` are exact. `laws`: the differences
+//! together are the difference of the totals; no step's outcome makes a wear fall; a program wears
+//! nothing, and an erase that starts wears one, cut or not, below the greatest wear.
 use crate::rattle::prelude::*;
 
 mod ledger;

@@ -93,6 +93,21 @@ impl<T, A: Allocator> Vec<T, A> {
     pub fn retain<F: FnMut(&T) -> bool>(&mut self, keeps: F) {
         self.items.retain(keeps);
     }
+
+    pub fn sort_by_key<K: Ord, F: FnMut(&T) -> K>(&mut self, key: F) -> Result<(), AllocError> {
+        // Rust's sort asks for no more, and can't say that it was refused.
+        Items::<T>::new().try_reserve_exact(self.items.len())?;
+        self.items.sort_by_key(key);
+        Ok(())
+    }
+
+    pub fn dedup_by_key<K: PartialEq, F: FnMut(&mut T) -> K>(&mut self, key: F) {
+        self.items.dedup_by_key(key);
+    }
+
+    pub fn shrink_to(&mut self, least: usize) {
+        self.items.shrink_to(least);
+    }
 }
 
 impl<T, A: Allocator> Deref for Vec<T, A> {

@@ -12,14 +12,14 @@ use crate::rattle::alloc::{AllocError, Allocator};
 /// What a byte reads as that was never programmed.
 const ERASED: u8 = 255;
 
-/// The bytes that a text says of the part of `length` bytes from address `base` on; 255 where it says
-/// none. The part ends at address 2^32 at the latest.
+/// The bytes that a text says of the part of `length` bytes from address `base` on; 255 where it
+/// says none. The part ends at address 2^32 at the latest.
 ///
 /// # Errors
 ///
 /// `BadLine`: the number of the first line, from 1, that is no record's, gives a place of the part
-/// another byte than a line before it, is missing, or stands behind the end record. `Memory`: memory
-/// ran out; it can come in place of any answer.
+/// another byte than a line before it, is missing, or stands behind the end record. `Memory`:
+/// memory ran out; it can come in place of any answer.
 ///
 /// Source: ours.
 pub fn read_hex<A: Allocator + Copy>(
@@ -28,20 +28,20 @@ pub fn read_hex<A: Allocator + Copy>(
     base: u32,
     length: usize,
 ) -> Result<Vec<u8, A>, HexFault> {
-    let mut part = Part::new(alloc, base, length)?;
-    if let Err(number) = read_lines(text, &mut part) {
+    let mut reader = DumpReader::new(alloc, base, length)?;
+    if let Err(number) = read_lines(text, &mut reader) {
         return Err(HexFault::BadLine(number));
     }
-    Ok(part.to_bytes(alloc)?)
+    Ok(reader.to_bytes(alloc)?)
 }
 
 /// Reads lines till the end record, or gives the number of the first bad one.
-fn read_lines<A: Allocator>(text: &[u8], part: &mut Part<A>) -> Result<(), u64> {
+fn read_lines<A: Allocator>(text: &[u8], reader: &mut DumpReader<A>) -> Result<(), u64> {
     let mut buffer = [0; MOST_BYTES];
     let mut rest = text;
     let mut number = 1;
     while let Some((line, behind)) = next_line(rest) {
-        match part.meet(line, &mut buffer) {
+        match reader.meet(line, &mut buffer) {
             Met::Taken => {}
             Met::End => {
                 if behind.is_empty() {
@@ -68,8 +68,8 @@ enum Met {
     Bad,
 }
 
-/// A part of memory, as far as it was read.
-struct Part<A: Allocator> {
+/// What was read of a part, so far.
+struct DumpReader<A: Allocator> {
     /// Its first address.
     base: u64,
     /// The upper address of the records that follow.
@@ -78,17 +78,18 @@ struct Part<A: Allocator> {
     cells: Vec<Option<u8>, A>,
 }
 
-impl<A: Allocator> Part<A> {
-    /// A part of which nothing was read.
-    fn new(alloc: A, base: u32, length: usize) -> Result<Part<A>, AllocError> {
-        Ok(Part {
+impl<A: Allocator> DumpReader<A> {
+    /// A reader that has read nothing.
+    fn new(alloc: A, base: u32, length: usize) -> Result<DumpReader<A>, AllocError> {
+        Ok(DumpReader {
             base: u64::from(base),
             upper: 0,
             cells: vec![in alloc; None; length]?,
         })
     }
 
-    /// Takes what a line says, by way of the buffer. After a bad line some of its bytes may have been taken.
+    /// Takes what a line says, by way of the buffer. After a bad line some of its bytes
+    /// may have been taken.
     fn meet(&mut self, line: &[u8], buffer: &mut [u8; MOST_BYTES]) -> Met {
         let Some(count) = bytes_of_line(without_return(line), buffer) else {
             return Met::Bad;
@@ -115,8 +116,8 @@ impl<A: Allocator> Part<A> {
         Met::Taken
     }
 
-    /// Brings bytes to their places, the first to `place`, and says whether each had none or the same. If
-    /// not, some may have come there.
+    /// Brings bytes to their places, the first to `place`, and says whether each had none or the
+    /// same. If not, some may have come there.
     fn put_bytes(&mut self, place: u64, bytes: &[u8]) -> bool {
         if place >= self.base {
             let first = (place - self.base) as usize;
@@ -142,7 +143,8 @@ impl<A: Allocator> Part<A> {
         true
     }
 
-    /// Brings a byte to its place, if that is in the part, and says whether it had none or the same.
+    /// Brings a byte to its place, if that is in the part, and says whether it had none or the
+    /// same.
     fn put(&mut self, place: u64, byte: u8) -> bool {
         if place < self.base {
             return true;

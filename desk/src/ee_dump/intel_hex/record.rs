@@ -53,8 +53,8 @@ pub(crate) fn without_return(line: &[u8]) -> &[u8] {
     line
 }
 
-/// Brings the bytes that a line spells to the front of the buffer, and gives how many they are. None
-/// where the line spells none, or more than a record has.
+/// Brings the bytes that a line spells to the front of the buffer, and gives how many they are.
+/// None where the line spells none, or more than a record has.
 pub(crate) fn bytes_of_line(line: &[u8], buffer: &mut [u8; MOST_BYTES]) -> Option<usize> {
     let (first, digits) = line.split_first()?;
     if *first != b':' || digits.len() % 2 != 0 {

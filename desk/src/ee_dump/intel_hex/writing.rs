@@ -8,15 +8,16 @@ use crate::rattle::alloc::{AllocError, Allocator};
 /// The most data bytes of a record that is written.
 const ROW: usize = 16;
 
-/// The most characters of a line that is written, with the line feed: the colon, two digits for each
-/// byte of a row and for five more.
+/// The most characters of a line that is written, with the line feed: the colon, two digits for
+/// each byte of a row and for five more.
 const MOST_CHARACTERS: usize = 44;
 
 /// The digits, by their value.
 const DIGITS: &[u8; 16] = b"0123456789ABCDEF";
 
-/// The text that says these bytes from address `base` on: rows of 16 bytes in upper case, the upper address where it
-/// changes, and the end record. For no bytes it is the end record alone. They end at address 2^32 at the latest.
+/// The text that says these bytes from address `base` on: rows of 16 bytes in upper case, the upper
+/// address where it changes, and the end record. For no bytes it is the end record alone. They end
+/// at address 2^32 at the latest.
 ///
 /// # Errors
 ///
@@ -51,7 +52,8 @@ fn row_size(place: u64, count: usize) -> usize {
     ROW.min(before_next).min(count)
 }
 
-/// Writes the upper half of the places that follow, if it isn't the one that was told last, or nothing after an error.
+/// Writes the upper half of the places that follow, if it isn't the one that was told last, or
+/// nothing after an error.
 fn push_upper<A: Allocator>(
     out: &mut Vec<u8, A>,
     told: Option<u16>,
