@@ -31,7 +31,6 @@ use Rattle.ee_core.proofs.FirstSet.{alone, erased_commits, no_pending, opened, s
 use Rattle.ee_core.proofs.Powered.{legal_on, state_in_on}
 use Rattle.ee_core.proofs.States.{same_states, state_is}
 use Rattle.ee_core.specs.Points.{with_power_on}
-use Rattle.std.specs.Prelude.{IfOk, Result, Ok, Err}
 use Rattle.ee_pages.specs.declared.find.ScanFault.{ScanFault}
 use Rattle.ee_core.specs.Openings.{IsFormatted, OpenFails}
 use Rattle.ee_core.specs.Starts.{AreCutStarts, IsNew, IsStartable, IsStarting, StartFails, Starts, StartsEmpty}
@@ -188,10 +187,6 @@ legal_stays device legal startable = startable_not_live device legal.0 legal.1 s
 
 pub scan_fails : (old new : Device) (fault : OpenFault) (found : ScanFault) → fault ≡ Scan found → OpenFails old fault new → IsScanFault old found × (new ≡ old)
 scan_fails old new fault found is = subst (λ (said : OpenFault). OpenFails old said new) is
-
-pub starts_anew : {E : Type 0} (old mid : Device) (result : Result Device E) → mid ≡ old → IsStartable mid → IfOk result (IsFormatted mid) → IfOk result (Starts old)
-starts_anew old mid (Ok new) same startable formatted = inl (subst IsStartable same startable, subst (λ (device : Device). IsFormatted device new) same formatted)
-starts_anew old mid (Err error) same startable formatted = tt
 
 -- a word past the end of its page is erased
 pub past_end : (device : Device) (page at number : ℕ) → IsFormed device → page < page_count device.size → device.size.words ≤ at → word_at device page at ≢ Held number

@@ -1,15 +1,16 @@
 //! The call for whenever a device is switched on: it opens the store, or makes the first one.
-ghost use Rattle.std.specs.Prelude.{◌≡◌, ◌≢◌, ◌<◌, ◌≤◌, ℕ, IfErr, IfOk, false, true};
+ghost use Rattle.std.specs.Prelude.{◌≡◌, ◌≢◌, ◌<◌, ◌≤◌, ℕ, IfErr, IfOk, OnErr, OnOk, false, true};
 ghost use Rattle.ee_flash.specs.Device.{IsOn, word_at};
 ghost use Rattle.ee_flash.specs.Size.{header_words, page_count};
-ghost use Rattle.ee_pages.specs.Layout.{IsScanFault};
+ghost use Rattle.ee_pages.specs.Layout.{IsLayout, IsScanFault};
 ghost use Rattle.ee_core.specs.Openings.{IsFormatted};
 ghost use Rattle.ee_core.specs.Starts.{HoldsNone, IsCutStart, IsStartable, StartFails, Starts};
 
-use crate::opening::{OpenFault, make_store, open};
+use crate::formatting::write_format;
+use crate::opening::{OpenFault, open_on};
 use crate::store::Store;
 use ee_flash::{Cut, Flash, HEADER_WORDS, Word};
-use ee_pages::ScanFault;
+use ee_pages::{Layout, ScanFault};
 
 /// Opens the store of a device that is on, as `open` does, or makes the first one, as `format`
 /// does: on a device in which no set is committed and each word behind a page's header is erased or
@@ -28,15 +29,30 @@ pub fn start<F: Flash + Drop>(flash: F) -> Result<Store<F>, (F, OpenFault)>
     ensures failed { IfErr result
         (λ failed. StartFails (F.device flash) failed.1 (F.device failed.0)) }
 {
-    let (flash, fault) = match open(flash) {
-        Ok(store) => return Ok(store),
-        Err(failed) => failed,
+    let mut flash = flash;
+    match start_on(&mut flash) {
+        Ok(layout) => Ok(Store::of(flash, layout)),
+        Err(fault) => Err((flash, fault)),
+    }
+}
+
+/// `start` in place: the layout of the store that the device becomes.
+pub fn start_on<F: Flash>(flash: &mut F) -> Result<Layout, OpenFault>
+    requires { IsOn (F.device flash.old) }
+    ensures started { OnOk result (Starts (F.device flash.old) (F.device flash.new)) }
+    ensures layout { IfOk result (IsLayout (F.device flash.new)) }
+    ensures failed { IfErr result
+        (λ fault. StartFails (F.device flash.old) fault (F.device flash.new)) }
+{
+    let fault = match open_on(flash) {
+        Ok(layout) => return Ok(layout),
+        Err(fault) => fault,
     };
     let OpenFault::Scan(scan) = fault else {
-        return Err((flash, fault));
+        return Err(fault);
     };
-    if !is_startable(&flash, scan) {
-        return Err((flash, fault));
+    if !is_startable(flash, scan) {
+        return Err(fault);
     }
     start_anew(flash)
 }
@@ -86,15 +102,16 @@ fn page_holds<F: Flash>(flash: &F, page: usize) -> bool
 }
 
 /// Makes the first store.
-fn start_anew<F: Flash + Drop>(flash: F) -> Result<Store<F>, (F, OpenFault)>
-    requires on { IsOn (F.device flash) }
-    requires startable { IsStartable (F.device flash) }
-    ensures formatted { IfOk result (IsFormatted (F.device flash)) }
-    ensures fault { IfErr result (λ failed. failed.1 ≡ OpenFault.Cut) }
-    ensures cut { IfErr result (λ failed. IsCutStart (F.device flash) (F.device failed.0)) }
+fn start_anew<F: Flash>(flash: &mut F) -> Result<Layout, OpenFault>
+    requires on { IsOn (F.device flash.old) }
+    requires startable { IsStartable (F.device flash.old) }
+    ensures formatted { OnOk result (IsFormatted (F.device flash.old) (F.device flash.new)) }
+    ensures layout { IfOk result (IsLayout (F.device flash.new)) }
+    ensures fault { IfErr result (λ fault. fault ≡ OpenFault.Cut) }
+    ensures cut { OnErr result (IsCutStart (F.device flash.old) (F.device flash.new)) }
 {
-    match make_store(flash) {
-        Ok(store) => Ok(store),
-        Err((flash, Cut)) => Err((flash, OpenFault::Cut)),
+    match write_format(flash) {
+        Ok(layout) => Ok(layout),
+        Err(Cut) => Err(OpenFault::Cut),
     }
 }

@@ -7,7 +7,7 @@ use ee_pages::{Layout, Mark, Side, is_blank as page_is_blank, mark};
 
 /// Erases what is not blank, makes the first set the live one with generation 1, and gives the
 /// layout.
-pub(crate) fn write_format<F: Flash>(flash: &mut F) -> Result<Layout, Cut>
+pub fn write_format<F: Flash>(flash: &mut F) -> Result<Layout, Cut>
     // At an error power was cut: in the erases, or in the marks behind them.
     ensures writes { WritesFormat result (F.device flash.old) (F.device flash.new) }
     ensures power { Ends result (F.device flash.old) (F.device flash.new) }

@@ -11,6 +11,8 @@ pub use crate::copying::Cursor;
 pub use crate::known::Known;
 pub use crate::live_cursor::LiveCursor;
 use crate::lookup::Lookup;
+pub use crate::first_start::start_on;
+pub use crate::formatting::write_format;
 pub use crate::marking::finish;
 pub use crate::opening::open_on;
 pub use crate::puts::{first_twice, values_put};

@@ -3,7 +3,6 @@ ghost use Rattle.std.specs.Prelude.{IfErr, IfOk, OnOk};
 ghost use Rattle.ee_flash.specs.Device.{IsOn};
 ghost use Rattle.ee_pages.specs.Layout.{IsLayout};
 ghost use Rattle.ee_core.specs.Openings.{IsCutFormat, IsFormatted, OpenFails, Opens};
-ghost use Rattle.ee_core.specs.Starts.{IsStartable, IsStarting};
 
 use crate::formatting::write_format;
 use crate::marking::finish;
@@ -73,18 +72,6 @@ pub fn format<F: Flash + Drop>(flash: F) -> Result<Store<F>, (F, Cut)>
     requires { IsOn (F.device flash) }
     ensures formatted { IfOk result (IsFormatted (F.device flash)) }
     ensures cut { IfErr result (λ failed. IsCutFormat (F.device flash) (F.device failed.0)) }
-{
-    make_store(flash)
-}
-
-/// Makes a store with nothing in it, as `format` does. A device that can be started stays one, or
-/// is the store, where power is cut.
-pub(crate) fn make_store<F: Flash + Drop>(flash: F) -> Result<Store<F>, (F, Cut)>
-    requires { IsOn (F.device flash) }
-    ensures formatted { IfOk result (IsFormatted (F.device flash)) }
-    ensures cut { IfErr result (λ failed. IsCutFormat (F.device flash) (F.device failed.0)) }
-    ensures starting { IfErr result
-        (λ failed. IsStartable (F.device flash) → IsStarting (F.device failed.0)) }
 {
     let mut flash = flash;
     match write_format(&mut flash) {

@@ -1,4 +1,4 @@
-use Rattle.ee_core.proofs.opening.make_store.Goals as goal
+use Rattle.ee_core.proofs.opening.format.Goals as goal
 
 pub returns-in-Ok-clause-formatted : goal.returns-in-Ok-clause-formatted
 returns-in-Ok-clause-formatted g c = rw c.of.ensures c.in-Ok.ensures.writes.formatted
@@ -7,7 +7,6 @@ pub returns-in-Err : goal.returns-in-Err
 returns-in-Err g c = record {
   formatted = tt;
   cut = record { cut = c.in-Err.ensures.power.cut c.requires; words = c.in-Err.ensures.writes.words c.requires };
-  starting = c.in-Err.ensures.writes.starting c.requires;
 }
 
 pub of-requires-clause-store : goal.of-requires-clause-store
