@@ -24,7 +24,7 @@ use Rattle.ee_pages.specs.declared.side.Side.{Side}
 use Rattle.ee_pages.specs.declared.side.Side.TheVariants.{First}
 use Rattle.ee_pages.proofs.Public.{live_commits, change_counts, full_set_has_no_blank_page, live_within_fill, length-set_of, length-slots}
 use Rattle.ee_core.specs.Appending.{MayTakeSlot}
-use Rattle.ee_core.specs.Changes.{Appends, HaveNoGeneration, IsAccepted, IsCutAppend, IsCutChange, IsCutMaking, IsCutMove, IsFull, Moves, NeedsTransfer, Proceeds, greatest_generation, pages_left}
+use Rattle.ee_core.specs.Changes.{Appends, HaveNoGeneration, IsAccepted, IsCutAppend, IsCutChange, IsCutMaking, IsCutMove, IsFull, IsSpent, Moves, NeedsTransfer, Proceeds, greatest_generation, pages_left}
 use Rattle.ee_core.specs.Shown.{ShowsAppended, ShowsCutAppend, ShowsCutMove, ShowsMoved, is_left}
 use Rattle.ee_core.specs.Cuts.{ErasesPartly, IsDrawnPartly, MovesPartly}
 use Rattle.ee_core.specs.Picture.{IsDrawn, filled_set, is_used, moved_words, number_of_change, picture_of, retired_pages, with_change}
@@ -279,11 +279,29 @@ store_after_move old new side generation changes off (inr has) = off_store new (
 pub not_full_yet : (device : Device) (side : Side) (generation : ℕ) (address : ℕ) → IsLive device side generation → fill_of (slots_of (set_of side device)) < capacity device → ¬ IsFull (capacity device) (state_of device) address
 not_full_yet device side generation address live free full = search (rules, live_within_fill, state_is)
 
+-- nor is a transfer needed
+pub not_spent_yet : (device : Device) (layout : Layout) → IsLayout device layout → layout.fill < capacity device → ¬ IsSpent (capacity device) (state_of device)
+not_spent_yet device layout found free spent = absurd (omega (arith, free, found.fill, fill_was device device layout.side layout.generation found.live, spent.all_used))
+
+-- so a value is accepted
+pub put_proceeds : (device : Device) (layout : Layout) (address value : ℕ) → IsLayout device layout → IsOn device → layout.fill < capacity device → Proceeds device (Put address value ∷ [])
+put_proceeds device layout address value found on free = record {
+  on = on;
+  accepted = record {
+    has_place = not_full_yet device layout.side layout.generation address found.live (omega (arith, free, found.fill));
+    not_spent = not_spent_yet device layout found free;
+  };
+}
+
 -- no more slots are written than a set has
 pub few_within : (device : Device) (side : Side) → IsFormed device → fill_of (slots_of (set_of side device)) ≤ capacity device
 few_within device side formed =
     let most = filter_few is_written (slots_of (set_of side device)) in
     omega (arith, most, length-slots side device formed)
+
+-- where none is free a change needs a transfer
+pub all_written : (device : Device) (layout : Layout) → IsLayout device layout → capacity device ≤ layout.fill → (state_of device).fill ≡ capacity device
+all_written device layout found past = omega (arith, past, found.fill, fill_was device device layout.side layout.generation found.live, few_within device layout.side found.live.formed)
 
 -- what is known of a store is known behind a clean step
 module _ {L : Type 0} (finds : L → List Word → Type 0) (known : Known L) (old new : Device) where

@@ -1,14 +1,14 @@
 //! What a store keeps in memory beside its device, and the calls that stand on it.
 ghost use Rattle.std.specs.Bool.{MatchBool};
-ghost use Rattle.std.specs.Prelude.{◌≡◌};
+ghost use Rattle.std.specs.Prelude.{◌≡◌, ◌<◌};
 ghost use Rattle.ee_flash.specs.Device.{IsOn};
+ghost use Rattle.ee_flash.specs.Size.{slot_count};
 ghost use Rattle.ee_core.specs.Calls.{Cleans, Forgets, Reads, Writes};
-ghost use Rattle.ee_core.specs.Changes.{IsFull, IsSpent};
+ghost use Rattle.ee_core.specs.Changes.{IsFull};
 ghost use Rattle.ee_core.specs.Known.{Knows};
 ghost use Rattle.ee_core.specs.State.{capacity, state_of};
 
 use crate::change::{Change, Put};
-use crate::changing::{make_change, prepare};
 use crate::cleaning::clean;
 use crate::lookup::Lookup;
 use crate::store::GREATEST_GENERATION;
@@ -56,21 +56,10 @@ impl<L: Lookup + Drop> Known<L> {
         if !flash.is_on() {
             return Err(WriteFault::Off);
         }
-        if self.is_full_for(flash, address) {
-            return Err(WriteFault::Full);
+        if self.layout.fill < flash.shape().slots() {
+            return self.append_value(flash, address, value);
         }
-        if self.is_spent(flash) {
-            return Err(WriteFault::Spent);
-        }
-        let put = Put { address, value };
-        let Ok(()) = prepare(flash, &self.layout, &mut self.lookup, put) else {
-            return Err(WriteFault::Memory);
-        };
-        let change = Change::Put { address, value };
-        match make_change(flash, &mut self.layout, &mut self.lookup, change) {
-            Ok(written) => Ok(written),
-            Err(Cut) => Err(WriteFault::Cut),
-        }
+        self.move_value(flash, address, value)
     }
 
     /// `Variables::forget` on the device of which this is known.
@@ -91,12 +80,19 @@ impl<L: Lookup + Drop> Known<L> {
         let Some(value) = self.lookup.value_of(flash, &self.layout, address) else {
             return Err(ForgetFault::Absent);
         };
-        if self.is_spent(flash) {
+        if self.layout.fill < flash.shape().slots() {
+            let change = Change::Forget { address, value };
+            return match self.lookup.append(flash, &mut self.layout, change) {
+                Ok(()) => Ok(Written::Appended),
+                Err(Cut) => Err(ForgetFault::Cut),
+            };
+        }
+        if self.layout.generation == GREATEST_GENERATION {
             return Err(ForgetFault::Spent);
         }
-        let change = Change::Forget { address, value };
-        match make_change(flash, &mut self.layout, &mut self.lookup, change) {
-            Ok(written) => Ok(written),
+        let puts = [Put { address, value }];
+        match self.lookup.transfer(flash, &mut self.layout, &puts, true) {
+            Ok(()) => Ok(Written::Moved),
             Err(Cut) => Err(ForgetFault::Cut),
         }
     }
@@ -117,34 +113,73 @@ impl<L: Lookup + Drop> Known<L> {
         }
     }
 
-    /// Whether a write or forgetting must be refused since no generation is left for the transfer
-    /// that it needs.
-    fn is_spent<F: Flash>(&self, flash: &F) -> bool
-        requires known { Knows L.fits (F.device flash.now) self.now }
-        requires on { IsOn (F.device flash.now) }
-        ensures { let device = F.device flash.now in
-            MatchBool result (IsSpent (capacity device) (state_of device))
-            (¬ IsSpent (capacity device) (state_of device)) }
+    /// Writes a value into the first free slot.
+    #[inline(always)]
+    fn append_value<F: Flash>(
+        &mut self,
+        flash: &mut F,
+        address: Address,
+        value: u32,
+    ) -> Result<Written, WriteFault>
+        requires known { Knows L.fits (F.device flash.old) self.old }
+        requires on { IsOn (F.device flash.old) }
+        requires free { self.old.layout.fill < slot_count (F.device flash.old).size }
+        ensures writes { Writes (F.device flash.old) address value result (F.device flash.new) }
+        ensures memory { result ≡ Err WriteFault.Memory → L.takes_memory }
+        ensures known { Knows L.fits (F.device flash.new) self.new }
     {
-        self.layout.fill == flash.shape().slots() && self.layout.generation == GREATEST_GENERATION
+        let put = Put { address, value };
+        let Ok(()) = self.lookup.make_ready(flash, &self.layout, put) else {
+            return Err(WriteFault::Memory);
+        };
+        let change = Change::Put { address, value };
+        match self.lookup.append(flash, &mut self.layout, change) {
+            Ok(()) => Ok(Written::Appended),
+            Err(Cut) => Err(WriteFault::Cut),
+        }
     }
 
-    /// Whether the address has no value and there is no slot for one more. Live addresses are
-    /// counted only where every slot is used.
-    fn is_full_for<F: Flash>(&self, flash: &F, address: Address) -> bool
+    /// Writes a value with the transfer that it needs, since every slot is used.
+    fn move_value<F: Flash>(
+        &mut self,
+        flash: &mut F,
+        address: Address,
+        value: u32,
+    ) -> Result<Written, WriteFault>
+        requires known { Knows L.fits (F.device flash.old) self.old }
+        requires on { IsOn (F.device flash.old) }
+        requires used { (state_of (F.device flash.old)).fill ≡ capacity (F.device flash.old) }
+        ensures writes { Writes (F.device flash.old) address value result (F.device flash.new) }
+        ensures memory { result ≡ Err WriteFault.Memory → L.takes_memory }
+        ensures known { Knows L.fits (F.device flash.new) self.new }
+    {
+        if self.has_no_place(flash, address) {
+            return Err(WriteFault::Full);
+        }
+        if self.layout.generation == GREATEST_GENERATION {
+            return Err(WriteFault::Spent);
+        }
+        let puts = [Put { address, value }];
+        let Ok(()) = self.lookup.make_room(flash, &self.layout, &puts) else {
+            return Err(WriteFault::Memory);
+        };
+        match self.lookup.transfer(flash, &mut self.layout, &puts, false) {
+            Ok(()) => Ok(Written::Moved),
+            Err(Cut) => Err(WriteFault::Cut),
+        }
+    }
+
+    /// Whether the address has no value and there is no slot for one more.
+    fn has_no_place<F: Flash>(&self, flash: &F, address: Address) -> bool
         requires known { Knows L.fits (F.device flash.now) self.now }
         requires on { IsOn (F.device flash.now) }
         ensures { let device = F.device flash.now in
             MatchBool result (IsFull (capacity device) (state_of device) address)
             (¬ IsFull (capacity device) (state_of device) address) }
     {
-        let slots = flash.shape().slots();
-        if self.layout.fill < slots {
-            return false;
-        }
         match self.lookup.value_of(flash, &self.layout, address) {
             Some(_) => false,
-            None => self.lookup.live_count(flash, &self.layout) == slots,
+            None => self.lookup.live_count(flash, &self.layout) == flash.shape().slots(),
         }
     }
 }
