@@ -15,7 +15,8 @@ use Rattle.ee_pages.specs.Sets.{first_page, other, page_of_slot, set_of, slots_o
 use Rattle.ee_pages.specs.declared.find.Layout.{Layout}
 use Rattle.ee_pages.specs.declared.side.Side.{Side}
 use Rattle.ee_pages.proofs.Public.{kept_side_is_live, length-set_of, other_twice}
-use Rattle.ee_core.specs.CallSteps.{HasMoved, Stays}
+use Rattle.ee_core.specs.CallSteps.{HasMoved, IsBehind, Stays}
+use Rattle.ee_core.specs.declared.copying.Place.{Place}
 use Rattle.ee_core.proofs.PendingPages.{as_many_not_blank}
 use Rattle.ee_core.proofs.SetPages.{page_of_set}
 
@@ -45,11 +46,11 @@ pub moved_stays : (old moved new : Device) (side : Side) (generation : ℕ) (cha
 moved_stays old moved new side generation changes has stays = search (rules, as_many_not_blank, other_twice)
 
 -- the layout of the set that the map moved to, as the code says it
-pub layout_moved : (old new : Device) (layout : Layout) (changes : List Change) (side : Side) (count first last words : ℕ) → HasMoved old new layout.side layout.generation changes → side ≡ other layout.side → count ≡ live_in (changed_by changes (meaning (slots_of (set_of layout.side old))))
-    → first ≡ first_page new.size (other layout.side) → words ≡ new.size.words → last ≡ count - 1 → IsLayout new record { side = side; generation = layout.generation + 1; fill = count; current = first + last / (words - 4) }
-layout_moved old new layout changes side count first last words moved side_is count_is first_is words_is last_is =
-    let found : IsLayout new record { side = other layout.side; generation = layout.generation + 1; fill = count; current = first + last / (words - 4) } = record { live = moved.live; fill = count_is ∙ sym moved.fill_is; current = rw (first_is, words_is, last_is) refl } in
-    subst (λ (set : Side). IsLayout new record { side = set; generation = layout.generation + 1; fill = count; current = first + last / (words - 4) }) (sym side_is) found
+pub layout_moved : (old new : Device) (layout : Layout) (changes : List Change) (side : Side) (place : Place) → HasMoved old new layout.side layout.generation changes → side ≡ other layout.side → place.slot ≡ live_in (changed_by changes (meaning (slots_of (set_of layout.side old))))
+    → IsBehind new.size (other layout.side) place → IsLayout new record { side = side; generation = layout.generation + 1; fill = place.slot; current = place.page }
+layout_moved old new layout changes side place moved side_is count_is behind =
+    let found : IsLayout new record { side = other layout.side; generation = layout.generation + 1; fill = place.slot; current = place.page } = record { live = moved.live; fill = count_is ∙ sym moved.fill_is; current = behind.page } in
+    subst (λ (set : Side). IsLayout new record { side = set; generation = layout.generation + 1; fill = place.slot; current = place.page }) (sym side_is) found
 
 -- and of one to which nothing moved
 pub layout_emptied : (old new : Device) (layout : Layout) (changes : List Change) (side : Side) (first : ℕ) → HasMoved old new layout.side layout.generation changes → side ≡ other layout.side → 0 ≡ live_in (changed_by changes (meaning (slots_of (set_of layout.side old))))

@@ -1,8 +1,8 @@
 -- What the parts of a call leave: a call is one after another of them.
-use Rattle.std.specs.Prelude.{◌≡◌, ◌≢◌, ◌<◌, ◌⊎◌, ℕ, ◌+◌, ◌-◌, ◌==◌, ◌&&◌, nat_le, nat_lt, if◌then◌else◌, Bool, true, Some, None, Result, Ok, Err, List, [], ◌∷◌, ◌++◌, length, slice_index_or}
+use Rattle.std.specs.Prelude.{◌≡◌, ◌≢◌, ◌<◌, ◌⊎◌, ℕ, ◌+◌, ◌-◌, ◌*◌, ◌==◌, ◌&&◌, nat_le, nat_lt, if◌then◌else◌, Bool, true, Some, None, Result, Ok, Err, List, [], ◌∷◌, ◌++◌, length, slice_index_or}
 use Rattle.ee_codec.specs.Words.{element, forgetting}
 use Rattle.ee_flash.specs.Device.{Device, IsOn, page_at, word_at}
-use Rattle.ee_flash.specs.Size.{Size}
+use Rattle.ee_flash.specs.Size.{Size, header_words}
 use Rattle.ee_flash.specs.Step.{IsPartlyErased}
 use Rattle.ee_flash.specs.declared.word.Word.{Word}
 use Rattle.ee_flash.specs.declared.word.Word.TheVariants.{Erased}
@@ -115,8 +115,13 @@ pub record PutsWord (page at : ℕ) (word : Word) (old new : Device) : Type 0 wh
 abbrev pub SetsMark : ℕ → Mark → Device → Device → Type 0
 SetsMark page mark old new = PutsWord page (place_of_mark mark) (marked_word mark (word_at old page (place_of_mark mark))) old new
 
--- The page and the place in it are those of the slot with this number, in this set. Behind the last
--- slot the page is none of the set's.
+-- the page is that of the last of so many slots of this set, its first one where there is none, and
+-- the place in it is the one behind that slot
+pub record IsBehind (size : Size) (side : Side) (place : Place) : Type 0 where
+  pub page : place.page ≡ first_page size side + page_of_slot size (place.slot - 1)
+  pub at : place.at + page_of_slot size (place.slot - 1) * (size.words - header_words) ≡ header_words + place.slot
+
+-- the page and the place in it are those of the slot with this number, in this set
 pub record Stands (size : Size) (side : Side) (place : Place) : Type 0 where
   pub page : place.page ≡ first_page size side + page_of_slot size place.slot
   pub at : place.at ≡ place_of_slot size place.slot

@@ -14,7 +14,7 @@ use Rattle.ee_pages.specs.Sets.{first_page, other, page_of_slot, place_of_slot, 
 use Rattle.ee_pages.specs.declared.find.Layout.{Layout}
 use Rattle.ee_pages.specs.declared.side.Side.{Side}
 use Rattle.ee_pages.specs.declared.state.Mark.TheVariants.{Active, Receive}
-use Rattle.ee_core.specs.CallSteps.{AddsWords, HasMoved, Holds, IsCommittedWith, IsSameSet, SetsMark, Stands, map_change, map_in, number_written, opened_set}
+use Rattle.ee_core.specs.CallSteps.{AddsWords, HasMoved, Holds, IsBehind, IsCommittedWith, IsSameSet, SetsMark, Stands, map_change, map_in, number_written, opened_set}
 use Rattle.ee_core.specs.Cuts.{AddsPartly, ErasesPartly, FillsPartly, IsDrawnPartly, MovesMapPartly, MovesPartly, PutsPartly, SetsPartly}
 use Rattle.ee_core.specs.Finished.{IsMarked}
 use Rattle.ee_core.specs.Picture.{IsDrawn, blank_picture, filled_set, is_used, picture_of, retired_pages}
@@ -28,8 +28,14 @@ pub record IsNewlyOpened (device : Device) (layout : Layout) : Type 0 where
   pub filling : IsFilling device (other layout.side) (layout.generation + 1) 0
   pub nothing : (address : ℕ) → map_in (other layout.side) device address ≡ None
 
--- or has so many that the next one goes to this place
+-- or has so many, up to this place
 pub record IsOpenAt (device : Device) (layout : Layout) (place : Place) : Type 0 where
+  pub generation : IsGeneration (layout.generation + 1)
+  pub filling : IsFilling device (other layout.side) (layout.generation + 1) place.slot
+  pub behind : IsBehind device.size (other layout.side) place
+
+-- or so many that the next one goes to this place
+pub record IsOpenFor (device : Device) (layout : Layout) (place : Place) : Type 0 where
   pub generation : IsGeneration (layout.generation + 1)
   pub filling : IsFilling device (other layout.side) (layout.generation + 1) place.slot
   pub stands : Stands device.size (other layout.side) place

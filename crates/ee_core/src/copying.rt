@@ -8,11 +8,11 @@ ghost use Rattle.ee_pages.specs.Laws.{KeepsSide};
 ghost use Rattle.ee_pages.specs.Meaning.{Put as MapPut, SpellsChange, changed_by, map_after, live_in};
 ghost use Rattle.ee_pages.specs.LiveOrder.{IsNextLive};
 ghost use Rattle.ee_pages.specs.Sets.{other as other_of, set_of, slots_of};
-ghost use Rattle.ee_core.specs.CallSteps.{Stands, map_change, map_in, number_written, replaced_map};
+ghost use Rattle.ee_core.specs.CallSteps.{IsBehind, Stands, map_change, map_in, number_written, replaced_map};
 ghost use Rattle.ee_core.specs.Course.{GoesOver, course_of, last_given};
 ghost use Rattle.ee_core.specs.Picture.{elements_of, map_without, moved_words, put_words};
 ghost use Rattle.ee_core.specs.Puts.{AreApart, changes_of_puts, names, puts_of};
-ghost use Rattle.ee_core.specs.Transfers.{Fills, IsOpenAt, IsNewlyOpened, ProgramsSlot, ReceivesSlot};
+ghost use Rattle.ee_core.specs.Transfers.{Fills, IsNewlyOpened, IsOpenAt, IsOpenFor, ProgramsSlot, ReceivesSlot};
 
 use crate::change::{Change, Put};
 use crate::live_cursor::LiveCursor;
@@ -114,28 +114,29 @@ fn next_given<F: Flash>(
     }
 }
 
-/// Where the next word goes. A transfer goes on from place to place, so that no word takes a
+/// How far a set is filled. A transfer goes on from place to place, so that no word takes a
 /// division.
 #[derive(Clone, Copy)]
-struct Place {
-    /// The number of the slot, counted from 0.
-    slot: usize,
-    /// Its page, counted from the device's first.
-    page: usize,
-    /// Its place in the page, behind the header.
-    at: usize,
+pub(crate) struct Place {
+    /// How many slots are filled, which is the number of the next one, counted from 0.
+    pub(crate) slot: usize,
+    /// The page of the last of them, the set's first page where none is, counted from the device's
+    /// first.
+    pub(crate) page: usize,
+    /// The place behind that slot in this page.
+    pub(crate) at: usize,
 }
 
 /// Fills the other set, which was opened, with the map after changes: the values that are put come
 /// first, in their order, and then each other live address, rising. Where they are forgotten, their
-/// addresses are left out alone. Gives how many slots that takes.
+/// addresses are left out alone. Gives how far that fills it.
 pub(crate) fn fill_set<F: Flash, C: LiveCursor>(
     flash: &mut F,
     layout: &Layout,
     puts: &[Put],
     forgets: bool,
     cursor: &mut C,
-) -> Result<usize, Cut>
+) -> Result<Place, Cut>
     requires opened { IsNewlyOpened (F.device flash.old) layout.now }
     requires first { C.behind cursor.old ≡ 0 }
     requires over { C.goes_over cursor.old (slots_of (set_of layout.now.side (F.device flash.old))) }
@@ -144,29 +145,31 @@ pub(crate) fn fill_set<F: Flash, C: LiveCursor>(
         (map_in layout.now.side (F.device flash.old))) ≤ slot_count (F.device flash.old).size }
     // At an error power was cut: the words are there in part, and the live set is as before.
     ensures fills { let map = map_in layout.now.side (F.device flash.old) in
-        Fills result (λ count. count) (F.device flash.old) (F.device flash.new) layout.now 0
+        Fills result (λ place. place.slot) (F.device flash.old) (F.device flash.new) layout.now 0
         (moved_words (changes_of_puts puts.now forgets) map)
         (changed_by (changes_of_puts puts.now forgets) map) }
-    ensures each_once { IfOk result (λ count. count ≡ live_in
+    ensures each_once { IfOk result (λ place. place.slot ≡ live_in
         (changed_by (changes_of_puts puts.now forgets)
         (map_in layout.now.side (F.device flash.old)))) }
+    ensures behind { IfOk result
+        (IsBehind (F.device flash.new).size (other_of layout.now.side)) }
     ensures power { Ends result (F.device flash.old) (F.device flash.new) }
 {
     let first = put_all(flash, layout, values_put(puts, forgets))?;
-    let count = copy_others(flash, layout, puts, first, cursor)?;
-    Ok(count)
+    let all = copy_others(flash, layout, puts, first, cursor)?;
+    Ok(all)
 }
 
-/// Writes values into the first slots of the other set, in their order. Gives the place of the next
-/// slot.
+/// Writes values into the first slots of the other set, in their order. Gives how far that fills
+/// it.
 fn put_all<F: Flash>(flash: &mut F, layout: &Layout, puts: &[Put]) -> Result<Place, Cut>
     requires opened { IsNewlyOpened (F.device flash.old) layout.now }
     requires fits { length puts.now ≤ slot_count (F.device flash.old).size }
     // At an error power was cut: the words are there in part, and the live set is as before.
     ensures fills { Fills result (λ place. place.slot) (F.device flash.old) (F.device flash.new)
         layout.now 0 (put_words (puts_of puts.now)) (changed_by (puts_of puts.now) (λ address. None)) }
-    ensures stands { IfOk result
-        (Stands (F.device flash.new).size (other_of layout.now.side)) }
+    ensures behind { IfOk result
+        (IsBehind (F.device flash.new).size (other_of layout.now.side)) }
     ensures power { Ends result (F.device flash.old) (F.device flash.new) }
 {
     let mut place = first_place(flash, layout);
@@ -178,14 +181,14 @@ fn put_all<F: Flash>(flash: &mut F, layout: &Layout, puts: &[Put]) -> Result<Pla
 }
 
 /// Copies each live address but those of the changes to the other set, from this place on. Gives
-/// how many of its slots are written then.
+/// how far it is filled then.
 fn copy_others<F: Flash, C: LiveCursor>(
     flash: &mut F,
     layout: &Layout,
     puts: &[Put],
     place: Place,
     cursor: &mut C,
-) -> Result<usize, Cut>
+) -> Result<Place, Cut>
     requires at { IsOpenAt (F.device flash.old) layout.now place }
     requires first { C.behind cursor.old ≡ 0 }
     requires over { C.goes_over cursor.old (slots_of (set_of layout.now.side (F.device flash.old))) }
@@ -196,10 +199,12 @@ fn copy_others<F: Flash, C: LiveCursor>(
         ≤ slot_count (F.device flash.old).size }
     // At an error power was cut: the words are there in part, and the live set is as before.
     ensures fills { let map = map_in layout.now.side (F.device flash.old) in
-        Fills result (λ all. all) (F.device flash.old) (F.device flash.new) layout.now place.slot
+        Fills result (λ all. all.slot) (F.device flash.old) (F.device flash.new) layout.now place.slot
         (elements_of (map_without (puts_of puts.now) map))
         (replaced_map (map_in (other_of layout.now.side) (F.device flash.old))
         (names (puts_of puts.now)) map) }
+    ensures behind { IfOk result
+        (IsBehind (F.device flash.new).size (other_of layout.now.side)) }
     ensures power { Ends result (F.device flash.old) (F.device flash.new) }
 {
     let mut place = place;
@@ -207,11 +212,11 @@ fn copy_others<F: Flash, C: LiveCursor>(
         let carries = has_put(puts, address);
         copy_one(flash, layout, carries, &mut place, address, value)?;
     }
-    Ok(place.slot)
+    Ok(place)
 }
 
-/// Copies a live address to this place of the other set, unless it is passed over. The place
-/// becomes that of the next free slot.
+/// Copies a live address to the next slot of the other set, which is filled up to this place, unless
+/// it is passed over. The place follows.
 fn copy_one<F: Flash>(
     flash: &mut F,
     layout: &Layout,
@@ -241,8 +246,9 @@ fn copy_one<F: Flash>(
     Ok(())
 }
 
-/// Writes an address with its value into this place of the other set, as `stage` does a change.
-/// Both callers hand these over in registers, which makes firmware smaller.
+/// Writes an address with its value into the next slot of the other set, which is filled up to this
+/// place, as `stage` does a change. The place follows. Both callers hand these over in registers,
+/// which makes firmware smaller.
 #[inline(never)]
 fn stage_put<F: Flash>(
     flash: &mut F,
@@ -257,47 +263,46 @@ fn stage_put<F: Flash>(
     ensures fills { Fills result (λ done. place.new.slot) (F.device flash.old) (F.device flash.new)
         layout.now place.old.slot (Held (element address value) ∷ [])
         (map_after (MapPut address value) (map_in (other_of layout.now.side) (F.device flash.old))) }
-    ensures stands { OnOk result
-        (Stands (F.device flash.new).size (other_of layout.now.side) place.new) }
+    ensures behind { OnOk result
+        (IsBehind (F.device flash.new).size (other_of layout.now.side) place.new) }
     ensures power { Ends result (F.device flash.old) (F.device flash.new) }
 {
-    stage(flash, layout, place, Change::Put { address, value })
+    let next = next_place(flash, layout, *place);
+    stage(flash, layout, next, Change::Put { address, value })?;
+    *place = Place {
+        slot: next.slot + 1,
+        page: next.page,
+        at: next.at + 1,
+    };
+    Ok(())
 }
 
 /// Writes a change into this place of the other set, its first free slot. A further page gets its
-/// receive word first. The place becomes that of the next slot.
-fn stage<F: Flash>(
-    flash: &mut F,
-    layout: &Layout,
-    place: &mut Place,
-    change: Change,
-) -> Result<(), Cut>
-    requires at { IsOpenAt (F.device flash.old) layout.now place.old }
-    requires free { place.old.slot < slot_count (F.device flash.old).size }
+/// receive word first.
+fn stage<F: Flash>(flash: &mut F, layout: &Layout, place: Place, change: Change) -> Result<(), Cut>
+    requires at { IsOpenFor (F.device flash.old) layout.now place }
+    requires free { place.slot < slot_count (F.device flash.old).size }
     // At an error power was cut: the words are there in part, and the live set is as before.
-    ensures fills { Fills result (λ done. place.new.slot) (F.device flash.old) (F.device flash.new)
-        layout.now place.old.slot (Held (number_written change) ∷ [])
+    ensures fills { Fills result (λ done. place.slot + 1) (F.device flash.old) (F.device flash.new)
+        layout.now place.slot (Held (number_written change) ∷ [])
         (map_after (map_change change) (map_in (other_of layout.now.side) (F.device flash.old))) }
-    ensures stands { OnOk result
-        (Stands (F.device flash.new).size (other_of layout.now.side) place.new) }
     // The change stands in the slot of this number.
     ensures slot { OnOk result ((number : ℕ) × SpellsChange number (map_change change)
         × (slots_of (set_of (other_of layout.now.side) (F.device flash.new))
-        ≡ slice_set (slots_of (set_of (other_of layout.now.side) (F.device flash.old))) place.old.slot
+        ≡ slice_set (slots_of (set_of (other_of layout.now.side) (F.device flash.old))) place.slot
         (Held number))) }
     ensures power { Ends result (F.device flash.old) (F.device flash.new) }
 {
     if place.at == HEADER_WORDS {
-        receive(flash, layout, *place)?;
+        receive(flash, layout, place)?;
     }
-    put_in(flash, layout, *place, change)?;
-    step(flash, layout, place);
+    put_in(flash, layout, place, change)?;
     Ok(())
 }
 
 /// Gives the page of this place of the other set the receive word, if it has none.
 fn receive<F: Flash>(flash: &mut F, layout: &Layout, place: Place) -> Result<(), Cut>
-    requires at { IsOpenAt (F.device flash.old) layout.now place }
+    requires at { IsOpenFor (F.device flash.old) layout.now place }
     requires free { place.slot < slot_count (F.device flash.old).size }
     // At an error power was cut: the receive word is there, or torn, or not there.
     ensures receives { ReceivesSlot result (F.device flash.old) (F.device flash.new) layout.now
@@ -310,7 +315,7 @@ fn receive<F: Flash>(flash: &mut F, layout: &Layout, place: Place) -> Result<(),
 
 /// Programs a change into this place of the other set, its first free slot.
 fn put_in<F: Flash>(flash: &mut F, layout: &Layout, place: Place, change: Change) -> Result<(), Cut>
-    requires at { IsOpenAt (F.device flash.old) layout.now place }
+    requires at { IsOpenFor (F.device flash.old) layout.now place }
     requires free { place.slot < slot_count (F.device flash.old).size }
     // At an error power was cut: the slot has the change, or is torn, or as before.
     ensures programs { ProgramsSlot result (F.device flash.old) (F.device flash.new) layout.now
@@ -321,10 +326,10 @@ fn put_in<F: Flash>(flash: &mut F, layout: &Layout, place: Place, change: Change
     Ok(())
 }
 
-/// The place of the first slot of the other set.
+/// How far a set is filled that was opened.
 fn first_place<F: Flash>(flash: &F, layout: &Layout) -> Place
     ensures first { result.slot ≡ 0 }
-    ensures stands { Stands (F.device flash.now).size (other_of layout.now.side) result }
+    ensures behind { IsBehind (F.device flash.now).size (other_of layout.now.side) result }
 {
     Place {
         slot: 0,
@@ -333,18 +338,20 @@ fn first_place<F: Flash>(flash: &F, layout: &Layout) -> Place
     }
 }
 
-/// Goes on to the next slot of the other set: one further in the page, or the first one of the next
-/// page. Behind the set's last slot it is in no page of the set.
-fn step<F: Flash>(flash: &F, layout: &Layout, place: &mut Place)
-    requires free { place.old.slot < slot_count (F.device flash.now).size }
-    requires stands { Stands (F.device flash.now).size (other_of layout.now.side) place.old }
-    ensures next { place.new.slot ≡ place.old.slot + 1 }
-    ensures stands { Stands (F.device flash.now).size (other_of layout.now.side) place.new }
+/// The place of the next slot of the other set, which is filled up to this place: one further in
+/// the page, or the first one of the next page.
+fn next_place<F: Flash>(flash: &F, layout: &Layout, place: Place) -> Place
+    requires behind { IsBehind (F.device flash.now).size (other_of layout.now.side) place }
+    requires free { place.slot < slot_count (F.device flash.now).size }
+    ensures same { result.slot ≡ place.slot }
+    ensures stands { Stands (F.device flash.now).size (other_of layout.now.side) result }
 {
-    place.slot += 1;
-    place.at += 1;
     if place.at == flash.shape().words() {
-        place.page += 1;
-        place.at = HEADER_WORDS;
+        return Place {
+            slot: place.slot,
+            page: place.page + 1,
+            at: HEADER_WORDS,
+        };
     }
+    place
 }

@@ -1,5 +1,5 @@
 //! A transfer: the other set is erased, opened and filled, and one mark makes it the live one.
-ghost use Rattle.std.specs.Prelude.{◌≡◌, ◌≤◌, ℕ, ◌+◌, [], true};
+ghost use Rattle.std.specs.Prelude.{◌≡◌, ◌≤◌, ℕ, ◌+◌, IfOk, [], true};
 ghost use Rattle.std.specs.List.{All};
 ghost use Rattle.ee_codec.specs.Words.{IsGeneration};
 ghost use Rattle.ee_flash.specs.Power.{Ends};
@@ -8,17 +8,17 @@ ghost use Rattle.ee_pages.specs.Filling.{IsFilling};
 ghost use Rattle.ee_pages.specs.Meaning.{changed_by, live_in};
 ghost use Rattle.ee_pages.specs.Page.{is_blank};
 ghost use Rattle.ee_pages.specs.Sets.{other as other_of, set_of, slots_of};
-ghost use Rattle.ee_core.specs.CallSteps.{IsOlder, map_in};
+ghost use Rattle.ee_core.specs.CallSteps.{IsBehind, IsOlder, map_in};
 ghost use Rattle.ee_core.specs.Picture.{moved_words};
 ghost use Rattle.ee_core.specs.Puts.{AreApart, changes_of_puts, each_forgotten};
 ghost use Rattle.ee_core.specs.Transfers.{ClearsOther, CommitsOther, MovesMap, MovesSet, OpensOther};
 
 use crate::change::Put;
 use crate::cleaning::erase_other;
-use crate::copying::{Cursor, fill_set};
+use crate::copying::{Cursor, Place, fill_set};
 use crate::live_cursor::LiveCursor;
 use crate::marking::finish;
-use ee_flash::{Cut, Flash, HEADER_WORDS};
+use ee_flash::{Cut, Flash};
 use ee_pages::{Layout, Mark, first_page, is_blank as page_is_blank, mark};
 
 /// Moves the map, with values that are put or without their addresses, where these are forgotten,
@@ -46,13 +46,12 @@ pub(crate) fn transfer<F: Flash, C: LiveCursor>(
         (map_in layout.old.side (F.device flash.old))) }
     ensures power { Ends result (F.device flash.old) (F.device flash.new) }
 {
-    let count = move_map(flash, layout, puts, forgets, cursor)?;
-    let slots = flash.shape().words() - HEADER_WORDS;
+    let filled = move_map(flash, layout, puts, forgets, cursor)?;
     *layout = Layout {
         side: layout.side.other(),
         generation: layout.generation + 1,
-        fill: count,
-        current: first_page(flash, layout.side.other()) + count.saturating_sub(1) / slots,
+        fill: filled.slot,
+        current: filled.page,
     };
     finish(flash, layout)?;
     Ok(())
@@ -83,14 +82,14 @@ pub(crate) fn transfer_by_slots<F: Flash>(
 }
 
 /// Moves the map, with what it is to carry, to the other set, and makes that one live. Gives how
-/// many slots it takes there.
+/// far that fills it.
 fn move_map<F: Flash, C: LiveCursor>(
     flash: &mut F,
     layout: &Layout,
     puts: &[Put],
     forgets: bool,
     cursor: &mut C,
-) -> Result<usize, Cut>
+) -> Result<Place, Cut>
     requires older { IsOlder (F.device flash.old) layout.now.side (layout.now.generation + 1) }
     requires first { C.behind cursor.old ≡ 0 }
     requires over { C.goes_over cursor.old (slots_of (set_of layout.now.side (F.device flash.old))) }
@@ -99,17 +98,19 @@ fn move_map<F: Flash, C: LiveCursor>(
     requires fits { live_in (changed_by (changes_of_puts puts.now forgets)
         (map_in layout.now.side (F.device flash.old))) ≤ slot_count (F.device flash.old).size }
     // At an error power was cut: the map has moved, or the set is live as before.
-    ensures moves { MovesMap result (λ count. count) (F.device flash.old) (F.device flash.new)
+    ensures moves { MovesMap result (λ place. place.slot) (F.device flash.old) (F.device flash.new)
         layout.now (changes_of_puts puts.now forgets)
         (moved_words (changes_of_puts puts.now forgets)
         (map_in layout.now.side (F.device flash.old))) }
+    ensures behind { IfOk result
+        (IsBehind (F.device flash.new).size (other_of layout.now.side)) }
     ensures power { Ends result (F.device flash.old) (F.device flash.new) }
 {
     clear(flash, layout)?;
     open_set(flash, layout)?;
-    let count = fill_set(flash, layout, puts, forgets, cursor)?;
+    let filled = fill_set(flash, layout, puts, forgets, cursor)?;
     commit(flash, layout)?;
-    Ok(count)
+    Ok(filled)
 }
 
 /// Makes the other set the live one with nothing in it, as `transfer` does with a map in which
@@ -151,7 +152,6 @@ fn move_nothing<F: Flash>(flash: &mut F, layout: &Layout) -> Result<(), Cut>
 
 /// Erases each page of the other set that is not blank, by rising page. Like the two below it
 /// stands in both of its callers, so that no code of one is the other's in firmware.
-#[inline(always)]
 fn clear<F: Flash>(flash: &mut F, layout: &Layout) -> Result<(), Cut>
     // At an error power was cut: some pages are erased, and one in part.
     ensures clears { ClearsOther result (F.device flash.old) (F.device flash.new) layout.now.side }

@@ -1,6 +1,6 @@
 use Rattle.std.proofs.Common.{◌≡◌, ◌<◌, inl, inr, false, None, ap, refl, subst, sym, ◌∙◌, arith}
 use Rattle.std.proofs.lemmas.Bool.{cases_Bool}
-use Rattle.std.proofs.lemmas.Result.{err_from_is_err_and}
+use Rattle.std.proofs.lemmas.Result.{IfOk-from_err, err_from_is_err_and}
 use Rattle.ee_flash.specs.Size.{slot_count}
 use Rattle.ee_flash.proofs.Public.{calls_compose}
 use Rattle.ee_pages.specs.Meaning.{meaning}
@@ -48,6 +48,7 @@ returns g c =
     let none = subst (λ slots. IsNextLive (meaning slots) (g.C.LiveCursor.behind c.live.cursor) None) filled.keeps.same_slots c.in_default.ensures.next in
     record {
       fills = all_filled (g.F.Flash.device c.args.flash.now) c.args.layout.now c.args.place (puts_of c.args.puts.now) (g.C.LiveCursor.behind c.live.cursor) (g.F.Flash.device c.live.flash) c.live.place.slot filled c.live.invariant.below none;
+      behind = c.live.invariant.at.behind;
       power = record { ok = c.live.invariant.goes; cut = tt; off = tt };
     }
 
@@ -64,5 +65,6 @@ returns-in_err-copy_one g c =
     ] in
     record {
       fills = rw failed.1 (next_partly (g.F.Flash.device c.args.flash.now) c.args.layout.now c.args.place (puts_of c.args.puts.now) (g.C.LiveCursor.behind c.live.cursor) _ _ (g.F.Flash.device c.live.flash) (g.F.Flash.device c.copy_one.new.flash) c.live.place.slot next filled (sym carries_is ∙ apart) c.in-Some.ensures.proper.1 (one.fills apart));
+      behind = IfOk-from_err _ _ c.from_residual.ensures.0;
       power = ends_later _ c.from_residual.ensures.0 c.live.invariant.goes one.power;
     }

@@ -19,7 +19,7 @@ put_all-requires-clause-fits g c =
 pub copy_others-requires-clause-at : goal.copy_others-requires-clause-at
 copy_others-requires-clause-at g c =
     let fills = c.in_ok-first.ensures.fills in
-    record { generation = c.requires.opened.generation; filling = fills.filling; stands = c.in_ok-first.ensures.stands }
+    record { generation = c.requires.opened.generation; filling = fills.filling; behind = c.in_ok-first.ensures.behind }
 
 pub copy_others-requires-clause-first : goal.copy_others-requires-clause-first
 copy_others-requires-clause-first g c = c.requires.first
@@ -55,12 +55,13 @@ returns g c =
     let changes = changes_of_puts c.args.puts.now c.args.forgets in
     let slot = c.in_ok-first.first.slot in
     let first = carried_first old mid layout c.args.puts.now c.args.forgets c.values_put.result.now slot c.values_put.ensures c.in_ok-first.ensures.fills in
-    let filled = others_filled changes old mid new layout slot first c.in_ok-count.count
-    (others_carried mid new layout c.args.puts.now c.args.forgets slot c.in_ok-count.count (map_in (other_of layout.side) mid) (map_in layout.side mid) c.in_ok-count.ensures.fills) in
+    let filled = others_filled changes old mid new layout slot first c.in_ok-all.all.slot
+    (others_carried mid new layout c.args.puts.now c.args.forgets slot c.in_ok-all.all.slot (map_in (other_of layout.side) mid) (map_in layout.side mid) c.in_ok-all.ensures.fills) in
     record {
       fills = filled;
       each_once = omega (arith, moved_words_are_live_lem changes (map_in layout.side old) c.requires.apart, filled.as_many);
-      power = record { ok = goes_on_both old mid new c.in_ok-first.ensures.power.ok c.in_ok-count.ensures.power.ok; cut = tt; off = tt };
+      behind = c.in_ok-all.ensures.behind;
+      power = record { ok = goes_on_both old mid new c.in_ok-first.ensures.power.ok c.in_ok-all.ensures.power.ok; cut = tt; off = tt };
     }
 
 pub returns-in_err-first : goal.returns-in_err-first
@@ -72,21 +73,23 @@ returns-in_err-first g c =
       fills = rw is.1 (first_partly (changes_of_puts c.args.puts.now c.args.forgets) old new c.args.layout.now (map_in c.args.layout.now.side old)
           (carried_partly old new c.args.layout.now c.args.puts.now c.args.forgets c.values_put.result.now c.values_put.ensures c.in_err-first.ensures.fills));
       each_once = IfOk-from_err _ _ c.from_residual.ensures.0;
+      behind = IfOk-from_err _ _ c.from_residual.ensures.0;
       power = ends_later _ c.from_residual.ensures.0 (goes_on_same old) c.in_err-first.ensures.power;
     }
 
-pub returns-in_err-count : goal.returns-in_err-count
-returns-in_err-count g c =
+pub returns-in_err-all : goal.returns-in_err-all
+returns-in_err-all g c =
     let old = g.F.Flash.device c.args.flash.now in
     let mid = g.F.Flash.device c.put_all.new.flash in
     let new = g.F.Flash.device c.copy_others.new.flash in
     let layout = c.args.layout.now in
     let slot = c.in_ok-first.first.slot in
     let first = carried_first old mid layout c.args.puts.now c.args.forgets c.values_put.result.now slot c.values_put.ensures c.in_ok-first.ensures.fills in
-    let is = err_from_is_err_and c.from_residual-in_err-count.result c.from_residual-in_err-count.ensures.1 in
+    let is = err_from_is_err_and c.from_residual-in_err-all.result c.from_residual-in_err-all.ensures.1 in
     record {
       fills = rw is.1 (others_partly (changes_of_puts c.args.puts.now c.args.forgets) old mid new layout slot first
-          (others_carried_partly mid new layout c.args.puts.now c.args.forgets slot (map_in layout.side mid) c.in_err-count.ensures.fills));
-      each_once = IfOk-from_err _ _ c.from_residual-in_err-count.ensures.0;
-      power = ends_later _ c.from_residual-in_err-count.ensures.0 c.in_ok-first.ensures.power.ok c.in_err-count.ensures.power;
+          (others_carried_partly mid new layout c.args.puts.now c.args.forgets slot (map_in layout.side mid) c.in_err-all.ensures.fills));
+      each_once = IfOk-from_err _ _ c.from_residual-in_err-all.ensures.0;
+      behind = IfOk-from_err _ _ c.from_residual-in_err-all.ensures.0;
+      power = ends_later _ c.from_residual-in_err-all.ensures.0 c.in_ok-first.ensures.power.ok c.in_err-all.ensures.power;
     }

@@ -12,14 +12,14 @@ puts-init g c =
     let old = g.F.Flash.device c.args.flash.now in
     record {
       filled = subst (λ slot. FilledBy old c.args.layout.now c.args.puts.now 0 old slot) (sym c.first_place-place.ensures.first) (none_put old c.args.layout.now c.args.puts.now c.requires.opened);
-      stands = c.first_place-place.ensures.stands;
+      behind = c.first_place-place.ensures.behind;
       goes = goes_on_same old;
     }
 
 pub stage_put-requires-clause-at : goal.stage_put-requires-clause-at
 stage_put-requires-clause-at g c =
     let filled = c.puts.invariant.filled in
-    record { generation = c.requires.opened.generation; filling = filled.filling; stands = c.puts.invariant.stands }
+    record { generation = c.requires.opened.generation; filling = filled.filling; behind = c.puts.invariant.behind }
 
 pub stage_put-requires-clause-free : goal.stage_put-requires-clause-free
 stage_put-requires-clause-free g c =
@@ -37,7 +37,7 @@ puts-preserved g c =
     let new = g.F.Flash.device c.stage_put.new.flash in
     record {
       filled = one_put old c.args.layout.now c.args.puts.now c.puts.put-index c.put-item.result mid new c.puts.place.slot c.puts-test.true c.put-item.is c.puts.invariant.filled c.stage_put.new.place.slot c.in_ok-stage_put.ensures.fills;
-      stands = c.in_ok-stage_put.ensures.stands;
+      behind = c.in_ok-stage_put.ensures.behind;
       goes = (calls_compose _ _ _ c.puts.invariant.goes).0 c.in_ok-stage_put.ensures.power.ok;
     }
 
@@ -46,7 +46,7 @@ returns g c =
     let held = c.puts.invariant in
     record {
       fills = all_put (g.F.Flash.device c.args.flash.now) c.args.layout.now c.args.puts.now c.puts.put-index (g.F.Flash.device c.puts.flash) c.puts.place.slot c.puts-test.false held.filled;
-      stands = held.stands;
+      behind = held.behind;
       power = record { ok = held.goes; cut = tt; off = tt };
     }
 
@@ -58,6 +58,6 @@ returns-in_err-stage_put g c =
     let is = err_from_is_err_and c.from_residual.result c.from_residual.ensures.1 in
     record {
       fills = rw is.1 (one_put_partly old c.args.layout.now c.args.puts.now c.puts.put-index c.put-item.result mid new c.puts.place.slot c.puts-test.true c.put-item.is c.puts.invariant.filled c.in_err-stage_put.ensures.fills);
-      stands = IfOk-from_err _ _ c.from_residual.ensures.0;
+      behind = IfOk-from_err _ _ c.from_residual.ensures.0;
       power = ends_later _ c.from_residual.ensures.0 c.puts.invariant.goes c.in_err-stage_put.ensures.power;
     }

@@ -3,7 +3,6 @@ use Rattle.std.proofs.lemmas.Result.{err_from_is_err_and}
 use Rattle.std.specs.Prelude.{slice_set}
 use Rattle.ee_flash.specs.Power.{GoesOn}
 use Rattle.ee_flash.specs.Size.{slot_count}
-use Rattle.ee_pages.specs.Filling.{IsFilling}
 use Rattle.ee_flash.specs.declared.word.Word.TheVariants.{Held}
 use Rattle.ee_pages.specs.Meaning.{map_after, meaning}
 use Rattle.ee_flash.specs.declared.word.Word.{Word}
@@ -28,24 +27,13 @@ put_in-requires g c = elim c.if-place-eq-HEADER_WORDS.branch [
   | else-place-eq-HEADER_WORDS w ↦ rw w.flash-is (record { at = c.requires.at; free = c.requires.free })
 ]
 
-pub step-requires : goal.step-requires
-step-requires g c =
-    let old = g.F.Flash.device c.args.flash.now in
-    let mid = g.F.Flash.device c.if-place-eq-HEADER_WORDS.flash in
-    let sizes : mid.size ≡ old.size = elim c.if-place-eq-HEADER_WORDS.branch [
-      | then-place-eq-HEADER_WORDS+in_ok-receive w ↦ rw w.flash-is w.in_ok-receive.ensures.receives.keeps.same_size
-      | else-place-eq-HEADER_WORDS w ↦ rw w.flash-is refl
-    ] in
-    let same = c.in_ok-put_in.ensures.programs.keeps.same_size ∙ sizes in
-    record { free = rw same c.requires.free; stands = rw same c.requires.at.stands }
-
 pub returns : goal.returns
 returns g c =
     let old = g.F.Flash.device c.args.flash.now in
     let mid = g.F.Flash.device c.if-place-eq-HEADER_WORDS.flash in
     let new = g.F.Flash.device c.put_in.new.flash in
     let layout = c.args.layout.now in
-    let slot = c.args.place.now.slot in
+    let slot = c.args.place.slot in
     let first : OpensForSlot old mid layout slot × GoesOn old mid = elim c.if-place-eq-HEADER_WORDS.branch [
       | then-place-eq-HEADER_WORDS+in_ok-receive w ↦ rw w.flash-is (w.in_ok-receive.ensures.receives, w.in_ok-receive.ensures.power.ok)
       | else-place-eq-HEADER_WORDS w ↦ rw w.flash-is (open_already old layout slot c.requires.at.filling (λ e. w.if-place-eq-HEADER_WORDS.false (omega (arith, c.requires.at.stands.at, e))), goes_on_same old)
@@ -54,13 +42,12 @@ returns g c =
     record {
       fills = record {
         keeps = keeps_side_both old mid new layout.side first.0.keeps puts.keeps;
-        filling = subst (λ n. IsFilling new (other_of layout.side) (layout.generation + 1) n) (sym c.step.ensures.next) puts.filling;
+        filling = puts.filling;
         map_is = λ address. puts.map_is address ∙ ap (λ (slots : List Word). map_after (map_change c.args.change) (meaning slots) address) first.0.same_slots;
         adds = stages old mid new layout slot c.args.change first.0 puts;
-        as_many = c.step.ensures.next;
+        as_many = refl;
         wear = puts.wear ∙ first.0.wear;
       };
-      stands = c.step.ensures.stands;
       slot = (puts.slot.0, puts.slot.1, puts.slot.2 ∙ ap (λ (slots : List Word). slice_set slots slot (Held puts.slot.0)) first.0.same_slots);
       power = record { ok = goes_on_both old mid new first.1 c.in_ok-put_in.ensures.power.ok; cut = tt; off = tt };
     }
@@ -69,7 +56,7 @@ pub returns-in_err-receive : goal.returns-in_err-receive
 returns-in_err-receive g c =
     let old = g.F.Flash.device c.args.flash.now in
     let new = g.F.Flash.device c.receive.new.flash in
-    let slot = c.args.place.now.slot in
+    let slot = c.args.place.slot in
     let failed = c.from_residual.ensures.0 in
     let cut = c.in_err-receive.ensures.receives in
     record {
@@ -79,7 +66,6 @@ returns-in_err-receive g c =
             (page_in_range old slot c.requires.free) cut.begun;
         wear = cut.wear;
       });
-      stands = never_on_ok _ _ failed;
       slot = never_on_ok _ _ failed;
       power = ends_later _ failed (goes_on_same old) c.in_err-receive.ensures.power;
     }
@@ -90,7 +76,7 @@ returns-in_err-put_in g c =
     let mid = g.F.Flash.device c.if-place-eq-HEADER_WORDS.flash in
     let new = g.F.Flash.device c.put_in.new.flash in
     let layout = c.args.layout.now in
-    let slot = c.args.place.now.slot in
+    let slot = c.args.place.slot in
     let first : OpensForSlot old mid layout slot × GoesOn old mid = elim c.if-place-eq-HEADER_WORDS.branch [
       | then-place-eq-HEADER_WORDS+in_ok-receive w ↦ rw w.flash-is (w.in_ok-receive.ensures.receives, w.in_ok-receive.ensures.power.ok)
       | else-place-eq-HEADER_WORDS w ↦ rw w.flash-is (open_already old layout slot c.requires.at.filling (λ e. w.if-place-eq-HEADER_WORDS.false (omega (arith, c.requires.at.stands.at, e))), goes_on_same old)
@@ -106,7 +92,6 @@ returns-in_err-put_in g c =
         begun = stage_partly old mid new layout slot (Held (number_written c.args.change)) first.0 formed cut.keeps.same_size (page_in_range mid slot free) (place_in_range mid slot formed) cut.begun;
         wear = cut.wear ∙ first.0.wear;
       });
-      stands = never_on_ok _ _ failed;
       slot = never_on_ok _ _ failed;
       power = ends_later _ failed first.1 c.in_err-put_in.ensures.power;
     }
