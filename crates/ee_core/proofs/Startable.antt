@@ -32,7 +32,7 @@ use Rattle.ee_core.proofs.Powered.{legal_on, state_in_on}
 use Rattle.ee_core.proofs.States.{same_states, state_is}
 use Rattle.ee_core.specs.Points.{with_power_on}
 use Rattle.ee_pages.specs.declared.find.ScanFault.{ScanFault}
-use Rattle.ee_core.specs.Openings.{IsFormatted, OpenFails}
+use Rattle.ee_core.specs.Openings.{OpenFails}
 use Rattle.ee_core.specs.Starts.{AreCutStarts, IsNew, IsStartable, IsStarting, StartFails, Starts, StartsEmpty}
 use Rattle.ee_core.specs.State.{formatted_state, state_of}
 use Rattle.ee_core.specs.declared.opening.OpenFault.{OpenFault}

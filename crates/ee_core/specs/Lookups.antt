@@ -1,5 +1,5 @@
 -- What a look-up must be given before a change.
-use Rattle.std.specs.Prelude.{ℕ, Bool, true, false, List, [], ◌∷◌}
+use Rattle.std.specs.Prelude.{ℕ, Bool, true, false, List}
 use Rattle.ee_flash.specs.Device.{Device}
 use Rattle.ee_flash.specs.declared.word.Word.{Word}
 use Rattle.ee_pages.specs.Sets.{set_of, slots_of}
@@ -22,13 +22,3 @@ IsReadyToMake fits ready (kinds.Forget address value) = fits
 abbrev pub HasRoomToMove : Type 0 → (List listed.Put → Type 0) → List listed.Put → Bool → Type 0
 HasRoomToMove fits room puts true = fits
 HasRoomToMove fits room puts false = room puts
-
--- for one change with a transfer
-abbrev pub HasRoomToMake : Type 0 → (List listed.Put → Type 0) → declared.Change → Type 0
-HasRoomToMake fits room (kinds.Put address value) = room (record { address = address; value = value } ∷ [])
-HasRoomToMake fits room (kinds.Forget address value) = fits
-
--- the change that an entry of a transfer makes
-abbrev pub change_of : listed.Put → Bool → declared.Change
-change_of put true = kinds.Forget put.address put.value
-change_of put false = kinds.Put put.address put.value

@@ -1,10 +1,8 @@
 //! A change of the map, and the word that spells it; a value that is put with others.
-ghost use Rattle.std.specs.Prelude.{◌≡◌, ◌<◌, [], ◌∷◌};
+ghost use Rattle.std.specs.Prelude.{◌≡◌, ◌<◌};
 ghost use Rattle.ee_flash.specs.Device.{all_ones};
 ghost use Rattle.ee_pages.specs.Meaning.{SpellsChange};
 ghost use Rattle.ee_core.specs.CallSteps.{map_change, number_written};
-ghost use Rattle.ee_core.specs.Lookups.{change_of};
-ghost use Rattle.ee_core.specs.Puts.{changes_of_puts};
 
 use ee_codec::{Address, element_word, forget_word};
 
@@ -30,17 +28,6 @@ pub enum Change {
 }
 
 impl Change {
-    /// What a transfer carries for it: its address with the value, and whether it forgets.
-    pub(crate) fn entry(self) -> (Put, bool)
-        ensures carries { changes_of_puts (result.0 ∷ []) result.1 ≡ map_change self ∷ [] }
-        ensures made { change_of result.0 result.1 ≡ self }
-    {
-        match self {
-            Change::Put { address, value } => (Put { address, value }, false),
-            Change::Forget { address, value } => (Put { address, value }, true),
-        }
-    }
-
     /// The number of the word that spells it, below `u64::MAX`.
     pub(crate) fn word(self) -> u64
         ensures number { result ≡ number_written self }

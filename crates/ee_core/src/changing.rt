@@ -1,5 +1,4 @@
-//! The making of changes that nothing refuses: one is appended where a slot is free, and else they
-//! are made with a transfer.
+//! The making of changes that nothing refuses: one in a free slot, or several with a transfer.
 ghost use Rattle.std.specs.Prelude.{◌≡◌, ◌<◌, ℕ, [], ◌∷◌, None, OnErr, OnOk};
 ghost use Rattle.ee_codec.specs.Words.{IsAddress};
 ghost use Rattle.ee_flash.specs.Device.{IsOn};
@@ -12,7 +11,6 @@ ghost use Rattle.ee_core.specs.CallSteps.{ForgetsHeld, map_change, map_in};
 ghost use Rattle.ee_core.specs.Changes.{Appends, IsCutChange, IsCutMaking, Moves, NeedsTransfer, Proceeds};
 ghost use Rattle.ee_core.specs.Emptying.{Empties, IsCutClear, MayClear};
 ghost use Rattle.ee_core.specs.Finished.{IsMarked, IsStore};
-ghost use Rattle.ee_core.specs.Lookups.{HasRoomToMake, IsReadyToMake, slots_by};
 ghost use Rattle.ee_core.specs.Picture.{moved_words};
 ghost use Rattle.ee_core.specs.Puts.{AreApart, changes_of_puts};
 ghost use Rattle.ee_core.specs.State.{capacity, state_of};
@@ -20,9 +18,7 @@ ghost use Rattle.ee_core.specs.Transfers.{SetMoved};
 
 use crate::change::{Change, Put};
 use crate::live_cursor::LiveCursor;
-use crate::lookup::{Lookup, NoMemory};
 use crate::moving::{transfer, transfer_by_slots, transfer_nothing};
-use crate::variables::Written;
 use crate::writing::append;
 use ee_flash::{Cut, Flash};
 use ee_pages::Layout;

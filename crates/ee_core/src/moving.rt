@@ -150,8 +150,7 @@ fn move_nothing<F: Flash>(flash: &mut F, layout: &Layout) -> Result<(), Cut>
     Ok(())
 }
 
-/// Erases each page of the other set that is not blank, by rising page. Like the two below it
-/// stands in both of its callers, so that no code of one is the other's in firmware.
+/// Erases each page of the other set that is not blank, by rising page.
 fn clear<F: Flash>(flash: &mut F, layout: &Layout) -> Result<(), Cut>
     // At an error power was cut: some pages are erased, and one in part.
     ensures clears { ClearsOther result (F.device flash.old) (F.device flash.new) layout.now.side }
@@ -167,6 +166,7 @@ fn clear<F: Flash>(flash: &mut F, layout: &Layout) -> Result<(), Cut>
 }
 
 /// Gives the first page of the other set, which is blank, the receive word of the next generation.
+/// Like the one below it stands in both of its callers, where it takes less code than a call.
 #[inline(always)]
 fn open_set<F: Flash>(flash: &mut F, layout: &Layout) -> Result<(), Cut>
     requires generation { IsGeneration (layout.now.generation + 1) }

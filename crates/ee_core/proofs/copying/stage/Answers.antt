@@ -1,4 +1,4 @@
-use Rattle.std.proofs.Common.{◌≡◌, ◌+◌, ◌<◌, ◌∙◌, List, refl, ap, sym, subst, arith}
+use Rattle.std.proofs.Common.{◌+◌, ◌<◌, ◌∙◌, List, refl, ap, sym, subst, arith}
 use Rattle.std.proofs.lemmas.Result.{err_from_is_err_and}
 use Rattle.std.specs.Prelude.{slice_set}
 use Rattle.ee_flash.specs.Power.{GoesOn}
@@ -12,7 +12,6 @@ use Rattle.ee_core.specs.Transfers.{OpensForSlot}
 use Rattle.ee_core.proofs.copying.stage.Goals.{then-place-eq-HEADER_WORDS+in_ok-receive, else-place-eq-HEADER_WORDS}
 use Rattle.ee_core.proofs.CutMoves.{receive_partly, stage_partly}
 use Rattle.ee_pages.proofs.Public.{keeps_side_both, page_in_range, place_in_range}
-use Rattle.ee_pages.specs.Sets.{other as other_of}
 use Rattle.ee_core.proofs.AfterCalls.{ends_later, goes_on_both, goes_on_same, never_on_ok}
 use Rattle.ee_core.proofs.copying.stage.Goals as goal
 

@@ -1,6 +1,6 @@
 use Rattle.std.proofs.Common.{◌≡◌, ap, inl, sym, ◌∙◌}
 use Rattle.std.proofs.Math.Path.{fun_ext}
-use Rattle.std.proofs.lemmas.Result.{err_from_is_err_and}
+use Rattle.std.proofs.lemmas.Result.{IfOk-from_err, err_from_is_err_and}
 use Rattle.ee_pages.proofs.Public.{keeps_side_both}
 use Rattle.ee_pages.specs.Sets.{committed_generation}
 use Rattle.ee_core.proofs.AfterCalls.{ends_later, goes_on_both, goes_on_same}
@@ -15,7 +15,7 @@ open_set-requires g c = record { generation = c.requires.generation; blank = c.i
 
 pub commit-requires : goal.commit-requires
 commit-requires g c =
-    let fills = c.in_ok-count.ensures.fills in
+    let fills = c.in_ok-filled.ensures.fills in
     let before = keeps_side_both (g.F.Flash.device c.args.flash.now) _ _ c.args.layout.now.side c.in_ok-clear.ensures.clears.keeps c.in_ok-open_set.ensures.opens.keeps in
     record {
       older = λ committed e. c.requires.older committed (ap committed_generation (sym (fills.keeps.same_set ∙ before.same_set)) ∙ e);
@@ -28,6 +28,7 @@ returns-in_err-clear g c =
     let cut = c.in_err-clear.ensures in
     record {
       moves = rw (err_from_is_err_and c.from_residual.result c.from_residual.ensures.1).1 (record { left = λ on. inl (cut.clears.partly on); cut = inl cut.clears.keeps });
+      behind = IfOk-from_err _ _ c.from_residual.ensures.0;
       power = ends_later _ c.from_residual.ensures.0 (goes_on_same (g.F.Flash.device c.args.flash.now)) cut.power;
     }
 
@@ -39,22 +40,24 @@ returns-in_err-open_set g c =
     record {
       moves = rw (err_from_is_err_and failed.result failed.ensures.1).1
           (open_cut (g.F.Flash.device c.args.flash.now) (g.F.Flash.device c.clear.new.flash) (g.F.Flash.device c.open_set.new.flash) c.args.layout.now clears.clears _ _ cut.opens);
+      behind = IfOk-from_err _ _ failed.ensures.0;
       power = ends_later _ failed.ensures.0 clears.power.ok cut.power;
     }
 
-pub returns-in_err-count : goal.returns-in_err-count
-returns-in_err-count g c =
+pub returns-in_err-filled : goal.returns-in_err-filled
+returns-in_err-filled g c =
     let old = g.F.Flash.device c.args.flash.now in
     let cleared = g.F.Flash.device c.clear.new.flash in
     let opened = g.F.Flash.device c.open_set.new.flash in
     let layout = c.args.layout.now in
     let clears = c.in_ok-clear.ensures in
     let opens = c.in_ok-open_set.ensures in
-    let cut = c.in_err-count.ensures in
-    let failed = c.from_residual-in_err-count in
+    let cut = c.in_err-filled.ensures in
+    let failed = c.from_residual-in_err-filled in
     record {
       moves = rw (err_from_is_err_and failed.result failed.ensures.1).1
           (fill_cut old opened layout (is_opened old cleared opened layout clears.clears opens.opens) (g.F.Flash.device c.fill_set.new.flash) (changes_of_puts c.args.puts.now c.args.forgets) cut.fills);
+      behind = IfOk-from_err _ _ failed.ensures.0;
       power = ends_later _ failed.ensures.0 (goes_on_both old cleared opened clears.power.ok opens.power.ok) cut.power;
     }
 
@@ -67,13 +70,14 @@ returns-in_err-commit g c =
     let layout = c.args.layout.now in
     let clears = c.in_ok-clear.ensures in
     let opens = c.in_ok-open_set.ensures in
-    let fills = c.in_ok-count.ensures in
+    let fills = c.in_ok-filled.ensures in
     let cut = c.in_err-commit.ensures in
     let failed = c.from_residual-in_err-commit in
     let holds = is_filled old opened layout (is_opened old cleared opened layout clears.clears opens.opens) filled (changes_of_puts c.args.puts.now c.args.forgets) _ fills.fills fills.each_once in
     record {
       moves = rw (err_from_is_err_and failed.result failed.ensures.1).1
           (commit_cut old filled (g.F.Flash.device c.commit.new.flash) layout _ _ _ holds cut.commits);
+      behind = IfOk-from_err _ _ failed.ensures.0;
       power = ends_later _ failed.ensures.0 (goes_on_both old opened filled (goes_on_both old cleared opened clears.power.ok opens.power.ok) fills.power.ok) cut.power;
     }
 
@@ -87,11 +91,12 @@ returns g c =
     let layout = c.args.layout.now in
     let clears = c.in_ok-clear.ensures in
     let opens = c.in_ok-open_set.ensures in
-    let fills = c.in_ok-count.ensures in
+    let fills = c.in_ok-filled.ensures in
     let done = c.in_ok-commit.ensures in
     let holds = is_filled old opened layout (is_opened old cleared opened layout clears.clears opens.opens) filled (changes_of_puts c.args.puts.now c.args.forgets) _ fills.fills fills.each_once in
     record {
       moves = is_moved old filled new layout _ _ _ holds done.commits;
+      behind = rw done.power.ok.same_size fills.behind;
       power = record { ok = goes_on_both old filled new (goes_on_both old opened filled (goes_on_both old cleared opened clears.power.ok opens.power.ok) fills.power.ok) done.power.ok; cut = tt; off = tt };
     }
 

@@ -1,7 +1,4 @@
-use Rattle.std.proofs.Common.{◌≡◌, ap, ◌∙◌}
 use Rattle.std.proofs.lemmas.Result.{err_from_is_err_and}
-use Rattle.ee_flash.specs.Size.{Size}
-use Rattle.ee_pages.specs.Sets.{first_page}
 use Rattle.ee_core.specs.Puts.{changes_of_puts}
 use Rattle.ee_core.proofs.AfterCalls.{ends_later, goes_on_both, goes_on_same}
 use Rattle.ee_core.proofs.MapMoves.{map_cut, mark_cut, set_moved}
@@ -11,15 +8,13 @@ use Rattle.ee_core.proofs.moving.transfer.Goals as goal
 pub finish-requires : goal.finish-requires
 finish-requires g c =
     let mid = g.F.Flash.device c.move_map.new.flash in
-    let moves = c.in_ok-count.ensures.moves in
-    let words : c.words-slots.result ≡ mid.size.words = c.words-slots.ensures.value ∙ ap (λ (size : Size). size.words) c.shape.ensures in
-    layout_moved (g.F.Flash.device c.args.flash.now) mid c.args.layout.now (changes_of_puts c.args.puts.now c.args.forgets) _ _ _ _ _ moves.moved c.other.ensures moves.each_once
-    (c.first_page.ensures ∙ ap (first_page mid.size) c.other-2.ensures) words c.saturating_sub.ensures
+    let moves = c.in_ok-filled.ensures.moves in
+    layout_moved (g.F.Flash.device c.args.flash.now) mid c.args.layout.now (changes_of_puts c.args.puts.now c.args.forgets) _ c.in_ok-filled.filled moves.moved c.other.ensures moves.each_once c.in_ok-filled.ensures.behind
 
-pub returns-in_err-count : goal.returns-in_err-count
-returns-in_err-count g c =
+pub returns-in_err-filled : goal.returns-in_err-filled
+returns-in_err-filled g c =
     let old = g.F.Flash.device c.args.flash.now in
-    let cut = c.in_err-count.ensures in
+    let cut = c.in_err-filled.ensures in
     record {
       moves = rw (err_from_is_err_and c.from_residual.result c.from_residual.ensures.1).1 (map_cut old (g.F.Flash.device c.move_map.new.flash) c.args.layout.now _ _ cut.moves);
       power = ends_later _ c.from_residual.ensures.0 (goes_on_same old) cut.power;
@@ -32,8 +27,8 @@ returns-in_err-finish g c =
     record {
       moves = rw (err_from_is_err_and failed.result failed.ensures.1).1
           (mark_cut (g.F.Flash.device c.args.flash.now) (g.F.Flash.device c.move_map.new.flash) (g.F.Flash.device c.finish.new.flash) c.args.layout.now c.other.result _ _ _
-          (g.met.F.Flash.formed c.args.flash.now) c.in_ok-count.ensures.moves c.other.ensures cut.stays cut.begun);
-      power = ends_later _ failed.ensures.0 c.in_ok-count.ensures.power.ok cut.power;
+          (g.met.F.Flash.formed c.args.flash.now) c.in_ok-filled.ensures.moves c.other.ensures cut.stays cut.begun);
+      power = ends_later _ failed.ensures.0 c.in_ok-filled.ensures.power.ok cut.power;
     }
 
 pub returns : goal.returns
@@ -42,11 +37,9 @@ returns g c =
     let mid = g.F.Flash.device c.move_map.new.flash in
     let new = g.F.Flash.device c.finish.new.flash in
     let layout = c.args.layout.now in
-    let map = c.in_ok-count.ensures in
+    let map = c.in_ok-filled.ensures in
     let done = c.in_ok-finish.ensures in
-    let words : c.words-slots.result ≡ mid.size.words = c.words-slots.ensures.value ∙ ap (λ (size : Size). size.words) c.shape.ensures in
-    let found = layout_moved old mid layout (changes_of_puts c.args.puts.now c.args.forgets) _ _ _ _ _ map.moves.moved c.other.ensures map.moves.each_once
-    (c.first_page.ensures ∙ ap (first_page mid.size) c.other-2.ensures) words c.saturating_sub.ensures in
+    let found = layout_moved old mid layout (changes_of_puts c.args.puts.now c.args.forgets) _ c.in_ok-filled.filled map.moves.moved c.other.ensures map.moves.each_once map.behind in
     record {
       moves = set_moved old mid new layout c.other.result _ _ _ (g.met.F.Flash.formed c.args.flash.now) map.moves c.other.ensures done.stays _ found done.shows done.finished;
       power = record { ok = goes_on_both old mid new map.power.ok done.power.ok; cut = tt; off = tt };

@@ -1,10 +1,11 @@
 // Made by firmware/rust/erase from crates/ee_core/src/first_start.rt. Change that file.
 //! The call for whenever a device is switched on: it opens the store, or makes the first one.
 
-use crate::ee_core::opening::{OpenFault, make_store, open};
+use crate::ee_core::formatting::write_format;
+use crate::ee_core::opening::{OpenFault, open_on};
 use crate::ee_core::store::Store;
 use crate::ee_flash::{Cut, Flash, HEADER_WORDS, Word};
-use crate::ee_pages::ScanFault;
+use crate::ee_pages::{Layout, ScanFault};
 
 /// Opens the store of a device that is on, as `open` does, or makes the first one, as `format`
 /// does: on a device in which no set is committed and each word behind a page's header is erased or
@@ -16,15 +17,24 @@ use crate::ee_pages::ScanFault;
 /// The device and the first `OpenFault` that applies. At a fault of the scan nothing changed. After
 /// a cut the variables are as before: in a first start there are none.
 pub async fn start<F: Flash>(flash: F) -> Result<Store<F>, (F, OpenFault)> {
-    let (flash, fault) = match open(flash).await {
-        Ok(store) => return Ok(store),
-        Err(failed) => failed,
+    let mut flash = flash;
+    match start_on(&mut flash).await {
+        Ok(layout) => Ok(Store::of(flash, layout)),
+        Err(fault) => Err((flash, fault)),
+    }
+}
+
+/// `start` in place: the layout of the store that the device becomes.
+pub async fn start_on<F: Flash>(flash: &mut F) -> Result<Layout, OpenFault> {
+    let fault = match open_on(flash).await {
+        Ok(layout) => return Ok(layout),
+        Err(fault) => fault,
     };
     let OpenFault::Scan(scan) = fault else {
-        return Err((flash, fault));
+        return Err(fault);
     };
-    if !is_startable(&flash, scan) {
-        return Err((flash, fault));
+    if !is_startable(flash, scan) {
+        return Err(fault);
     }
     start_anew(flash).await
 }
@@ -60,9 +70,9 @@ fn page_holds<F: Flash>(flash: &F, page: usize) -> bool {
 }
 
 /// Makes the first store.
-async fn start_anew<F: Flash>(flash: F) -> Result<Store<F>, (F, OpenFault)> {
-    match make_store(flash).await {
-        Ok(store) => Ok(store),
-        Err((flash, Cut)) => Err((flash, OpenFault::Cut)),
+async fn start_anew<F: Flash>(flash: &mut F) -> Result<Layout, OpenFault> {
+    match write_format(flash).await {
+        Ok(layout) => Ok(layout),
+        Err(Cut) => Err(OpenFault::Cut),
     }
 }

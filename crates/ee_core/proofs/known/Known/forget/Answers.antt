@@ -1,6 +1,6 @@
-use Rattle.std.proofs.Common.{◌≡◌, ◌∙◌, ap, arith, sym, rules, refl}
+use Rattle.std.proofs.Common.{◌≡◌, ◌∙◌, ap, arith, sym, rules}
 use Rattle.ee_flash.specs.Size.{slot_count}
-use Rattle.ee_core.specs.State.{State, capacity, state_of}
+use Rattle.ee_core.specs.State.{State, capacity}
 use Rattle.ee_core.proofs.Making.{all_written, store_marked}
 use Rattle.ee_core.proofs.States.{state_is}
 use Rattle.ee_core.proofs.known.Known.forget.Goals as goal
