@@ -177,9 +177,10 @@ impl<L: Lookup + Drop> Known<L> {
             MatchBool result (IsFull (capacity device) (state_of device) address)
             (¬ IsFull (capacity device) (state_of device) address) }
     {
+        let slots = flash.shape().slots();
         match self.lookup.value_of(flash, &self.layout, address) {
             Some(_) => false,
-            None => self.lookup.live_count(flash, &self.layout) == flash.shape().slots(),
+            None => self.lookup.live_count(flash, &self.layout) == slots,
         }
     }
 }

@@ -5,8 +5,9 @@ use crate::{
     Counts, Kept, Memory, Power, EE_ABSENT, EE_DRIVER, EE_FULL, EE_NOTHING, EE_NULL, EE_OFF, EE_OK,
     EE_SPENT, EE_TWICE, EE_WRONG_NUMBER,
 };
+use core::hint::unreachable_unchecked;
 use core::ptr::addr_of;
-use ee_store::proved::{ForgetFault, Lookup, Variables, WriteAllFault, WriteFault};
+use ee_store::proved::{Flash as _, ForgetFault, Lookup, Variables, WriteAllFault, WriteFault};
 use ee_store::{Address, Written};
 
 /// A store that is on.
@@ -55,9 +56,14 @@ pub unsafe fn running<'a, L: Lookup>(memory: *const Memory<L>) -> Result<Running
     match unsafe { standing(memory) } {
         // SAFETY: it is on, so the memory has a store. C owes that no other call is on it.
         EE_OK => Ok(unsafe {
+            let store = &mut *addr_of!((*memory).store).cast::<Kept<L>>().cast_mut();
+            // As `standing` saw: its device looks at this power, which is not null. So the calls need not ask again.
+            if !store.flash().is_on() {
+                unreachable_unchecked();
+            }
             Running {
                 power: &(*memory).power,
-                store: &mut *addr_of!((*memory).store).cast::<Kept<L>>().cast_mut(),
+                store,
             }
         }),
         status => Err(status),

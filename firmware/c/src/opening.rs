@@ -8,22 +8,29 @@ use crate::{
 };
 use core::mem::MaybeUninit;
 use core::ptr::{addr_of, addr_of_mut, null};
-use ee_store::proved::{self, Lookup, Nor as _, OpenFault, Pairs};
+use ee_store::proved::{self, Cut, Known, Lookup, Nor as _, OpenFault, Pairs, Slots};
 use ee_store::{ScanFault, Shape};
 
-/// Keeps what an opening gave in the store of the memory that C lends, and gives its status.
-#[inline(never)]
-fn kept(lent: &mut MaybeUninit<Kept>, opened: Result<Kept, (Device, OpenFault)>) -> u32 {
+/// Opens the store of a device, or makes one there, in the memory that C lends, and gives the status.
+#[inline(always)]
+fn kept(lent: &mut MaybeUninit<Kept>, mut device: Device, how: How) -> u32 {
+    let opened = match how {
+        How::Open => proved::open_on(&mut device),
+        How::Start => proved::start_on(&mut device),
+        How::Format => proved::write_format(&mut device).map_err(|Cut| OpenFault::Cut),
+    };
     match opened {
-        Ok(store) => {
-            lent.write(store);
+        Ok(layout) => {
+            let lookup = Slots;
+            lent.write(proved::store_of(device, Known { layout, lookup }));
             EE_OK
         }
-        Err((_, OpenFault::Scan(ScanFault::Unformatted))) => EE_UNFORMATTED,
-        Err((_, OpenFault::Scan(ScanFault::NoLiveSet))) => EE_NO_LIVE_SET,
-        Err((_, OpenFault::Scan(ScanFault::TwoLive))) => EE_TWO_LIVE,
-        Err((_, OpenFault::Scan(ScanFault::Foreign { .. }))) => EE_FOREIGN,
-        Err((_, OpenFault::Cut)) => EE_DRIVER,
+        Err(OpenFault::Scan(ScanFault::Unformatted)) => EE_UNFORMATTED,
+        Err(OpenFault::Scan(ScanFault::NoLiveSet)) => EE_NO_LIVE_SET,
+        Err(OpenFault::Scan(ScanFault::TwoLive)) => EE_TWO_LIVE,
+        Err(OpenFault::Scan(ScanFault::Foreign { .. })) => EE_FOREIGN,
+        // It was cut, and is off.
+        Err(OpenFault::Cut) => EE_DRIVER,
     }
 }
 
@@ -68,16 +75,9 @@ pub unsafe fn opened<L: Lookup>(lent: *mut Memory<L>, flash: *const Flash, how: 
     // SAFETY: the flash has all functions, and C keeps it and the memory where they are.
     let device = unsafe { Device::new(power, shape) };
     let numbers = device.numbers();
-    // The device looks at the power while the store is written.
     let memory = unsafe { &mut *addr_of_mut!((*lent).store).cast() };
     let status = match numbers.map_or(Ok(how), |numbers| prepared(&device, numbers, how)) {
-        Ok(How::Open) => kept(memory, proved::open(device)),
-        Ok(How::Start) => kept(memory, proved::start(device)),
-        Ok(How::Format) => match proved::format(device) {
-            Ok(store) => kept(memory, Ok(store)),
-            // It was cut, and is off.
-            Err(_) => EE_DRIVER,
-        },
+        Ok(how) => kept(memory, device, how),
         Err(status) => status,
     };
     // What the store says counts only where the flash didn't fail.

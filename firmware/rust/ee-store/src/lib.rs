@@ -72,9 +72,10 @@ pub use value::{NoAddress, Value};
 /// What the C library is made over: the proved store on a device of its own, which has to keep the contract of `Flash`.
 #[doc(hidden)]
 pub mod proved {
+    pub use crate::ee_core::inner::{open_on, start_on, store_of, write_format, Known};
     pub use crate::ee_core::{
-        bad_words, format, open, rescue, rescue_uncounted, start, ClearFault, ForgetFault, Lookup,
-        OpenFault, RescueFault, Rescued, Slots, Store, Variables, WriteAllFault, WriteFault,
+        bad_words, rescue_uncounted, ClearFault, ForgetFault, Lookup, OpenFault, RescueFault,
+        Slots, Store, Variables, WriteAllFault, WriteFault,
     };
     pub use crate::ee_flash::{Cut, Flash};
     pub use crate::ee_index::{with_lent_index, Entry, LentIndex};

@@ -129,9 +129,10 @@ impl<L: Lookup> Known<L> {
 
     /// Whether the address has no value and there is no slot for one more.
     fn has_no_place<F: Flash>(&self, flash: &F, address: Address) -> bool {
+        let slots = flash.shape().slots();
         match self.lookup.value_of(flash, &self.layout, address) {
             Some(_) => false,
-            None => self.lookup.live_count(flash, &self.layout) == flash.shape().slots(),
+            None => self.lookup.live_count(flash, &self.layout) == slots,
         }
     }
 }
