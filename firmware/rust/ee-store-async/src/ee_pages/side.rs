@@ -75,9 +75,8 @@ pub(crate) fn committed<F: Flash>(flash: &F, side: Side) -> Option<u32> {
     let mut room = [1; COMMITTING];
     let numbers = flash.run(first_page(flash, side), 0, &mut room[..COMMITTING]);
     // A torn word is 0 in a run, and an erased one all ones: neither is a mark or a receive word.
-    if numbers[1] == MARK {
-        read_receive(Word::Held(numbers[0]))
-    } else {
-        None
+    match numbers {
+        [receive, mark] if *mark == MARK => read_receive(Word::Held(*receive)),
+        _ => None,
     }
 }
