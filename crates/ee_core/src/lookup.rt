@@ -123,6 +123,12 @@ pub trait Lookup {
         ensures fits { OnErr result
             (fits self.new (slots_by layout.now (F.device flash.now))) };
 
+    /// Reads anew what it keeps in lent memory. It takes no more memory than it has.
+    fn read_anew<F: Flash>(&mut self, flash: &F, layout: &Layout)
+        requires layout { IsLayout (F.device flash.now) layout.now }
+        requires fits { fits self.old (slots_by layout.now (F.device flash.now)) }
+        ensures { fits self.new (slots_by layout.now (F.device flash.now)) };
+
     /// Follows a clear: it finds nothing from here on.
     fn find_nothing(&mut self)
         ensures { (slots : List Word) → ((address : ℕ) → meaning slots address ≡ None)
@@ -250,6 +256,9 @@ impl Lookup for Slots {
     ) -> Result<(), NoMemory> {
         Ok(())
     }
+
+    #[inline(always)]
+    fn read_anew<F: Flash>(&mut self, _flash: &F, _layout: &Layout) {}
 
     #[inline(always)]
     fn find_nothing(&mut self) {}

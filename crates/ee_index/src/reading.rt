@@ -25,7 +25,10 @@ pub(crate) fn slot_in<L: Listing>(list: &L, address: Address) -> Option<usize>
     ensures { result ≡ slot_for (L.list list.now) address }
 {
     match list.find(address) {
-        Ok(place) => Some(usize::from(list.entries()[place].1)),
+        Ok(place) => match list.entries().get(place) {
+            Some(entry) => Some(usize::from(entry.1)),
+            None => None,
+        },
         Err(_) => None,
     }
 }

@@ -6,10 +6,10 @@ use crate::numbers::How;
 use crate::opening::opened;
 use crate::values::Value;
 use crate::{Counts, Kept, Memory, EE_DRIVER, EE_NOTHING, EE_NULL, EE_OK};
-use core::mem::{size_of, MaybeUninit};
-use core::ptr::{addr_of, addr_of_mut};
+use core::mem::size_of;
+use core::ptr::addr_of_mut;
 use core::slice::from_raw_parts_mut;
-use ee_store::proved::{with_lent_index, Entry, LentIndex};
+use ee_store::proved::{Entry, LentIndex};
 use ee_store::Address;
 
 /// `ee_indexed` of `ee.h`.
@@ -17,7 +17,6 @@ type Indexed = Memory<LentIndex<'static>>;
 
 const _: () = assert!(size_of::<Indexed>() <= size_of::<[usize; 12]>());
 const _: () = assert!(size_of::<Entry>() == 4);
-const _: () = assert!(size_of::<Kept>() <= size_of::<Kept<LentIndex<'static>>>());
 
 /// What stands in a place of the index that is not used.
 const UNUSED: Entry = match Address::new(1) {
@@ -30,16 +29,12 @@ const UNUSED: Entry = match Address::new(1) {
 unsafe fn opened_indexed(
     store: *mut Indexed,
     flash: *const Flash,
-    how: How,
     entries: *mut Entry,
     count: u32,
+    how: How,
 ) -> u32 {
     if entries.is_null() {
         return EE_NULL;
-    }
-    let status = unsafe { opened(store, flash, how) };
-    if status != EE_OK {
-        return status;
     }
     for place in 0..count as usize {
         // SAFETY: a pointer that is not null is good for so many.
@@ -47,10 +42,14 @@ unsafe fn opened_indexed(
     }
     // SAFETY: as above, and C lends them as long as the store is used.
     let room = unsafe { from_raw_parts_mut(entries, count as usize) };
-    // SAFETY: it is on, so in the place of the store there is one without an index. The one with it takes that place.
+    // An index is given up until it is read, which the store has to be open for.
+    let status = unsafe { opened(store, flash, how, || LentIndex::new(room)) };
+    if status != EE_OK {
+        return status;
+    }
+    // SAFETY: it is on, so the memory has a store.
     unsafe {
-        let plain = addr_of!((*store).store).cast::<Kept>().read();
-        addr_of_mut!((*store).store).write(MaybeUninit::new(with_lent_index(plain, room)));
+        (*addr_of_mut!((*store).store).cast::<Kept<LentIndex<'_>>>()).read_anew();
         match (*store).power.get().is_null() {
             true => EE_DRIVER,
             false => EE_OK,
@@ -66,7 +65,7 @@ pub unsafe extern "C" fn ee_indexed_open(
     count: u32,
 ) -> u32 {
     // SAFETY: as `ee.h` says, here and below.
-    unsafe { opened_indexed(store, flash, How::Open, entries, count) }
+    unsafe { opened_indexed(store, flash, entries, count, How::Open) }
 }
 
 #[no_mangle]
@@ -76,7 +75,7 @@ pub unsafe extern "C" fn ee_indexed_start(
     entries: *mut Entry,
     count: u32,
 ) -> u32 {
-    unsafe { opened_indexed(store, flash, How::Start, entries, count) }
+    unsafe { opened_indexed(store, flash, entries, count, How::Start) }
 }
 
 #[no_mangle]
@@ -86,7 +85,7 @@ pub unsafe extern "C" fn ee_indexed_format(
     entries: *mut Entry,
     count: u32,
 ) -> u32 {
-    unsafe { opened_indexed(store, flash, How::Format, entries, count) }
+    unsafe { opened_indexed(store, flash, entries, count, How::Format) }
 }
 
 /// Whether the store goes by its index.

@@ -8,12 +8,17 @@ use crate::{
 };
 use core::mem::MaybeUninit;
 use core::ptr::{addr_of, addr_of_mut, null};
-use ee_store::proved::{self, Cut, Known, Lookup, Nor as _, OpenFault, Pairs, Slots};
+use ee_store::proved::{self, Cut, Known, Lookup, Nor as _, OpenFault, Pairs};
 use ee_store::{ScanFault, Shape};
 
-/// Opens the store of a device, or makes one there, in the memory that C lends, and gives the status.
+/// Opens the store of a device, or makes one there, in the memory that C lends, with this look-up. Gives the status.
 #[inline(always)]
-fn kept(lent: &mut MaybeUninit<Kept>, mut device: Device, how: How) -> u32 {
+fn kept<L: Lookup>(
+    lent: &mut MaybeUninit<Kept<L>>,
+    mut device: Device,
+    how: How,
+    lookup: impl FnOnce() -> L,
+) -> u32 {
     let opened = match how {
         How::Open => proved::open_on(&mut device),
         How::Start => proved::start_on(&mut device),
@@ -21,7 +26,7 @@ fn kept(lent: &mut MaybeUninit<Kept>, mut device: Device, how: How) -> u32 {
     };
     match opened {
         Ok(layout) => {
-            let lookup = Slots;
+            let lookup = lookup();
             lent.write(proved::store_of(device, Known { layout, lookup }));
             EE_OK
         }
@@ -51,10 +56,15 @@ fn prepared(device: &Device, numbers: Numbers, how: How) -> Result<How, u32> {
     Ok(how)
 }
 
-/// Opens a store over C's flash, and keeps it in the memory that C lends for one with this look-up, which is as large at least.
-/// Pointers are null or good.
+/// Opens a store over C's flash with this look-up, and keeps it in the memory that C lends. The look-up is as of a store of
+/// which nothing was read. Pointers are null or good.
 #[inline(never)]
-pub unsafe fn opened<L: Lookup>(lent: *mut Memory<L>, flash: *const Flash, how: How) -> u32 {
+pub unsafe fn opened<L: Lookup>(
+    lent: *mut Memory<L>,
+    flash: *const Flash,
+    how: How,
+    lookup: impl FnOnce() -> L,
+) -> u32 {
     if lent.is_null() {
         return EE_NULL;
     }
@@ -75,9 +85,9 @@ pub unsafe fn opened<L: Lookup>(lent: *mut Memory<L>, flash: *const Flash, how: 
     // SAFETY: the flash has all functions, and C keeps it and the memory where they are.
     let device = unsafe { Device::new(power, shape) };
     let numbers = device.numbers();
-    let memory = unsafe { &mut *addr_of_mut!((*lent).store).cast() };
+    let memory = unsafe { &mut *addr_of_mut!((*lent).store) };
     let status = match numbers.map_or(Ok(how), |numbers| prepared(&device, numbers, how)) {
-        Ok(how) => kept(memory, device, how),
+        Ok(how) => kept(memory, device, how, lookup),
         Err(status) => status,
     };
     // What the store says counts only where the flash didn't fail.

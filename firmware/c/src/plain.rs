@@ -6,21 +6,28 @@ use crate::numbers::How;
 use crate::opening::opened;
 use crate::values::Value;
 use crate::{Counts, Memory};
+use ee_store::proved::Slots;
+
+/// What keeps nothing in memory.
+#[inline(always)]
+fn slots() -> Slots {
+    Slots
+}
 
 #[no_mangle]
 pub unsafe extern "C" fn ee_open(store: *mut Memory, flash: *const Flash) -> u32 {
     // SAFETY: as `ee.h` says, here and below.
-    unsafe { opened(store, flash, How::Open) }
+    unsafe { opened(store, flash, How::Open, slots) }
 }
 
 #[no_mangle]
 pub unsafe extern "C" fn ee_start(store: *mut Memory, flash: *const Flash) -> u32 {
-    unsafe { opened(store, flash, How::Start) }
+    unsafe { opened(store, flash, How::Start, slots) }
 }
 
 #[no_mangle]
 pub unsafe extern "C" fn ee_format(store: *mut Memory, flash: *const Flash) -> u32 {
-    unsafe { opened(store, flash, How::Format) }
+    unsafe { opened(store, flash, How::Format, slots) }
 }
 
 #[no_mangle]

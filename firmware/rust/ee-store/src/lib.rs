@@ -78,7 +78,7 @@ pub mod proved {
         Slots, Store, Variables, WriteAllFault, WriteFault,
     };
     pub use crate::ee_flash::{Cut, Flash};
-    pub use crate::ee_index::{with_lent_index, Entry, LentIndex};
+    pub use crate::ee_index::{Entry, LentIndex};
     pub use crate::ee_pairs::{Nor, Pairs};
     pub use crate::store::holds_more;
 }

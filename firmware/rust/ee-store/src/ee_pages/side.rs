@@ -61,7 +61,10 @@ fn page_number<F: Flash>(flash: &F, side: Side, page: usize, slot: usize) -> u64
         HEADER_WORDS + slot,
         &mut room,
     );
-    run[0]
+    match run {
+        [number, ..] => *number,
+        [] => 0,
+    }
 }
 
 /// The number of the slot of this number of a set, counted from 0: it says what the slot says.
