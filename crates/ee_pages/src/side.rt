@@ -89,10 +89,7 @@ fn page_number<F: Flash>(flash: &F, side: Side, page: usize, slot: usize) -> u64
         HEADER_WORDS + slot,
         &mut room,
     );
-    match run {
-        [number, ..] => *number,
-        [] => 0,
-    }
+    run[0]
 }
 
 /// The number of the slot of this number of a set, counted from 0: it says what the slot says.
@@ -113,8 +110,9 @@ pub(crate) fn committed<F: Flash>(flash: &F, side: Side) -> Option<u32>
     let mut room = [1; COMMITTING];
     let numbers = flash.run(first_page(flash, side), 0, &mut room[..COMMITTING]);
     // A torn word is 0 in a run, and an erased one all ones: neither is a mark or a receive word.
-    match numbers {
-        [receive, mark] if *mark == MARK => read_receive(Word::Held(*receive)),
-        _ => None,
+    if numbers[1] == MARK {
+        read_receive(Word::Held(numbers[0]))
+    } else {
+        None
     }
 }

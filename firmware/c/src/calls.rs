@@ -83,9 +83,8 @@ pub unsafe fn write<L: Lookup>(store: *mut Memory<L>, address: u16, value: u32) 
         // Its last step was made, so nothing failed before.
         Ok(Written::Appended) => return EE_OK,
         Ok(Written::Moved) => EE_OK,
-        // It takes no memory, and never says `Memory`.
-        Err(WriteFault::Full | WriteFault::Memory) => EE_FULL,
-        // Or it was cut, and is broken.
+        Err(WriteFault::Full) => EE_FULL,
+        // Or it was cut, and is broken. It takes no memory, and never says `Memory`.
         Err(_) => EE_SPENT,
     };
     running.status(status)
@@ -114,7 +113,8 @@ pub unsafe fn write_all<L: Lookup>(
         Ok(Written::Appended) => return EE_OK,
         Ok(Written::Moved) => EE_OK,
         Err(WriteAllFault::Twice(_)) => EE_TWICE,
-        Err(WriteAllFault::Full | WriteAllFault::Memory) => EE_FULL,
+        Err(WriteAllFault::Full) => EE_FULL,
+        // As of `write`.
         Err(_) => EE_SPENT,
     };
     running.status(status)

@@ -5,8 +5,8 @@ use Rattle.ee_pages.specs.Sets.{set_of, slots_of}
 use Rattle.ee_pages.proofs.RunSlots.{slot_says, whole_run}
 use Rattle.ee_pages.proofs.side.page_number.Goals as goal
 
-pub returns-in-len1-up : goal.returns-in-len1-up
-returns-in-len1-up g c = λ address.
+pub returns : goal.returns
+returns g c = λ address.
     let device = g.F.Flash.device c.args.flash.now in
     let here = c.first_page.result + c.args.page in
     let formed = g.met.F.Flash.formed c.args.flash.now in
