@@ -22,6 +22,10 @@
 /* How many words a loop over a page asks its flash for at once. */
 #define RUN 16u
 
+/* What stands in the room for a run before that is read: any number. Its halves are alike, since
+ * cores of 32 bits write such a number with less code. */
+#define UNREAD UINT64_C(0x100000001)
+
 /* The words of a page's header, below its slots. */
 #define HEADER_WORDS 4u
 
@@ -214,14 +218,15 @@ typedef struct Cursor {
     uint32_t given;
 } Cursor;
 
-/* Where the next word goes. A transfer goes on from place to place, so that no word takes a
+/* How far a set is filled. A transfer goes on from place to place, so that no word takes a
  * division. */
 typedef struct CopyingPlace {
-    /* The number of the slot, counted from 0. */
+    /* How many slots are filled, which is the number of the next one, counted from 0. */
     uint32_t slot;
-    /* Its page, counted from the device's first. */
+    /* The page of the last of them, the set's first page where none is, counted from the device's
+     * first. */
     uint32_t page;
-    /* Its place in the page, behind the header. */
+    /* The place behind that slot in this page. */
     uint32_t at;
 } CopyingPlace;
 
@@ -430,25 +435,10 @@ typedef struct ForgetResult {
     ForgetFault error;
 } ForgetResult;
 
-typedef struct WrittenOrCut {
-    bool ok;
-    Written value;
-} WrittenOrCut;
-
-typedef struct PutAndBool {
-    Put first;
-    bool second;
-} PutAndBool;
-
 typedef struct ListOfPut {
     const Put *items;
     uint32_t len;
 } ListOfPut;
-
-typedef struct IndexOrCut {
-    bool ok;
-    uint32_t value;
-} IndexOrCut;
 
 typedef struct CopyingPlaceOrCut {
     bool ok;
@@ -514,16 +504,6 @@ typedef struct OpenResult {
     OpenRefusal error;
 } OpenResult;
 
-typedef struct FormatRefusal {
-    Device first;
-} FormatRefusal;
-
-typedef struct FormatResult {
-    bool ok;
-    Store value;
-    FormatRefusal error;
-} FormatResult;
-
 typedef struct LayoutOrOpenFault {
     bool ok;
     Layout value;
@@ -558,6 +538,16 @@ typedef struct UsedResult {
     uint32_t value;
     uint32_t error;
 } UsedResult;
+
+typedef struct FormatRefusal {
+    Device first;
+} FormatRefusal;
+
+typedef struct FormatResult {
+    bool ok;
+    Store value;
+    FormatRefusal error;
+} FormatResult;
 
 /* What makes a value of a type with a tag. */
 static inline MaybeAddress maybe_address_none(void) {
@@ -680,32 +670,16 @@ static inline ForgetResult forget_result_ok(Written value) {
     return (ForgetResult){ .ok = true, .value = value, .error = ForgetFault_Off };
 }
 
-static inline WrittenOrCut written_or_cut_ok(Written value) {
-    return (WrittenOrCut){ .ok = true, .value = value };
-}
-
-static inline WrittenOrCut written_or_cut_err(void) {
-    return (WrittenOrCut){ .ok = false, .value = Written_Appended };
-}
-
-static inline IndexOrCut index_or_cut_err(void) {
-    return (IndexOrCut){ .ok = false, .value = 0u };
-}
-
-static inline IndexOrCut index_or_cut_ok(uint32_t value) {
-    return (IndexOrCut){ .ok = true, .value = value };
-}
-
-static inline Change change_put(Address address, uint32_t value) {
-    return (Change){ .tag = Change_Put, .address = address, .value = value };
-}
-
 static inline CopyingPlaceOrCut copying_place_or_cut_err(void) {
     return (CopyingPlaceOrCut){ .ok = false, .value = { .slot = 0u, .page = 0u, .at = 0u } };
 }
 
 static inline CopyingPlaceOrCut copying_place_or_cut_ok(CopyingPlace value) {
     return (CopyingPlaceOrCut){ .ok = true, .value = value };
+}
+
+static inline Change change_put(Address address, uint32_t value) {
+    return (Change){ .tag = Change_Put, .address = address, .value = value };
 }
 
 static inline WriteAllFault write_all_fault_off(void) {
@@ -817,24 +791,9 @@ static inline OpenResult open_result_err(OpenRefusal error) {
             .fill = 0u, .current = 0u } } }, .error = error };
 }
 
-static inline OpenFault open_fault_cut(void) {
-    return (OpenFault){ .tag = OpenFault_Cut, .scan = { .tag = ScanFault_Unformatted, .page = 0u,
-            .at = 0u } };
-}
-
-static inline FormatResult format_result_ok(Store value) {
-    return (FormatResult){ .ok = true, .value = value, .error = { .first = { .power = NULL,
-            .shape = { .pages = 0u, .words = 0u } } } };
-}
-
-static inline FormatResult format_result_err(FormatRefusal error) {
-    return (FormatResult){ .ok = false, .value = { .flash = { .power = NULL,
-            .shape = { .pages = 0u, .words = 0u } }, .known = { .layout = { .side = Side_First,
-            .generation = 0u, .fill = 0u, .current = 0u } } }, .error = error };
-}
-
-static inline OpenFault open_fault_scan(ScanFault scan) {
-    return (OpenFault){ .tag = OpenFault_Scan, .scan = scan };
+static inline LayoutOrOpenFault layout_or_open_fault_ok(Layout value) {
+    return (LayoutOrOpenFault){ .ok = true, .value = value, .error = { .tag = OpenFault_Scan,
+            .scan = { .tag = ScanFault_Unformatted, .page = 0u, .at = 0u } } };
 }
 
 static inline LayoutOrOpenFault layout_or_open_fault_err(OpenFault error) {
@@ -842,9 +801,13 @@ static inline LayoutOrOpenFault layout_or_open_fault_err(OpenFault error) {
             .fill = 0u, .current = 0u }, .error = error };
 }
 
-static inline LayoutOrOpenFault layout_or_open_fault_ok(Layout value) {
-    return (LayoutOrOpenFault){ .ok = true, .value = value, .error = { .tag = OpenFault_Scan,
-            .scan = { .tag = ScanFault_Unformatted, .page = 0u, .at = 0u } } };
+static inline OpenFault open_fault_cut(void) {
+    return (OpenFault){ .tag = OpenFault_Cut, .scan = { .tag = ScanFault_Unformatted, .page = 0u,
+            .at = 0u } };
+}
+
+static inline OpenFault open_fault_scan(ScanFault scan) {
+    return (OpenFault){ .tag = OpenFault_Scan, .scan = scan };
 }
 
 static inline ScanFault scan_fault_unformatted(void) {
@@ -897,6 +860,17 @@ static inline LiveSetResult live_set_result_ok(LiveSet value) {
 
 static inline ScanFault scan_fault_two_live(void) {
     return (ScanFault){ .tag = ScanFault_TwoLive, .page = 0u, .at = 0u };
+}
+
+static inline FormatResult format_result_ok(Store value) {
+    return (FormatResult){ .ok = true, .value = value, .error = { .first = { .power = NULL,
+            .shape = { .pages = 0u, .words = 0u } } } };
+}
+
+static inline FormatResult format_result_err(FormatRefusal error) {
+    return (FormatResult){ .ok = false, .value = { .flash = { .power = NULL,
+            .shape = { .pages = 0u, .words = 0u } }, .known = { .layout = { .side = Side_First,
+            .generation = 0u, .fill = 0u, .current = 0u } } }, .error = error };
 }
 
 /* By hand. The difference, 0 where it would be less. */
@@ -1019,7 +993,6 @@ static bool fails_to_commit(uint32_t page, uint32_t at, Word word);
 EE_IN_PLACE MaybeSide only(bool first, bool second);
 static bool has_begun(const Device *flash, Side side);
 static bool is_left_behind(const Device *flash, Side side);
-static PutAndBool change_entry(Change self);
 static uint64_t change_word(Change self);
 static bool has_put(ListOfPut puts, Address address);
 static ListOfPut values_put(ListOfPut puts, bool forgets);
@@ -1040,27 +1013,27 @@ static void cursor_begin(Cursor *self, const Device *flash, const Layout *layout
 static MaybeLive cursor_next(Cursor *self, const Device *flash, const Layout *layout);
 static MaybeLive next_given(const Device *flash, const Layout *layout, LiveBatch *batch,
         uint32_t *given);
-static IndexOrCut fill_set(Device *flash, const Layout *layout, ListOfPut puts, bool forgets,
-        Cursor *cursor);
+static CopyingPlaceOrCut fill_set(Device *flash, const Layout *layout, ListOfPut puts,
+        bool forgets, Cursor *cursor);
 static CopyingPlaceOrCut put_all(Device *flash, const Layout *layout, ListOfPut puts);
-static IndexOrCut copy_others(Device *flash, const Layout *layout, ListOfPut puts,
+static CopyingPlaceOrCut copy_others(Device *flash, const Layout *layout, ListOfPut puts,
         CopyingPlace place, Cursor *cursor);
 static Step copy_one(Device *flash, const Layout *layout, bool passed, CopyingPlace *place,
         Address address, uint32_t value);
 EE_APART Step stage_put(Device *flash, const Layout *layout, CopyingPlace *place, Address address,
         uint32_t value);
-static Step stage(Device *flash, const Layout *layout, CopyingPlace *place, Change change);
+static Step stage(Device *flash, const Layout *layout, CopyingPlace place, Change change);
 static Step receive(Device *flash, const Layout *layout, CopyingPlace place);
 static Step copying_put_in(Device *flash, const Layout *layout, CopyingPlace place, Change change);
 static CopyingPlace first_place(const Device *flash, const Layout *layout);
-static void step(const Device *flash, const Layout *layout, CopyingPlace *place);
+static CopyingPlace next_place(const Device *flash, const Layout *layout, CopyingPlace place);
 static Step transfer(Device *flash, Layout *layout, ListOfPut puts, bool forgets, Cursor *cursor);
 static Step transfer_by_slots(Device *flash, Layout *layout, ListOfPut puts, bool forgets);
-static IndexOrCut move_map(Device *flash, const Layout *layout, ListOfPut puts, bool forgets,
-        Cursor *cursor);
+static CopyingPlaceOrCut move_map(Device *flash, const Layout *layout, ListOfPut puts,
+        bool forgets, Cursor *cursor);
 static Step transfer_nothing(Device *flash, Layout *layout);
 static Step move_nothing(Device *flash, const Layout *layout);
-EE_IN_PLACE Step clear(Device *flash, const Layout *layout);
+static Step clear(Device *flash, const Layout *layout);
 EE_IN_PLACE Step open_set(Device *flash, const Layout *layout);
 EE_IN_PLACE Step commit(Device *flash, const Layout *layout);
 EE_IN_PLACE Step append(Device *flash, Layout *layout, Change change);
@@ -1068,8 +1041,6 @@ EE_IN_PLACE IndexPair free_slot(const Device *flash, const Layout *layout);
 EE_IN_PLACE Step open_page(Device *flash, const Layout *layout, uint32_t page);
 EE_IN_PLACE Step push(Device *flash, const Layout *layout, uint32_t page, uint32_t at,
         Change change);
-EE_IN_PLACE WrittenOrCut make_change(Device *flash, Layout *layout, Change change);
-EE_IN_PLACE Step prepare(const Device *flash, const Layout *layout, Put put);
 EE_IN_PLACE Step append_change(Device *flash, Layout *layout, Change change);
 static Step move_unindexed(Device *flash, Layout *layout, ListOfPut puts, bool forgets);
 static Step empty(Device *flash, Layout *layout);
@@ -1087,8 +1058,10 @@ static ReadResult known_read(const Known *self, const Device *flash, Address add
 EE_IN_PLACE WriteResult known_write(Known *self, Device *flash, Address address, uint32_t value);
 EE_IN_PLACE ForgetResult known_forget(Known *self, Device *flash, Address address);
 static CleanResult known_clean_step(const Known *self, Device *flash);
-static bool known_is_spent(const Known *self, const Device *flash);
-static bool known_is_full_for(const Known *self, const Device *flash, Address address);
+EE_IN_PLACE WriteResult known_append_value(Known *self, Device *flash, Address address,
+        uint32_t value);
+static WriteResult known_move_value(Known *self, Device *flash, Address address, uint32_t value);
+static bool known_has_no_place(const Known *self, const Device *flash, Address address);
 static Store store_of(Device flash, Layout layout);
 static uint32_t store_torn_slots(const Store *self);
 static WriteAllResult store_write_one(Store *self, Put put);
@@ -1112,12 +1085,12 @@ static Step erase_all(Device *flash);
 static OpenResult opening_open(Device flash);
 static LayoutOrOpenFault open_on(Device *flash);
 static FormatResult opening_format(Device flash);
-static FormatResult make_store(Device flash);
 static OpenResult first_start_start(Device flash);
+static LayoutOrOpenFault start_on(Device *flash);
 static bool is_startable(const Device *flash, ScanFault fault);
 static bool holds_none(const Device *flash);
 static bool page_holds(const Device *flash, uint32_t page);
-static OpenResult start_anew(Device flash);
+static LayoutOrOpenFault start_anew(Device *flash);
 static RescueResult rescue_uncounted(Device flash);
 static LayoutOrCut rescue_set(Device *flash, Side side, uint32_t generation);
 static Word word_of(uint64_t number, uint64_t check);
@@ -1469,12 +1442,12 @@ static bool state_is_blank(const Device *flash, uint32_t page) {
 }
 
 /* The place, from one on, of a page's first word that is written; as many as it has
- * words where none is. */
+ * words where none is. Pages are numbered as for `state_of`. */
 static uint32_t blank_to(const Device *flash, uint32_t page, uint32_t from) {
     const uint32_t words = flash->shape.words;
     uint64_t room[RUN];
     for (uint32_t at = 0u; at < RUN; at++) {
-        room[at] = 1u;
+        room[at] = UNREAD;
     }
     uint32_t at = from;
     /* The first run has one word, since that is written in most pages that aren't blank. */
@@ -1773,7 +1746,7 @@ EE_APART uint32_t used_to(const Device *flash, uint32_t page) {
     const uint32_t words = flash->shape.words;
     uint64_t room[RUN];
     for (uint32_t at = 0u; at < RUN; at++) {
-        room[at] = 1u;
+        room[at] = UNREAD;
     }
     uint32_t at = HEADER_WORDS;
     while (at < words) {
@@ -1988,7 +1961,7 @@ static void gather_page(const Device *flash, Side side, uint32_t page, uint16_t 
     uint32_t span = span_of(nearest, above);
     uint64_t room[RUN];
     for (uint32_t at = 0u; at < RUN; at++) {
-        room[at] = 1u;
+        room[at] = UNREAD;
     }
     uint32_t at = HEADER_WORDS;
     while (at < words) {
@@ -2125,7 +2098,7 @@ static MaybeSaidValue said_in_page(const Device *flash, Side side, uint32_t page
     const uint32_t here = first_page(flash, side) + page;
     uint64_t room[RUN];
     for (uint32_t at = 0u; at < RUN; at++) {
-        room[at] = 1u;
+        room[at] = UNREAD;
     }
     uint32_t left = used;
     while (left > 0u) {
@@ -2368,19 +2341,6 @@ static bool is_left_behind(const Device *flash, Side side) {
 /* ---- ee_core/change.rs: A change of the map, and the word that spells it; a value that is put
  * with others. */
 
-/* What a transfer carries for it: its address with the value, and whether it forgets. */
-static PutAndBool change_entry(Change self) {
-    if (self.tag == Change_Put) {
-        const Address address = self.address;
-        const uint32_t value = self.value;
-        return (PutAndBool){ .first = (Put){ .address = address, .value = value },
-                .second = false };
-    }
-    const Address address = self.address;
-    const uint32_t value = self.value;
-    return (PutAndBool){ .first = (Put){ .address = address, .value = value }, .second = true };
-}
-
 /* The number of the word that spells it, below `u64::MAX`. */
 static uint64_t change_word(Change self) {
     if (self.tag == Change_Put) {
@@ -2595,24 +2555,24 @@ static MaybeLive next_given(const Device *flash, const Layout *layout, LiveBatch
 
 /* Fills the other set, which was opened, with the map after changes: the values that are put come
  * first, in their order, and then each other live address, rising. Where they are forgotten, their
- * addresses are left out alone. Gives how many slots that takes. */
-static IndexOrCut fill_set(Device *flash, const Layout *layout, ListOfPut puts, bool forgets,
-        Cursor *cursor) {
+ * addresses are left out alone. Gives how far that fills it. */
+static CopyingPlaceOrCut fill_set(Device *flash, const Layout *layout, ListOfPut puts,
+        bool forgets, Cursor *cursor) {
     const CopyingPlaceOrCut first_result = put_all(flash, layout, values_put(puts, forgets));
     if (!first_result.ok) {
-        return index_or_cut_err();
+        return copying_place_or_cut_err();
     }
     const CopyingPlace first = first_result.value;
-    const IndexOrCut count_result = copy_others(flash, layout, puts, first, cursor);
-    if (!count_result.ok) {
-        return index_or_cut_err();
+    const CopyingPlaceOrCut all_result = copy_others(flash, layout, puts, first, cursor);
+    if (!all_result.ok) {
+        return copying_place_or_cut_err();
     }
-    const uint32_t count = count_result.value;
-    return index_or_cut_ok(count);
+    const CopyingPlace all = all_result.value;
+    return copying_place_or_cut_ok(all);
 }
 
-/* Writes values into the first slots of the other set, in their order. Gives the place of the next
- * slot. */
+/* Writes values into the first slots of the other set, in their order. Gives how far that fills
+ * it. */
 static CopyingPlaceOrCut put_all(Device *flash, const Layout *layout, ListOfPut puts) {
     CopyingPlace place = first_place(flash, layout);
     for (uint32_t at = 0u; at < puts.len; at++) {
@@ -2627,8 +2587,8 @@ static CopyingPlaceOrCut put_all(Device *flash, const Layout *layout, ListOfPut 
 }
 
 /* Copies each live address but those of the changes to the other set, from this place on. Gives
- * how many of its slots are written then. */
-static IndexOrCut copy_others(Device *flash, const Layout *layout, ListOfPut puts,
+ * how far it is filled then. */
+static CopyingPlaceOrCut copy_others(Device *flash, const Layout *layout, ListOfPut puts,
         CopyingPlace place, Cursor *cursor) {
     for (;;) {
         const MaybeLive maybe_address_and_value = cursor_next(cursor, flash, layout);
@@ -2639,14 +2599,14 @@ static IndexOrCut copy_others(Device *flash, const Layout *layout, ListOfPut put
         const uint32_t value = maybe_address_and_value.value.second;
         const bool carries = has_put(puts, address);
         if (copy_one(flash, layout, carries, &place, address, value) == CUT) {
-            return index_or_cut_err();
+            return copying_place_or_cut_err();
         }
     }
-    return index_or_cut_ok(place.slot);
+    return copying_place_or_cut_ok(place);
 }
 
-/* Copies a live address to this place of the other set, unless it is passed over. The place
- * becomes that of the next free slot. */
+/* Copies a live address to the next slot of the other set, which is filled up to this place, unless
+ * it is passed over. The place follows. */
 static Step copy_one(Device *flash, const Layout *layout, bool passed, CopyingPlace *place,
         Address address, uint32_t value) {
     if (passed) {
@@ -2658,25 +2618,30 @@ static Step copy_one(Device *flash, const Layout *layout, bool passed, CopyingPl
     return DONE;
 }
 
-/* Writes an address with its value into this place of the other set, as `stage` does a change.
- * Both callers hand these over in registers, which makes firmware smaller. */
+/* Writes an address with its value into the next slot of the other set, which is filled up to this
+ * place, as `stage` does a change. The place follows. Both callers hand these over in registers,
+ * which makes firmware smaller. */
 EE_APART Step stage_put(Device *flash, const Layout *layout, CopyingPlace *place, Address address,
         uint32_t value) {
-    return stage(flash, layout, place, change_put(address, value));
+    const CopyingPlace next = next_place(flash, layout, *place);
+    if (stage(flash, layout, next, change_put(address, value)) == CUT) {
+        return CUT;
+    }
+    *place = (CopyingPlace){ .slot = next.slot + 1u, .page = next.page, .at = next.at + 1u };
+    return DONE;
 }
 
 /* Writes a change into this place of the other set, its first free slot. A further page gets its
- * receive word first. The place becomes that of the next slot. */
-static Step stage(Device *flash, const Layout *layout, CopyingPlace *place, Change change) {
-    if (place->at == HEADER_WORDS) {
-        if (receive(flash, layout, *place) == CUT) {
+ * receive word first. */
+static Step stage(Device *flash, const Layout *layout, CopyingPlace place, Change change) {
+    if (place.at == HEADER_WORDS) {
+        if (receive(flash, layout, place) == CUT) {
             return CUT;
         }
     }
-    if (copying_put_in(flash, layout, *place, change) == CUT) {
+    if (copying_put_in(flash, layout, place, change) == CUT) {
         return CUT;
     }
-    step(flash, layout, place);
     return DONE;
 }
 
@@ -2697,22 +2662,20 @@ static Step copying_put_in(Device *flash, const Layout *layout, CopyingPlace pla
     return DONE;
 }
 
-/* The place of the first slot of the other set. */
+/* How far a set is filled that was opened. */
 static CopyingPlace first_place(const Device *flash, const Layout *layout) {
     return (CopyingPlace){ .slot = 0u, .page = first_page(flash, side_other(layout->side)),
             .at = HEADER_WORDS };
 }
 
-/* Goes on to the next slot of the other set: one further in the page, or the first one of the next
- * page. Behind the set's last slot it is in no page of the set. */
-static void step(const Device *flash, const Layout *layout, CopyingPlace *place) {
+/* The place of the next slot of the other set, which is filled up to this place: one further in
+ * the page, or the first one of the next page. */
+static CopyingPlace next_place(const Device *flash, const Layout *layout, CopyingPlace place) {
     (void)layout;
-    place->slot += 1u;
-    place->at += 1u;
-    if (place->at == flash->shape.words) {
-        place->page += 1u;
-        place->at = HEADER_WORDS;
+    if (place.at == flash->shape.words) {
+        return (CopyingPlace){ .slot = place.slot, .page = place.page + 1u, .at = HEADER_WORDS };
     }
+    return place;
 }
 
 /* ---- ee_core/moving.rs: A transfer: the other set is erased, opened and filled, and one mark
@@ -2723,15 +2686,13 @@ static void step(const Device *flash, const Layout *layout, CopyingPlace *place)
  * live addresses. Of the layout it takes the set, in which any words may stand, and its
  * generation, no smaller than the one that the set is committed with. The layout follows. */
 static Step transfer(Device *flash, Layout *layout, ListOfPut puts, bool forgets, Cursor *cursor) {
-    const IndexOrCut count_result = move_map(flash, layout, puts, forgets, cursor);
-    if (!count_result.ok) {
+    const CopyingPlaceOrCut filled_result = move_map(flash, layout, puts, forgets, cursor);
+    if (!filled_result.ok) {
         return CUT;
     }
-    const uint32_t count = count_result.value;
-    const uint32_t slots = flash->shape.words - HEADER_WORDS;
+    const CopyingPlace filled = filled_result.value;
     *layout = (Layout){ .side = side_other(layout->side), .generation = layout->generation + 1u,
-            .fill = count, .current = first_page(flash,
-            side_other(layout->side)) + u32_saturating_sub(count, 1u) / slots };
+            .fill = filled.slot, .current = filled.page };
     if (finish(flash, layout) == CUT) {
         return CUT;
     }
@@ -2749,24 +2710,24 @@ static Step transfer_by_slots(Device *flash, Layout *layout, ListOfPut puts, boo
 }
 
 /* Moves the map, with what it is to carry, to the other set, and makes that one live. Gives how
- * many slots it takes there. */
-static IndexOrCut move_map(Device *flash, const Layout *layout, ListOfPut puts, bool forgets,
-        Cursor *cursor) {
+ * far that fills it. */
+static CopyingPlaceOrCut move_map(Device *flash, const Layout *layout, ListOfPut puts,
+        bool forgets, Cursor *cursor) {
     if (clear(flash, layout) == CUT) {
-        return index_or_cut_err();
+        return copying_place_or_cut_err();
     }
     if (open_set(flash, layout) == CUT) {
-        return index_or_cut_err();
+        return copying_place_or_cut_err();
     }
-    const IndexOrCut count_result = fill_set(flash, layout, puts, forgets, cursor);
-    if (!count_result.ok) {
-        return index_or_cut_err();
+    const CopyingPlaceOrCut filled_result = fill_set(flash, layout, puts, forgets, cursor);
+    if (!filled_result.ok) {
+        return copying_place_or_cut_err();
     }
-    const uint32_t count = count_result.value;
+    const CopyingPlace filled = filled_result.value;
     if (commit(flash, layout) == CUT) {
-        return index_or_cut_err();
+        return copying_place_or_cut_err();
     }
-    return index_or_cut_ok(count);
+    return copying_place_or_cut_ok(filled);
 }
 
 /* Makes the other set the live one with nothing in it, as `transfer` does with a map in which
@@ -2798,9 +2759,8 @@ static Step move_nothing(Device *flash, const Layout *layout) {
     return DONE;
 }
 
-/* Erases each page of the other set that is not blank, by rising page. Like the two below it
- * stands in both of its callers, so that no code of one is the other's in firmware. */
-EE_IN_PLACE Step clear(Device *flash, const Layout *layout) {
+/* Erases each page of the other set that is not blank, by rising page. */
+static Step clear(Device *flash, const Layout *layout) {
     const uint32_t first = first_page(flash, side_other(layout->side));
     for (uint32_t page = first, end = first + flash->shape.pages; page < end; page++) {
         if (!state_is_blank(flash, page)) {
@@ -2813,7 +2773,7 @@ EE_IN_PLACE Step clear(Device *flash, const Layout *layout) {
 }
 
 /* Gives the first page of the other set, which is blank, the receive word of the next generation.
- * */
+ * Like the one below it stands in both of its callers, where it takes less code than a call. */
 EE_IN_PLACE Step open_set(Device *flash, const Layout *layout) {
     const uint32_t first = first_page(flash, side_other(layout->side));
     if (marking_mark(flash, first, mark_receive(layout->generation + 1u)) == CUT) {
@@ -2889,39 +2849,8 @@ EE_IN_PLACE Step push(Device *flash, const Layout *layout, uint32_t page, uint32
     return DONE;
 }
 
-/* ---- ee_core/changing.rs: The making of changes that nothing refuses: one is appended where a
- * slot is free, and else they are made with a transfer. */
-
-/* Makes a change to which no refusal applies: in a free slot if there is one, else with a
- * transfer. The layout and the look-up follow. It stands in both of its callers, so that a write
- * takes fewer instructions in firmware. */
-EE_IN_PLACE WrittenOrCut make_change(Device *flash, Layout *layout, Change change) {
-    if (layout->fill < shape_slots(flash->shape)) {
-        const Step append_result = slots_append(flash, layout, change);
-        if (append_result == DONE) {
-            return written_or_cut_ok(Written_Appended);
-        }
-        return written_or_cut_err();
-    }
-    const PutAndBool put_and_forgets = change_entry(change);
-    const Put put = put_and_forgets.first;
-    const bool forgets = put_and_forgets.second;
-    const Step transfer_result = slots_transfer(flash, layout, (ListOfPut){ .items = &put,
-            .len = 1u }, forgets);
-    if (transfer_result == DONE) {
-        return written_or_cut_ok(Written_Moved);
-    }
-    return written_or_cut_err();
-}
-
-/* Makes a look-up ready for a value in the first free slot or, where none is free, makes room for
- * it in a transfer. An `Err`, which only a new address meets, leaves it as it was. */
-EE_IN_PLACE Step prepare(const Device *flash, const Layout *layout, Put put) {
-    if (layout->fill == shape_slots(flash->shape)) {
-        return slots_make_room(flash, layout, (ListOfPut){ .items = &put, .len = 1u });
-    }
-    return slots_make_ready(flash, layout, put);
-}
+/* ---- ee_core/changing.rs: The making of changes that nothing refuses: one in a free slot, or
+ * several with a transfer. */
 
 /* Makes a change to which no refusal applies in the first free slot. The layout follows. */
 EE_IN_PLACE Step append_change(Device *flash, Layout *layout, Change change) {
@@ -3024,23 +2953,10 @@ EE_IN_PLACE WriteResult known_write(Known *self, Device *flash, Address address,
     if (!device_is_on(flash)) {
         return write_result_err(WriteFault_Off);
     }
-    if (known_is_full_for(self, flash, address)) {
-        return write_result_err(WriteFault_Full);
+    if (self->layout.fill < shape_slots(flash->shape)) {
+        return known_append_value(self, flash, address, value);
     }
-    if (known_is_spent(self, flash)) {
-        return write_result_err(WriteFault_Spent);
-    }
-    const Put put = (Put){ .address = address, .value = value };
-    const Step prepare_result = prepare(flash, &self->layout, put);
-    if (prepare_result != DONE) {
-        return write_result_err(WriteFault_Memory);
-    }
-    const Change change = change_put(address, value);
-    const WrittenOrCut make_change_result = make_change(flash, &self->layout, change);
-    if (make_change_result.ok) {
-        return write_result_ok(make_change_result.value);
-    }
-    return write_result_err(WriteFault_Cut);
+    return known_move_value(self, flash, address, value);
 }
 
 /* `Variables::forget` on the device of which this is known. */
@@ -3053,13 +2969,22 @@ EE_IN_PLACE ForgetResult known_forget(Known *self, Device *flash, Address addres
         return forget_result_err(ForgetFault_Absent);
     }
     const uint32_t value = maybe_value.value;
-    if (known_is_spent(self, flash)) {
+    if (self->layout.fill < shape_slots(flash->shape)) {
+        const Change change = change_forget(address, value);
+        const Step append_result = slots_append(flash, &self->layout, change);
+        if (append_result == DONE) {
+            return forget_result_ok(Written_Appended);
+        }
+        return forget_result_err(ForgetFault_Cut);
+    }
+    if (self->layout.generation == GREATEST_GENERATION) {
         return forget_result_err(ForgetFault_Spent);
     }
-    const Change change = change_forget(address, value);
-    const WrittenOrCut make_change_result = make_change(flash, &self->layout, change);
-    if (make_change_result.ok) {
-        return forget_result_ok(make_change_result.value);
+    const Put put = (Put){ .address = address, .value = value };
+    const Step transfer_result = slots_transfer(flash, &self->layout, (ListOfPut){ .items = &put,
+            .len = 1u }, true);
+    if (transfer_result == DONE) {
+        return forget_result_ok(Written_Moved);
     }
     return forget_result_err(ForgetFault_Cut);
 }
@@ -3076,20 +3001,48 @@ static CleanResult known_clean_step(const Known *self, Device *flash) {
     return clean_result_err(WriteFault_Cut);
 }
 
-/* Whether a write or forgetting must be refused since no generation is left for the transfer
- * that it needs. */
-static bool known_is_spent(const Known *self, const Device *flash) {
-    return self->layout.fill == shape_slots(flash->shape) &&
-            self->layout.generation == GREATEST_GENERATION;
+/* Writes a value into the first free slot. */
+EE_IN_PLACE WriteResult known_append_value(Known *self, Device *flash, Address address,
+        uint32_t value) {
+    const Put put = (Put){ .address = address, .value = value };
+    const Step make_ready_result = slots_make_ready(flash, &self->layout, put);
+    if (make_ready_result != DONE) {
+        return write_result_err(WriteFault_Memory);
+    }
+    const Change change = change_put(address, value);
+    const Step append_result = slots_append(flash, &self->layout, change);
+    if (append_result == DONE) {
+        return write_result_ok(Written_Appended);
+    }
+    return write_result_err(WriteFault_Cut);
 }
 
-/* Whether the address has no value and there is no slot for one more. Live addresses are
- * counted only where every slot is used. */
-static bool known_is_full_for(const Known *self, const Device *flash, Address address) {
-    const uint32_t slots = shape_slots(flash->shape);
-    if (self->layout.fill < slots) {
-        return false;
+/* Writes a value with the transfer that it needs, since every slot is used. */
+static WriteResult known_move_value(Known *self, Device *flash, Address address, uint32_t value) {
+    if (known_has_no_place(self, flash, address)) {
+        return write_result_err(WriteFault_Full);
     }
+    if (self->layout.generation == GREATEST_GENERATION) {
+        return write_result_err(WriteFault_Spent);
+    }
+    const Put put = (Put){ .address = address, .value = value };
+    const Step make_room_result = slots_make_room(flash, &self->layout, (ListOfPut){ .items = &put,
+            .len = 1u });
+    if (make_room_result != DONE) {
+        return write_result_err(WriteFault_Memory);
+    }
+    const Put put_2 = (Put){ .address = address, .value = value };
+    const Step transfer_result = slots_transfer(flash, &self->layout, (ListOfPut){ .items = &put_2,
+            .len = 1u }, false);
+    if (transfer_result == DONE) {
+        return write_result_ok(Written_Moved);
+    }
+    return write_result_err(WriteFault_Cut);
+}
+
+/* Whether the address has no value and there is no slot for one more. */
+static bool known_has_no_place(const Known *self, const Device *flash, Address address) {
+    const uint32_t slots = shape_slots(flash->shape);
     const MaybeU32 maybe_value_of = slots_value_of(flash, &self->layout, address);
     if (maybe_value_of.some) {
         return false;
@@ -3354,12 +3307,6 @@ static LayoutOrOpenFault open_on(Device *flash) {
  *
  * The device, off: power failed. What it held is gone in part, until a `format` ends. */
 static FormatResult opening_format(Device flash) {
-    return make_store(flash);
-}
-
-/* Makes a store with nothing in it, as `format` does. A device that can be started stays one, or
- * is the store, where power is cut. */
-static FormatResult make_store(Device flash) {
     const LayoutOrCut write_format_result = write_format(&flash);
     if (write_format_result.ok) {
         const Layout layout = write_format_result.value;
@@ -3381,22 +3328,31 @@ static FormatResult make_store(Device flash) {
  * The device and the first `OpenFault` that applies. At a fault of the scan nothing changed. After
  * a cut the variables are as before: in a first start there are none. */
 static OpenResult first_start_start(Device flash) {
-    Device flash_2;
-    OpenFault fault;
-    const OpenResult open_result = opening_open(flash);
-    if (open_result.ok) {
-        return open_result_ok(open_result.value);
+    const LayoutOrOpenFault start_on_result = start_on(&flash);
+    if (start_on_result.ok) {
+        const Layout layout = start_on_result.value;
+        return open_result_ok(store_of(flash, layout));
     }
-    flash_2 = open_result.error.first;
-    fault = open_result.error.second;
+    const OpenFault fault = start_on_result.error;
+    return open_result_err((OpenRefusal){ .first = flash, .second = fault });
+}
+
+/* `start` in place: the layout of the store that the device becomes. */
+static LayoutOrOpenFault start_on(Device *flash) {
+    OpenFault fault;
+    const LayoutOrOpenFault open_on_result = open_on(flash);
+    if (open_on_result.ok) {
+        return layout_or_open_fault_ok(open_on_result.value);
+    }
+    fault = open_on_result.error;
     if (fault.tag != OpenFault_Scan) {
-        return open_result_err((OpenRefusal){ .first = flash_2, .second = fault });
+        return layout_or_open_fault_err(fault);
     }
     const ScanFault scan = fault.scan;
-    if (!is_startable(&flash_2, scan)) {
-        return open_result_err((OpenRefusal){ .first = flash_2, .second = fault });
+    if (!is_startable(flash, scan)) {
+        return layout_or_open_fault_err(fault);
     }
-    return start_anew(flash_2);
+    return start_anew(flash);
 }
 
 /* Whether a device of which a scan says this can be started. */
@@ -3436,13 +3392,12 @@ static bool page_holds(const Device *flash, uint32_t page) {
 }
 
 /* Makes the first store. */
-static OpenResult start_anew(Device flash) {
-    const FormatResult make_store_result = make_store(flash);
-    if (make_store_result.ok) {
-        return open_result_ok(make_store_result.value);
+static LayoutOrOpenFault start_anew(Device *flash) {
+    const LayoutOrCut write_format_result = write_format(flash);
+    if (write_format_result.ok) {
+        return layout_or_open_fault_ok(write_format_result.value);
     }
-    const Device flash_2 = make_store_result.error.first;
-    return open_result_err((OpenRefusal){ .first = flash_2, .second = open_fault_cut() });
+    return layout_or_open_fault_err(open_fault_cut());
 }
 
 /* ---- ee_core/rescuing.rs: A rescue: the map that a set says is moved to the other set,
@@ -3563,10 +3518,24 @@ static void fill_by_reading(const Numbers *nor, uint32_t page, uint32_t at, Room
     }
 }
 
-/* The number of the word that two numbers are: `u64::MAX` of an erased word, 0 of a torn one. */
+/* The number of the word that two numbers are: `u64::MAX` of an erased word, 0 of a torn one. It
+ * looks at halves of 32 bits, as `is_whole` does, and first whether the word is held, as most are.
+ * */
 static uint64_t number_of_pair(uint64_t number, uint64_t check) {
-    if (is_whole(number, check)) {
-        return number;
+    const U32AndU32 low_and_high = halves(number);
+    const uint32_t low = low_and_high.first;
+    const uint32_t high = low_and_high.second;
+    const U32AndU32 check_low_and_check_high = halves(check);
+    const uint32_t check_low = check_low_and_check_high.first;
+    const uint32_t check_high = check_low_and_check_high.second;
+    if ((u32_wrapping_add(low, check_low) & u32_wrapping_add(high, check_high)) == UINT32_MAX) {
+        if (check != 0u) {
+            return number;
+        }
+        return 0u;
+    }
+    if ((((low & high) & check_low) & check_high) == UINT32_MAX) {
+        return UINT64_MAX;
     }
     return 0u;
 }

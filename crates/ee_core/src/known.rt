@@ -90,8 +90,8 @@ impl<L: Lookup + Drop> Known<L> {
         if self.layout.generation == GREATEST_GENERATION {
             return Err(ForgetFault::Spent);
         }
-        let puts = [Put { address, value }];
-        match self.lookup.transfer(flash, &mut self.layout, &puts, true) {
+        let put = Put { address, value };
+        match self.lookup.transfer(flash, &mut self.layout, &[put], true) {
             Ok(()) => Ok(Written::Moved),
             Err(Cut) => Err(ForgetFault::Cut),
         }
@@ -159,11 +159,12 @@ impl<L: Lookup + Drop> Known<L> {
         if self.layout.generation == GREATEST_GENERATION {
             return Err(WriteFault::Spent);
         }
-        let puts = [Put { address, value }];
-        let Ok(()) = self.lookup.make_room(flash, &self.layout, &puts) else {
+        let put = Put { address, value };
+        let Ok(()) = self.lookup.make_room(flash, &self.layout, &[put]) else {
             return Err(WriteFault::Memory);
         };
-        match self.lookup.transfer(flash, &mut self.layout, &puts, false) {
+        let put = Put { address, value };
+        match self.lookup.transfer(flash, &mut self.layout, &[put], false) {
             Ok(()) => Ok(Written::Moved),
             Err(Cut) => Err(WriteFault::Cut),
         }

@@ -14,7 +14,7 @@ ghost use Rattle.ee_pages.specs.declared.batch_items.TheConstants.{BATCH};
 use crate::batch_items::Batch;
 use crate::find::Layout;
 use crate::number::address_in;
-use crate::runs::{RUN, run_from};
+use crate::runs::{RUN, UNREAD, run_from};
 use crate::side::{Side, first_page};
 use ee_codec::Address;
 use ee_flash::{Flash, HEADER_WORDS};
@@ -108,7 +108,7 @@ fn gather_page<F: Flash>(flash: &F, side: Side, page: usize, above: u16, nearest
     let here = first_page(flash, side) + page;
     let words = flash.shape().words();
     let mut span = span_of(nearest, above);
-    let mut room = [1; RUN];
+    let mut room = [UNREAD; RUN];
     let mut at = HEADER_WORDS;
     'runs: while at < words {
         let run = run_from(flash, here, at, words, &mut room);

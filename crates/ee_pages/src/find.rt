@@ -13,7 +13,7 @@ ghost use Rattle.ee_pages.specs.Page.{is_written as written};
 ghost use Rattle.ee_pages.specs.Sets.{front, live_of, page_of_slot, set_of, slots_of, word_of};
 
 use crate::number::is_slot;
-use crate::runs::{RUN, run_from};
+use crate::runs::{RUN, UNREAD, run_from};
 use crate::side::{Side, committed, first_page, set_word};
 use crate::state::{blank_to, is_blank, is_torn};
 use crate::table::fits_header;
@@ -274,7 +274,7 @@ fn used_to<F: Flash>(flash: &F, page: usize) -> usize
         → holds_slot (word_at (F.device flash.now) page result) ≡ false }
 {
     let words = flash.shape().words();
-    let mut room = [1; RUN];
+    let mut room = [UNREAD; RUN];
     let mut at = HEADER_WORDS;
     'runs: while at < words {
         let run = run_from(flash, page, at, words, &mut room);

@@ -11,7 +11,7 @@ ghost use Rattle.ee_pages.specs.Sets.{set_of, slots_of, torn_of};
 use crate::batch::{LiveBatch, next_batch};
 use crate::find::Layout;
 use crate::number::{address_in, gives_value, says_something};
-use crate::runs::RUN;
+use crate::runs::{RUN, UNREAD};
 use crate::side::{Side, first_page, page_slot, set_number, set_slot};
 use crate::state::is_torn;
 use ee_codec::Address;
@@ -164,7 +164,7 @@ fn said_in_page<F: Flash>(
         result ≡ latest_in (take used (drop before slots)) address }
 {
     let here = first_page(flash, side) + page;
-    let mut room = [1; RUN];
+    let mut room = [UNREAD; RUN];
     let mut left = used;
     'runs: while left > 0 {
         let count = RUN.min(left);

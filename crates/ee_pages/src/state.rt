@@ -4,7 +4,7 @@ ghost use Rattle.ee_flash.specs.Device.{all_ones, page_at, word_at};
 ghost use Rattle.ee_flash.specs.Size.{page_count};
 ghost use Rattle.ee_pages.specs.Page.{is_blank as blank, is_torn as torn, is_written as written, state_of_words};
 
-use crate::runs::{RUN, run_from};
+use crate::runs::{RUN, UNREAD, run_from};
 use ee_flash::{Flash, Word};
 
 /// What a page's header says of it. A torn mark counts as present.
@@ -71,8 +71,10 @@ pub fn is_blank<F: Flash>(flash: &F, page: usize) -> bool
 }
 
 /// The place, from one on, of a page's first word that is written; as many as it has
-/// words where none is.
-pub(crate) fn blank_to<F: Flash>(flash: &F, page: usize, from: usize) -> usize
+/// words where none is. Pages are numbered as for `state_of`.
+///
+/// Source: ours.
+pub fn blank_to<F: Flash>(flash: &F, page: usize, from: usize) -> usize
     requires page_in_range { page < page_count (F.device flash.now).size }
     requires place_in_range { from ≤ (F.device flash.now).size.words }
     ensures from { from ≤ result }
@@ -83,7 +85,7 @@ pub(crate) fn blank_to<F: Flash>(flash: &F, page: usize, from: usize) -> usize
         → written (word_at (F.device flash.now) page result) ≡ true }
 {
     let words = flash.shape().words();
-    let mut room = [1; RUN];
+    let mut room = [UNREAD; RUN];
     let mut at = from;
     // The first run has one word, since that is written in most pages that aren't blank.
     let mut end = from + 1;

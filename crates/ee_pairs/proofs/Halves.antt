@@ -42,16 +42,6 @@ whole_held number check whole other = elim (word_cases number check) [
   | inr (inr torn) ↦ absurd (whole torn)
 ]
 
-pub whole_number : (number check : ℕ) → pair_word number check ≢ Torn → number ≡ number_of (pair_word number check)
-whole_number number check whole = elim (word_cases number check) [
-  | inl erased ↦ rw erased.2 erased.0
-  | inr (inl held) ↦ rw held.2 refl
-  | inr (inr torn) ↦ absurd (whole torn)
-]
-
-pub torn_number : (number check : ℕ) → pair_word number check ≡ Torn → 0 ≡ number_of (pair_word number check)
-torn_number number check torn = rw torn refl
-
 -- the halves of a number and of its check
 module _ (number check low high check_low check_high : ℕ)
     (fits : IsNorNumber number) (check_fits : IsNorNumber check)
@@ -122,3 +112,47 @@ module _ (number check low high check_low check_high : ℕ)
         | inr (inl held) ↦ absurd (none (complement_sums held.1))
         | inr (inr torn) ↦ torn
       ])
+
+  -- so the number of what is held is told by the sum too, but for a check of zero
+  pub held_number : sums ≡ 4294967295 → check ≢ 0 → number ≡ number_of (pair_word number check)
+  held_number all some =
+      let is = sums_complement all in
+      let other : number ≢ all_ones = λ same. some (omega (arith, is, same)) in
+      let word : pair_word number check ≡ Held number = rw (ne_eqb number all_ones other, eq-eqb check (complement number) is) refl in
+      rw word refl
+
+  pub unchecked_number : sums ≡ 4294967295 → check ≡ 0 → 0 ≡ number_of (pair_word number check)
+  unchecked_number all none =
+      let same : number ≡ all_ones = omega (arith, sums_complement all, none, fits) in
+      let apart : check ≢ all_ones = omega (arith, none) in
+      let word : pair_word number check ≡ Torn = rw (eq-eqb number all_ones same, ne_eqb check all_ones apart) refl in
+      rw word refl
+
+  abbrev ones : ℕ
+  ones = bit_and (bit_and (bit_and low high) check_low) check_high
+
+  ones_all : ones ≡ 4294967295 → (number ≡ all_ones) × (check ≡ all_ones)
+  ones_all all =
+      let outer = both_ones (bit_and (bit_and low high) check_low) check_high (omega (arith, and_le_r (bit_and low high) check_low)) (omega arith) all in
+      let inner = both_ones (bit_and low high) check_low (omega (arith, and_le_r low high)) (omega arith) outer.0 in
+      (erased_ones inner.0, check_ones (ones_in_both check_low check_high inner.1 outer.1))
+
+  all_ones_in : number ≡ all_ones → check ≡ all_ones → ones ≡ 4294967295
+  all_ones_in same both =
+      let first = ones_in_both (bit_and low high) check_low (ones_erased same) (omega arith) in
+      ones_in_both (bit_and (bit_and low high) check_low) check_high first (omega arith)
+
+  -- that of an erased word by all bits
+  pub erased_number : ones ≡ 4294967295 → all_ones ≡ number_of (pair_word number check)
+  erased_number all =
+      let both = ones_all all in
+      let word : pair_word number check ≡ Erased = rw (eq-eqb number all_ones both.0, eq-eqb check all_ones both.1) refl in
+      rw word refl
+
+  -- and every other word is torn
+  pub torn_number : sums ≢ 4294967295 → ones ≢ 4294967295 → 0 ≡ number_of (pair_word number check)
+  torn_number apart some = elim (word_cases number check) [
+    | inl erased ↦ absurd (some (all_ones_in erased.0 erased.1))
+    | inr (inl held) ↦ absurd (apart (complement_sums held.1))
+    | inr (inr torn) ↦ rw torn refl
+  ]

@@ -1,8 +1,8 @@
 use crate::driver::{Driver, Part};
 use crate::ee_codec::Address;
 use crate::ee_core::{self as proved, LiveBatch, Lookup, Put, Rescued, Slots, Variables, Written};
-use crate::ee_flash::{Flash, Shape, Word};
-use crate::ee_pages::{is_blank, Layout, Side};
+use crate::ee_flash::{Flash, Shape};
+use crate::ee_pages::{blank_to, is_blank, Layout, Side};
 use crate::error::{
     Broken, CleanFault, ClearFault, Failed, ForgetFault, NotRescued, Off, OpenFault, ReadFault,
     RescueFault, WriteAllFault, WriteFault,
@@ -75,14 +75,11 @@ pub fn start<D: Driver>(driver: D) -> Result<Store<D>, Failed<D>> {
 // that page where it was cut before: such an erase leaves anything there if it clears the cells first, and else no others.
 pub fn holds_more<F: Flash>(flash: &F, clears_first: bool) -> bool {
     let shape = flash.shape();
-    // Neither loop begins past its end, which a range would test again: that costs firmware code.
-    let mut at = if clears_first { shape.words() } else { 2 };
-    while at != shape.words() {
-        if flash.word(0, at) != Word::Erased {
-            return true;
-        }
-        at += 1;
+    let from = if clears_first { shape.words() } else { 2 };
+    if blank_to(flash, 0, from) != shape.words() {
+        return true;
     }
+    // It never begins past its end, which a range would test again: that costs firmware code.
     let mut page = 1;
     while page != 2 * shape.pages() {
         if !is_blank(flash, page) {

@@ -67,8 +67,8 @@ impl<L: Lookup> Known<L> {
         if self.layout.generation == GREATEST_GENERATION {
             return Err(ForgetFault::Spent);
         }
-        let puts = [Put { address, value }];
-        match self.lookup.transfer(flash, &mut self.layout, &puts, true).await {
+        let put = Put { address, value };
+        match self.lookup.transfer(flash, &mut self.layout, &[put], true).await {
             Ok(()) => Ok(Written::Moved),
             Err(Cut) => Err(ForgetFault::Cut),
         }
@@ -117,11 +117,12 @@ impl<L: Lookup> Known<L> {
         if self.layout.generation == GREATEST_GENERATION {
             return Err(WriteFault::Spent);
         }
-        let puts = [Put { address, value }];
-        let Ok(()) = self.lookup.make_room(flash, &self.layout, &puts) else {
+        let put = Put { address, value };
+        let Ok(()) = self.lookup.make_room(flash, &self.layout, &[put]) else {
             return Err(WriteFault::Memory);
         };
-        match self.lookup.transfer(flash, &mut self.layout, &puts, false).await {
+        let put = Put { address, value };
+        match self.lookup.transfer(flash, &mut self.layout, &[put], false).await {
             Ok(()) => Ok(Written::Moved),
             Err(Cut) => Err(WriteFault::Cut),
         }
