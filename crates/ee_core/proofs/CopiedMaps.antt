@@ -1,13 +1,9 @@
 -- Maps that are copied address by address, and how many addresses have a value in them.
-use Rattle.std.proofs.Common.{◌≡◌, inl, inr, ℕ, ◌<◌, ◌≤◌, Bool, true, false, cond, Some, None, nat_lt, List, [], ◌∷◌, ◌++◌, refl, sym, ap, ◌∙◌, arith, suc, zero}
-use Rattle.std.specs.Prelude.{◌&&◌, ◌||◌, ◌==◌, ◌/◌, ◌%◌, ◌^◌}
+use Rattle.std.proofs.Common.{◌≡◌, inl, inr, ℕ, ◌<◌, ◌≤◌, Bool, true, false, cond, Some, None, List, [], ◌∷◌, ◌++◌, refl, sym, ap, ◌∙◌, arith, suc, zero}
+use Rattle.std.specs.Prelude.{◌||◌, ◌==◌}
 use Rattle.std.proofs.Math.Path.{fun_ext}
 use Rattle.std.proofs.lemmas.Bool.{cases_Bool, cases_lt, cases_eq, eq-eqb, eqb-true, ne_eqb, le-leb, lt-leb}
-use Rattle.ee_codec.specs.declared.slot.Slot.{Slot}
-use Rattle.ee_codec.specs.declared.slot.Slot.TheVariants.{Element, Forgotten, Foreign}
-use Rattle.ee_flash.specs.declared.word.Word.{Word}
-use Rattle.ee_flash.specs.declared.word.Word.TheVariants.{Erased, Held, Torn}
-use Rattle.ee_pages.specs.Meaning.{Change, Forget, Map, Put, changed_by, map_after, latest_in, live_in, live_to, meaning, says, slot_says, value_said}
+use Rattle.ee_pages.specs.Meaning.{Change, Forget, Map, Put, changed_by, map_after, live_in, live_to}
 use Rattle.ee_pages.specs.LiveOrder.{IsNextLive}
 use Rattle.ee_pages.proofs.Public.{live_to-zero, live_to-suc}
 use Rattle.ee_pages.specs.Pending.{address_of}
@@ -116,36 +112,6 @@ module _ (start map : Map) (named : ℕ → Bool) where
   pub copied_to : (held : Map) (above next value : ℕ) → ((address : ℕ) → held address ≡ so_far above address) → IsNextLive map above (Some (next, value)) → named next ≡ false → (address : ℕ) → map_after (Put next value) held address ≡ so_far next address
   copied_to held above next value same is apart address =
       ap (λ (said : Map). map_after (Put next value) said address) (fun_ext same) ∙ copied above next value is apart address
-
--- no slot says anything of address 0
-element-zero : (address value : ℕ) → (address ≡ 0 → ⊥) → slot_says (Element address value) 0 ≡ None
-element-zero address value some = ap (λ (b : Bool). cond b (Some (Some value)) None) (ne_eqb address 0 some)
-
-forgotten-zero : (address value : ℕ) → (address ≡ 0 → ⊥) → slot_says (Forgotten address value) 0 ≡ None
-forgotten-zero address value some = ap (λ (b : Bool). cond b (Some None) None) (ne_eqb address 0 some)
-
-one_of : (first second : Bool) (element forgotten : Slot) → slot_says element 0 ≡ None → slot_says forgotten 0 ≡ None → slot_says (cond first element (cond second forgotten Foreign)) 0 ≡ None
-one_of true second element forgotten e f = e
-one_of false true element forgotten e f = f
-one_of false false element forgotten e f = refl
-
-parts-zero : (address value : ℕ) (low first second : Bool) → slot_says (cond ((nat_lt 0 address && low) && first) (Element address value) (cond ((nat_lt 0 address && low) && second) (Forgotten address value) Foreign)) 0 ≡ None
-parts-zero address value low first second = elim (cases_eq address 0) [
-  | inl none ↦ rw none refl
-  | inr some ↦ one_of (nat_lt 0 address && low && first) (nat_lt 0 address && low && second) (Element address value) (Forgotten address value) (element-zero address value some) (forgotten-zero address value some)
-]
-
-says-zero : (word : Word) → says word 0 ≡ None
-says-zero Erased = refl
-says-zero Torn = refl
-says-zero (Held number) = parts-zero (number % 2 ^ 16) (number / 2 ^ 32) (nat_lt (number % 2 ^ 16) 65535) (number / 2 ^ 16 % 2 ^ 16 == 0) (number / 2 ^ 16 % 2 ^ 16 == 1)
-
-latest_in-zero : (slots : List Word) → latest_in slots 0 ≡ None
-latest_in-zero [] = refl
-latest_in-zero (slot ∷ slots) = rw (says-zero slot, latest_in-zero slots) refl
-
-pub meaning-zero : (slots : List Word) → meaning slots 0 ≡ None
-meaning-zero slots = ap value_said (latest_in-zero slots)
 
 -- a map in which nothing has a value
 abbrev pub nothing : Map

@@ -13,7 +13,6 @@ use Rattle.ee_pages.specs.Sets.{first_page, other, page_of_slot, place_of_slot}
 use Rattle.ee_pages.specs.declared.find.Layout.{Layout}
 use Rattle.ee_pages.specs.declared.side.Side.{Side}
 use Rattle.ee_pages.specs.declared.side.Side.TheVariants.{First, Second}
-use Rattle.ee_pages.specs.Laws.{IsPageOf}
 use Rattle.ee_pages.specs.Page.{is_blank}
 use Rattle.std.specs.List.{All}
 use Rattle.std.proofs.lemmas.List.Elements.{All-drop, All-take}
@@ -24,7 +23,7 @@ use Rattle.ee_core.proofs.Cuts.{IsOnTheWay, drawn_between, mark_drawn_partly, pu
 use Rattle.ee_core.proofs.Drawings.{drawn_both, put_apart, with_mark}
 use Rattle.ee_core.proofs.FilledSets.{near, one_word_more, opens_further}
 use Rattle.ee_core.specs.Transfers.{OpensForSlot}
-use Rattle.ee_core.proofs.MovedSets.{all_marked, blank_drawn, committed, first_opened, opens_blank, same_retired}
+use Rattle.ee_core.proofs.MovedSets.{all_marked, blank_drawn, committed, first_opened, first_page_of, opens_blank, same_retired}
 use Rattle.ee_core.specs.CallSteps.{AddsWords, Holds, SetsMark, opened_set}
 use Rattle.ee_core.specs.Cuts.{AddsPartly, FillsPartly, IsDrawnPartly, PutsPartly, SetsPartly}
 use Rattle.ee_core.proofs.CopiedWords.{one_further}
@@ -192,9 +191,6 @@ open_partly side old new generation words formed sizes all sets =
     (mark_drawn_partly side old new 0 (Receive generation) blank_picture formed sizes (omega (arith, formed.within_limits.some_pages)) all (subst (λ n. SetsPartly n (Receive generation) old new) e sets))
 
 -- ---- a format
-
-first_page_of : (device : Device) → IsFormed device → IsPageOf device.size First 0
-first_page_of device formed = record { from = omega arith; below = omega (arith, formed.within_limits.some_pages) }
 
 pub format_cut : (start old new : Device) → Wears (not_blank_pages start) start new → IsFormed old → new.size ≡ old.size → All (λ page. is_blank page ≡ true) old.image → SetsPartly 0 (Receive 1) old new → FormatsPartly start new
 format_cut start old new wear formed sizes all sets = record {

@@ -20,12 +20,13 @@ use Rattle.ee_core.specs.Puts.{AreApart, changes_of_puts, forgets_of, names, put
 use Rattle.ee_core.specs.Transfers.{Filled, FilledPartly, IsNewlyOpened, IsOpenAt}
 use Rattle.ee_core.specs.declared.change.Put as listed
 use Rattle.ee_core.specs.declared.copying.Place.{Place}
-use Rattle.ee_core.proofs.CopiedMaps.{at_first, at_last, changed_by-append, changed_by-other, copied_to, meaning-zero, nothing, passed, so_far, then_all}
+use Rattle.ee_core.proofs.CopiedMaps.{at_first, at_last, changed_by-append, changed_by-other, copied_to, nothing, passed, so_far, then_all}
 use Rattle.ee_core.proofs.CopiedWords.{all_words, copied_word, no_words, others, passed_word}
 use Rattle.ee_core.proofs.CutMoves.{adds_then, elements_front, partly_longer}
 use Rattle.ee_core.proofs.FilledSets.{adds_both, adds_none}
 use Rattle.ee_pages.proofs.Public.{keeps_side_both, keeps_side_same}
 use Rattle.ee_core.proofs.MovingFacts.{side_map}
+use Rattle.ee_core.proofs.Outside.{meaning-zero}
 use Rattle.ee_core.proofs.ShownStates.{moved_words_are_live_lem}
 
 -- some words, and then more

@@ -16,6 +16,7 @@ mod Erasing
 mod KeptMarks
 mod Appending
 mod OpenedPages
+mod Outside
 mod CopiedMaps
 mod Nothing
 mod Courses

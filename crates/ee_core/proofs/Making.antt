@@ -12,14 +12,12 @@ use Rattle.ee_flash.specs.declared.word.Word.TheVariants.{Erased, Held, Torn}
 use Rattle.ee_codec.specs.Reading.{mark_of, receive_of}
 use Rattle.ee_codec.specs.Words.{IsAddress, IsGeneration}
 use Rattle.ee_pages.specs.Laws.{KeepsLiveSet}
-use Rattle.ee_pages.specs.Layout.{IsLayout}
 use Rattle.ee_pages.specs.Legal.{IsLive}
 use Rattle.ee_pages.specs.Meaning.{Change, Map, Put, Forget, changed_by, map_after, live_in, meaning}
 use Rattle.ee_pages.specs.Page.{is_blank, is_written}
 use Rattle.ee_pages.specs.Pending.{address_of}
 use Rattle.ee_pages.specs.Pushing.{TakesSlot}
 use Rattle.ee_pages.specs.Sets.{fill_of, first_page, is_mark, other, pending_of, set_of, slots_of, word_of}
-use Rattle.ee_pages.specs.declared.find.Layout.{Layout}
 use Rattle.ee_pages.specs.declared.side.Side.{Side}
 use Rattle.ee_pages.specs.declared.side.Side.TheVariants.{First}
 use Rattle.ee_pages.proofs.Public.{live_commits, change_counts, full_set_has_no_blank_page, live_within_fill, length-set_of, length-slots}

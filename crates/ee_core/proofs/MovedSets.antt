@@ -157,6 +157,9 @@ no_further picture page at written = elim (cases_eq at 2) [
 pub empty_set : (device : Device) (side : Side) (generation : ℕ) → IsCommittedWith device side generation [] → IsDrawn side device (filled_set device.size generation [])
 empty_set device side generation held = search (rules, zero-div, drawn_as, no_further, all_marked)
 
+pub first_page_of : (device : Device) → IsFormed device → IsPageOf device.size First 0
+first_page_of device formed = record { from = omega arith; below = omega (arith, formed.within_limits.some_pages) }
+
 -- a device that is blank, with the marks that format sets
 module _ (old mid new : Device) (formed : IsFormed old) (mid_formed : IsFormed mid) (first_sizes : mid.size ≡ old.size) (second_sizes : new.size ≡ mid.size) (all : All (λ page. is_blank page ≡ true) old.image) (receives : SetsMark 0 (Receive 1) old mid) (active : SetsMark 0 Active mid new) where
   pub formats_first : IsDrawn First new (filled_set new.size 1 [])
@@ -164,14 +167,11 @@ module _ (old mid new : Device) (formed : IsFormed old) (mid_formed : IsFormed m
       empty_set new First 1 (commits First mid new 1 [] mid_formed second_sizes active
       (opens_blank First old mid 1 formed first_sizes (All-take (λ (page : List Word). is_blank page ≡ true) old.size.pages old.image all) receives))
 
-  in_first : (device : Device) → IsFormed device → IsPageOf device.size First 0
-  in_first device is_formed = record { from = omega arith; below = omega (arith, is_formed.within_limits.some_pages) }
-
   pub formats_second : IsDrawn Second new blank_picture
   formats_second page at h within =
       let below : page < old.size.pages = omega (arith, ap (λ (size : Size). size.pages) second_sizes, ap (λ (size : Size). size.pages) first_sizes) in
       let inside : at < old.size.words = omega (arith, ap (λ (size : Size). size.words) second_sizes, ap (λ (size : Size). size.words) first_sizes) in
       drawn_both Second old mid new first_sizes second_sizes
-      (put_apart Second old mid 0 0 _ first_sizes (in_first old formed) receives)
-      (put_apart Second mid new 0 1 _ second_sizes (in_first mid mid_formed) active) page at h within
+      (put_apart Second old mid 0 0 _ first_sizes (first_page_of old formed) receives)
+      (put_apart Second mid new 0 1 _ second_sizes (first_page_of mid mid_formed) active) page at h within
       ∙ blank_drawn Second old formed (All-drop (λ (page : List Word). is_blank page ≡ true) old.size.pages old.image all) page at below inside

@@ -1,50 +1,16 @@
 -- A map of which every address is forgotten: nothing has a value in it, and no word is copied of
 -- it.
-use Rattle.std.proofs.Common.{◌≡◌, inl, inr, ℕ, ◌+◌, ◌<◌, ◌≤◌, Bool, true, false, cond, Option, None, List, [], ◌∷◌, refl, ap, ◌∙◌, arith, subst, length, suc, zero, nat_lt}
-use Rattle.std.specs.Prelude.{◌&&◌, ◌==◌, ◌/◌, ◌%◌, ◌^◌, Some, slice_index_or}
+use Rattle.std.proofs.Common.{◌≡◌, inl, inr, ℕ, ◌+◌, ◌<◌, ◌≤◌, Bool, true, false, cond, Option, None, List, [], refl, ap, ◌∙◌, arith, subst, length, suc, zero}
+use Rattle.std.specs.Prelude.{◌==◌, slice_index_or}
 use Rattle.std.specs.List.{Contains}
-use Rattle.std.proofs.lemmas.Bool.{cases_eq, cases_lt, le-ltb, ne_eqb}
-use Rattle.ee_codec.specs.declared.slot.Slot.{Slot}
-use Rattle.ee_codec.specs.declared.slot.Slot.TheVariants.{Element, Forgotten, Foreign}
+use Rattle.std.proofs.lemmas.Bool.{cases_eq, cases_lt}
 use Rattle.ee_flash.specs.declared.word.Word.{Word}
-use Rattle.ee_flash.specs.declared.word.Word.TheVariants.{Erased, Held, Torn}
-use Rattle.ee_pages.specs.Meaning.{Change, Forget, Map, changed_by, latest_in, live_in, map_after, meaning, says, slot_says, value_said}
+use Rattle.ee_pages.specs.Meaning.{Change, Forget, Map, changed_by, live_in, map_after, meaning}
 use Rattle.ee_core.specs.Changes.{HasChange}
 use Rattle.ee_core.specs.Picture.{elements_of, elements_to, map_without, moved_words, put_words}
 use Rattle.ee_core.specs.Puts.{each_forgotten, forgets_from}
-use Rattle.ee_core.proofs.CopiedMaps.{forget-at, live_in-nothing, meaning-zero}
-
--- ---- no slot says anything of a number above all addresses
-
-one_of : (first second : Bool) (element forgotten : Slot) (address : ℕ) → slot_says element address ≡ None → slot_says forgotten address ≡ None → slot_says (cond first element (cond second forgotten Foreign)) address ≡ None
-one_of true second element forgotten address e f = e
-one_of false true element forgotten address e f = f
-one_of false false element forgotten address e f = refl
-
-neither_said : (some first second : Bool) (element forgotten : Slot) (address : ℕ) → slot_says (cond ((some && false) && first) element (cond ((some && false) && second) forgotten Foreign)) address ≡ None
-neither_said true first second element forgotten address = refl
-neither_said false first second element forgotten address = refl
-
-parts-above : (named value address : ℕ) (some first second : Bool) → 65535 ≤ address → slot_says (cond ((some && nat_lt named 65535) && first) (Element named value) (cond ((some && nat_lt named 65535) && second) (Forgotten named value) Foreign)) address ≡ None
-parts-above named value address some first second above = elim (cases_lt named 65535) [
-  | inl below ↦
-      let other : (named == address) ≡ false = ne_eqb named address (λ e. omega (arith, e)) in
-      one_of ((some && nat_lt named 65535) && first) ((some && nat_lt named 65535) && second) (Element named value) (Forgotten named value) address
-      (ap (λ (b : Bool). cond b (Some (Some value)) None) other) (ap (λ (b : Bool). cond b (Some None) None) other)
-  | inr past ↦ rw (le-ltb named 65535 past) (neither_said some first second (Element named value) (Forgotten named value) address)
-]
-
-says-above : (word : Word) (address : ℕ) → 65535 ≤ address → says word address ≡ None
-says-above Erased address above = refl
-says-above Torn address above = refl
-says-above (Held number) address above = parts-above (number % 2 ^ 16) (number / 2 ^ 32) address (nat_lt 0 (number % 2 ^ 16)) (number / 2 ^ 16 % 2 ^ 16 == 0) (number / 2 ^ 16 % 2 ^ 16 == 1) above
-
-latest_in-above : (slots : List Word) (address : ℕ) → 65535 ≤ address → latest_in slots address ≡ None
-latest_in-above [] address above = refl
-latest_in-above (slot ∷ slots) address above = rw (says-above slot address above, latest_in-above slots address above) refl
-
-meaning-above : (slots : List Word) (address : ℕ) → 65535 ≤ address → meaning slots address ≡ None
-meaning-above slots address above = ap value_said (latest_in-above slots address above)
+use Rattle.ee_core.proofs.CopiedMaps.{forget-at, live_in-nothing}
+use Rattle.ee_core.proofs.Outside.{meaning-above, meaning-zero}
 
 -- ---- the map
 
