@@ -1,15 +1,5 @@
 -- Steps that went on, one after another.
-use Rattle.std.proofs.Common.{◌≡◌, ◌≢◌, ◌⊎◌, inl, inr, ℕ, Bool, ap, false, true, refl, sym, ◌∙◌}
-use Rattle.std.specs.Prelude.{Result, Ok, Err, IsErr, OnOk}
-use Rattle.std.proofs.lemmas.Bool.{cases_Bool, true≢false}
-use Rattle.ee_flash.specs.Device.{Device, IsOff, IsOn, page_at}
-use Rattle.ee_flash.specs.Power.{Ends, GoesOn}
-use Rattle.ee_flash.specs.Step.{IsCutIn, IsUntouched, Program, Step, device_after}
-use Rattle.ee_pages.specs.Page.{is_marked, marking}
-use Rattle.ee_flash.specs.Laws.{IsStep}
-use Rattle.ee_pages.proofs.Public.{step_keeps_other_pages}
-use Rattle.ee_pages.specs.declared.state.Mark.{Mark}
-use Rattle.ee_flash.proofs.Public.{calls_compose}
+use Rattle.ee_core.proofs.Base.{◌≡◌, ◌≢◌, ◌⊎◌, inl, inr, ℕ, Bool, ap, false, true, refl, sym, ◌∙◌, Result, Ok, Err, IsErr, OnOk, cases_Bool, true≢false, Device, IsOff, IsOn, page_at, Ends, GoesOn, IsCutIn, IsUntouched, Program, Step, device_after, is_marked, marking, IsStep, step_keeps_other_pages, Mark, calls_compose}
 
 pub goes_on_same : (device : Device) → GoesOn device device
 goes_on_same device = record { same_size = refl; same_power = refl; same_cuts = refl; same_cuts_left = refl; same_while_off = λ off. refl }

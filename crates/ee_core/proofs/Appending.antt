@@ -1,26 +1,7 @@
 -- What programming a change into the first free slot of the live set leaves.
-use Rattle.std.proofs.Common.{rules, ◌≡◌, ◌≢◌, ◌⊎◌, inl, inr, ℕ, ◌+◌, ◌-◌, ◌<◌, ◌%◌, false, List, length, get_or, refl, sym, subst, ap, ◌∙◌, arith}
-use Rattle.std.proofs.lemmas.Bool.{cases_eq}
-use Rattle.ee_flash.specs.Device.{Device, IsOn, all_ones, word_at}
-use Rattle.ee_flash.specs.Laws.{CanTake, IsStep}
-use Rattle.ee_flash.specs.Size.{slot_count}
-use Rattle.ee_flash.specs.Step.{Step, Program, IsCutIn, IsUntouched, MayFollow, device_after}
-use Rattle.ee_flash.specs.declared.word.Word.{Word}
-use Rattle.ee_flash.specs.declared.word.Word.TheVariants.{Erased}
-use Rattle.ee_flash.proofs.Public.{step_leaves_pages}
-use Rattle.ee_pages.specs.Laws.{KeepsLiveSet}
-use Rattle.ee_pages.specs.Layout.{IsLayout}
-use Rattle.ee_pages.specs.declared.find.Layout.{Layout}
-use Rattle.ee_pages.specs.Legal.{IsLive}
-use Rattle.ee_pages.specs.Meaning.{Change, Map, SpellsChange, map_after}
-use Rattle.ee_pages.specs.Page.{is_written}
-use Rattle.ee_pages.specs.Pushing.{TakesSlot, slot_step}
-use Rattle.ee_pages.specs.Sets.{fill_of, first_page, other, page_of_slot, place_of_slot, set_of, slots_of}
-use Rattle.ee_pages.specs.declared.side.Side.{Side}
-use Rattle.ee_pages.proofs.Public.{erased_word, fill-front, slots_behind, step_keeps_other_pages, page_in_range, place_in_range, slot_at, push_takes, whole_push_takes, programmed_word}
+use Rattle.ee_core.proofs.Base.{rules, ◌≡◌, ◌≢◌, ◌⊎◌, inl, inr, ℕ, ◌+◌, ◌-◌, ◌<◌, ◌%◌, false, List, length, get_or, refl, sym, subst, ap, ◌∙◌, arith, cases_eq, Device, IsOn, all_ones, word_at, CanTake, IsStep, slot_count, Step, Program, IsCutIn, IsUntouched, MayFollow, device_after, Word, Erased, step_leaves_pages, KeepsLiveSet, IsLayout, Layout, IsLive, Change, Map, SpellsChange, map_after, is_written, TakesSlot, slot_step, fill_of, first_page, other, page_of_slot, place_of_slot, set_of, slots_of, Side, erased_word, fill-front, slots_behind, step_keeps_other_pages, page_in_range, place_in_range, slot_at, push_takes, whole_push_takes, programmed_word, IsSameSet, KeepsMarks, map_change, map_in, number_written}
 use Rattle.ee_core.proofs.Cuts.{program_partly}
 use Rattle.ee_core.specs.Appending.{MayTakeSlot, Pushed, PushedPartly}
-use Rattle.ee_core.specs.CallSteps.{IsSameSet, KeepsMarks, map_change, map_in, number_written}
 use Rattle.ee_core.specs.declared.change.Change as declared
 use Rattle.ee_core.proofs.MovingFacts.{keeps_both}
 use Rattle.ee_core.proofs.SetPages.{page_in_device, page_of_set}

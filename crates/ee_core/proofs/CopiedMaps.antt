@@ -1,16 +1,5 @@
 -- Maps that are copied address by address, and how many addresses have a value in them.
-use Rattle.std.proofs.Common.{◌≡◌, inl, inr, ℕ, ◌<◌, ◌≤◌, Bool, true, false, cond, Some, None, List, [], ◌∷◌, ◌++◌, refl, sym, ap, ◌∙◌, arith, suc, zero}
-use Rattle.std.specs.Prelude.{◌||◌, ◌==◌}
-use Rattle.std.proofs.Math.Path.{fun_ext}
-use Rattle.std.proofs.lemmas.Bool.{cases_Bool, cases_lt, cases_eq, eq-eqb, eqb-true, ne_eqb, le-leb, lt-leb}
-use Rattle.ee_pages.specs.Meaning.{Change, Forget, Map, Put, changed_by, map_after, live_in, live_to}
-use Rattle.ee_pages.specs.LiveOrder.{IsNextLive}
-use Rattle.ee_pages.proofs.Public.{live_to-zero, live_to-suc}
-use Rattle.ee_pages.specs.Pending.{address_of}
-use Rattle.ee_core.specs.CallSteps.{map_to, replaced_map}
-use Rattle.ee_core.specs.Changes.{HasChange}
-use Rattle.ee_core.specs.Picture.{map_without}
-use Rattle.ee_core.specs.Puts.{names}
+use Rattle.ee_core.proofs.Base.{◌≡◌, inl, inr, ℕ, ◌<◌, ◌≤◌, Bool, true, false, cond, Some, None, List, [], ◌∷◌, ◌++◌, refl, sym, ap, ◌∙◌, arith, suc, zero, ◌||◌, ◌==◌, fun_ext, cases_Bool, cases_lt, cases_eq, eq-eqb, eqb-true, ne_eqb, le-leb, lt-leb, Change, Forget, Map, Put, changed_by, map_after, live_in, live_to, IsNextLive, live_to-zero, live_to-suc, address_of, map_to, replaced_map, HasChange, map_without, names}
 
 -- maps that say the same have as many addresses with a value
 pub same_counts : (first second : Map) → ((address : ℕ) → first address ≡ second address) → live_in first ≡ live_in second

@@ -1,14 +1,7 @@
 -- The elements of the addresses that are copied, address by address.
-use Rattle.std.proofs.Common.{◌≡◌, inl, inr, ℕ, ◌<◌, ◌≤◌, true, false, Some, None, List, [], ◌∷◌, ◌++◌, refl, ap, ◌∙◌, arith, suc, zero, append-nil}
-use Rattle.std.proofs.lemmas.Bool.{cases_Bool, cases_eq, cases_lt}
-use Rattle.ee_codec.specs.Words.{element}
-use Rattle.ee_flash.specs.declared.word.Word.{Word}
-use Rattle.ee_flash.specs.declared.word.Word.TheVariants.{Held}
-use Rattle.ee_pages.specs.Meaning.{Change, Map}
-use Rattle.ee_pages.specs.LiveOrder.{IsNextLive}
+use Rattle.ee_core.proofs.Base.{◌≡◌, inl, inr, ℕ, ◌<◌, ◌≤◌, true, false, Some, None, List, [], ◌∷◌, ◌++◌, refl, ap, ◌∙◌, arith, suc, zero, append-nil, cases_Bool, cases_eq, cases_lt, element, Word, Held, Change, Map, IsNextLive, element_at, elements_of, map_without, names}
 use Rattle.ee_core.proofs.CopiedMaps.{without-at, without-other}
-use Rattle.ee_core.specs.Picture.{element_at, elements_of, elements_to, map_without}
-use Rattle.ee_core.specs.Puts.{names}
+use Rattle.ee_core.specs.Picture.{elements_to}
 
 pub no_elements : (map : Map) → elements_to map zero ≡ []
 unfolding elements_to

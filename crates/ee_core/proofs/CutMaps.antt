@@ -1,17 +1,5 @@
 -- What a cut in a change leaves of the map.
-use Rattle.std.proofs.Common.{◌⊎◌, inl, inr, ◌≤◌, length, filter, ◌≡◌, ℕ, Option, Some, None, List, [], ◌∷◌, ap, arith}
-use Rattle.std.proofs.lemmas.Bool.{cases_lt}
-use Rattle.std.proofs.lemmas.List.Sums.{count_by-le-length, length-filter}
-use Rattle.ee_flash.specs.Device.{Device, IsFormed}
-use Rattle.ee_flash.specs.Power.{IsCut}
-use Rattle.ee_flash.specs.Size.{slot_count}
-use Rattle.ee_pages.proofs.Public.{length-slots}
-use Rattle.ee_pages.specs.Meaning.{Change, changed_by, map_after}
-use Rattle.ee_pages.specs.Page.{is_written}
-use Rattle.ee_pages.specs.Sets.{live_of, set_of, slots_of}
-use Rattle.ee_pages.specs.declared.side.Side.{Side}
-use Rattle.ee_core.specs.Changes.{IsCutAppend, IsCutChange, IsCutMaking, IsCutMove}
-use Rattle.ee_core.specs.State.{State, capacity, state_in, state_of}
+use Rattle.ee_core.proofs.Base.{◌⊎◌, inl, inr, ◌≤◌, length, filter, ◌≡◌, ℕ, Option, Some, None, List, [], ◌∷◌, ap, arith, cases_lt, count_by-le-length, length-filter, Device, IsFormed, IsCut, slot_count, length-slots, Change, changed_by, map_after, is_written, live_of, set_of, slots_of, Side, IsCutAppend, IsCutChange, IsCutMaking, IsCutMove, State, capacity, state_in, state_of}
 
 fill_in : (device : Device) (live : Option (Side × ℕ)) → IsFormed device → (state_in device live).fill ≤ capacity device
 fill_in device None formed = omega arith

@@ -1,18 +1,5 @@
 -- What is drawn where power was cut in setting marks, and in an append.
-use Rattle.std.proofs.Common.{rules, ◌≡◌, inl, inr, ℕ, ◌+◌, ◌-◌, ◌<◌, ◌≤◌, Bool, false, true, List, refl, sym, subst, ap, ◌∙◌, arith}
-use Rattle.std.specs.Prelude.{◌&&◌, nat_lt, not}
-use Rattle.std.proofs.lemmas.Bool.{cases_eq, cases_lt, eq-eqb, le-ltb, lt-ltb, ne_eqb}
-use Rattle.ee_flash.specs.Device.{Device, IsFormed, page_at}
-use Rattle.ee_flash.specs.Power.{GoesOn}
-use Rattle.ee_flash.specs.Size.{Size}
-use Rattle.ee_flash.specs.declared.word.Word.{Word}
-use Rattle.ee_flash.specs.declared.word.Word.TheVariants.{Held}
-use Rattle.ee_pages.specs.Laws.{IsPageOf}
-use Rattle.ee_pages.specs.Legal.{IsLive}
-use Rattle.ee_pages.specs.Page.{is_blank, is_marked}
-use Rattle.ee_pages.specs.Sets.{first_page, other, page_of_slot, place_of_slot}
-use Rattle.ee_pages.specs.declared.side.Side.{Side}
-use Rattle.ee_pages.specs.declared.state.Mark.TheVariants.{Active, Erasing, Valid}
+use Rattle.ee_core.proofs.Base.{rules, ◌≡◌, inl, inr, ℕ, ◌+◌, ◌-◌, ◌<◌, ◌≤◌, Bool, false, true, List, refl, sym, subst, ap, ◌∙◌, arith, ◌&&◌, nat_lt, not, cases_eq, cases_lt, eq-eqb, le-ltb, lt-ltb, ne_eqb, Device, IsFormed, page_at, GoesOn, Size, Word, Held, IsPageOf, IsLive, is_blank, is_marked, first_page, other, page_of_slot, place_of_slot, Side, Active, Erasing, Valid, IsSameBut, IsSameSet, KeepsMarks, SetsMark, Stays, IsDrawnPartly, PutsPartly, SetsPartly, IsOldMarked, last_used, ShowsCutMarks, IsDrawn, Picture, is_used, marked_to, picture_of, retired_pages, with_change}
 use Rattle.ee_core.proofs.Cuts.{IsOnTheWay, drawn_before, drawn_between, drawn_whole, mark_drawn_partly, put_partly}
 use Rattle.ee_core.proofs.Drawings.{active_last, mark_drawn, drawn_as, retired_more, same_drawn, valid_drawn, valid_more, valid_to, with_mark, with_word-elsewhere}
 use Rattle.ee_core.proofs.AfterCalls.{goes_on_both, goes_on_same}
@@ -20,11 +7,6 @@ use Rattle.ee_core.proofs.LiveMarks.{IsPageDone, MarksPage, done_already, done_m
 use Rattle.ee_core.proofs.MarkedSets.{live_stays, retired_next, retired_start, retired_to}
 use Rattle.ee_core.proofs.Marks.{same_stays}
 use Rattle.ee_core.proofs.SetPages.{page_reached, same_page}
-use Rattle.ee_core.specs.CallSteps.{IsSameBut, IsSameSet, KeepsMarks, SetsMark, Stays}
-use Rattle.ee_core.specs.Cuts.{IsDrawnPartly, PutsPartly, SetsPartly}
-use Rattle.ee_core.specs.Finished.{IsOldMarked, last_used}
-use Rattle.ee_core.specs.Openings.{ShowsCutMarks}
-use Rattle.ee_core.specs.Picture.{IsDrawn, Picture, is_used, marked_to, picture_of, retired_pages, with_change}
 
 -- ---- the marks that are set so far are on the way
 

@@ -1,34 +1,11 @@
 -- What is drawn where power was cut in filling a set, and in committing it.
-use Rattle.std.proofs.Common.{rules, ◌≡◌, suc, zero, append-nil, inl, inr, ℕ, ◌+◌, ◌-◌, ◌<◌, ◌≤◌, ◌/◌, true, List, [], ◌∷◌, ◌++◌, length, refl, sym, subst, ap, ◌∙◌, arith, append_assoc, length-append}
-use Rattle.std.proofs.Math.Nat.{div-mul-le_self}
-use Rattle.std.proofs.lemmas.Bool.{cases_eq, cases_lt, le-leb, le-ltb, lt-leb, lt-ltb, ne_eqb}
-use Rattle.std.proofs.lemmas.List.{get_or_append_left, get_or_past}
-use Rattle.std.proofs.lemmas.Nat.{le-div}
-use Rattle.ee_flash.specs.Device.{Device, IsFormed}
-use Rattle.ee_flash.specs.Size.{Size}
-use Rattle.ee_flash.specs.declared.word.Word.{Word}
-use Rattle.ee_flash.specs.declared.word.Word.TheVariants.{Erased}
-use Rattle.ee_pages.specs.Legal.{slots_before}
-use Rattle.ee_pages.specs.Sets.{first_page, other, page_of_slot, place_of_slot}
-use Rattle.ee_pages.specs.declared.find.Layout.{Layout}
-use Rattle.ee_pages.specs.declared.side.Side.{Side}
-use Rattle.ee_pages.specs.declared.side.Side.TheVariants.{First, Second}
-use Rattle.ee_pages.specs.Page.{is_blank}
-use Rattle.std.specs.List.{All}
-use Rattle.std.proofs.lemmas.List.Elements.{All-drop, All-take}
-use Rattle.ee_core.specs.Openings.{FormatsPartly, not_blank_pages}
-use Rattle.ee_core.specs.State.{Wears}
-use Rattle.ee_pages.specs.declared.state.Mark.TheVariants.{Active, Receive}
+use Rattle.ee_core.proofs.Base.{rules, ◌≡◌, suc, zero, append-nil, inl, inr, ℕ, ◌+◌, ◌-◌, ◌<◌, ◌≤◌, ◌/◌, true, List, [], ◌∷◌, ◌++◌, length, refl, sym, subst, ap, ◌∙◌, arith, append_assoc, length-append, div-mul-le_self, cases_eq, cases_lt, le-leb, le-ltb, lt-leb, lt-ltb, ne_eqb, get_or_append_left, get_or_past, le-div, Device, IsFormed, Size, Word, Erased, slots_before, first_page, other, page_of_slot, place_of_slot, Layout, Side, First, Second, is_blank, All, All-drop, All-take, FormatsPartly, not_blank_pages, Wears, Active, Receive, AddsWords, Holds, SetsMark, opened_set, AddsPartly, FillsPartly, IsDrawnPartly, PutsPartly, SetsPartly, Map, IsDrawn, blank_picture, element_at, elements_to, filled_set, is_used, marked_to, picture_of, retired_pages}
 use Rattle.ee_core.proofs.Cuts.{IsOnTheWay, drawn_between, mark_drawn_partly, put_apart_partly, put_partly}
 use Rattle.ee_core.proofs.Drawings.{drawn_both, put_apart, with_mark}
 use Rattle.ee_core.proofs.FilledSets.{near, one_word_more, opens_further}
 use Rattle.ee_core.specs.Transfers.{OpensForSlot}
 use Rattle.ee_core.proofs.MovedSets.{all_marked, blank_drawn, committed, first_opened, first_page_of, opens_blank, same_retired}
-use Rattle.ee_core.specs.CallSteps.{AddsWords, Holds, SetsMark, opened_set}
-use Rattle.ee_core.specs.Cuts.{AddsPartly, FillsPartly, IsDrawnPartly, PutsPartly, SetsPartly}
 use Rattle.ee_core.proofs.CopiedWords.{one_further}
-use Rattle.ee_pages.specs.Meaning.{Map}
-use Rattle.ee_core.specs.Picture.{IsDrawn, blank_picture, element_at, elements_to, filled_set, is_used, marked_to, picture_of, retired_pages}
 
 page_later : (size : Size) (n m : ℕ) → 0 < size.words - 4 → n ≤ m → page_of_slot size n ≤ page_of_slot size m
 page_later size n m some h = let fits = div-mul-le_self n (size.words - 4) in le-div (n / (size.words - 4)) m (size.words - 4) some (omega (arith, fits))

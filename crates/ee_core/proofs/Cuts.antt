@@ -1,25 +1,7 @@
 -- What a cut step leaves of the words, and how that goes together over a call.
-use Rattle.std.proofs.Common.{rules, ◌≡◌, ◌≢◌, ◌⊎◌, inl, inr, ℕ, ◌+◌, ◌<◌, ◌≤◌, true, List, [], length, get_or, set, refl, sym, subst, ap, ◌∙◌, arith}
-use Rattle.std.proofs.lemmas.Bool.{cases_Bool, cases_eq}
-use Rattle.std.proofs.lemmas.List.{get_or-set_other, get_or-set_same}
-use Rattle.ee_flash.specs.Device.{Device, IsFormed, page_at, word_at}
-use Rattle.ee_flash.specs.Size.{page_count}
-use Rattle.ee_flash.specs.Step.{Step, Program, Erase, IsCutIn, IsPartlyErased, IsUntouched}
-use Rattle.ee_flash.specs.declared.word.Word.{Word}
-use Rattle.ee_flash.specs.declared.word.Word.TheVariants.{Erased, Held, Torn}
-use Rattle.ee_flash.proofs.Public.{length-page_at}
-use Rattle.ee_pages.specs.Page.{is_blank, is_marked, marking, number_of_mark, place_of_mark}
-use Rattle.ee_pages.specs.Sets.{first_page, other}
-use Rattle.ee_pages.specs.declared.side.Side.{Side}
-use Rattle.ee_pages.specs.declared.state.Mark.{Mark}
-use Rattle.ee_pages.proofs.Public.{erased_word}
-use Rattle.ee_pages.specs.Laws.{IsPageOf}
+use Rattle.ee_core.proofs.Base.{rules, ◌≡◌, ◌≢◌, ◌⊎◌, inl, inr, ℕ, ◌+◌, ◌<◌, ◌≤◌, true, List, [], length, get_or, set, refl, sym, subst, ap, ◌∙◌, arith, cases_Bool, cases_eq, get_or-set_other, get_or-set_same, Device, IsFormed, page_at, word_at, page_count, Step, Program, Erase, IsCutIn, IsPartlyErased, IsUntouched, Word, Erased, Held, Torn, length-page_at, is_blank, is_marked, marking, number_of_mark, place_of_mark, first_page, other, Side, Mark, erased_word, IsPageOf, IsSameBut, PutsWord, ErasesPartly, IsDrawnPartly, IsPartlyDone, PutsPartly, SetsPartly, IsDrawn, Picture, marked_word, picture_of, picture_with_word, WearsTo, not_blank_from}
 use Rattle.ee_core.proofs.Drawings.{marked-erased, put_apart, put_drawn, with_mark, with_word-elsewhere, with_word-there}
 use Rattle.ee_core.proofs.Marks.{place_below}
-use Rattle.ee_core.specs.CallSteps.{IsSameBut, PutsWord}
-use Rattle.ee_core.specs.Cuts.{ErasesPartly, IsDrawnPartly, IsPartlyDone, PutsPartly, SetsPartly}
-use Rattle.ee_core.specs.Picture.{IsDrawn, Picture, marked_word, picture_of, picture_with_word}
-use Rattle.ee_core.specs.State.{WearsTo, not_blank_from}
 
 -- ---- a word
 

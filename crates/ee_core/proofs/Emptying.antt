@@ -1,23 +1,10 @@
 -- What a clear makes of a state, whole or cut, from what its transfer leaves.
-use Rattle.std.proofs.Common.{◌≡◌, ◌⊎◌, inl, inr, ℕ, ◌+◌, ◌≤◌, Some, None, List, [], ◌∷◌, refl, sym, subst, ap, ◌∙◌, arith}
-use Rattle.std.proofs.Math.Path.{fun_ext}
-use Rattle.ee_flash.specs.Device.{Device}
-use Rattle.ee_flash.specs.Power.{GoesOn, IsCut}
-use Rattle.ee_pages.specs.Laws.{KeepsLiveSet}
-use Rattle.ee_pages.specs.Legal.{IsLive}
-use Rattle.ee_pages.specs.Meaning.{Change, Forget, Map, changed_by, live_in, meaning}
-use Rattle.ee_pages.specs.Sets.{first_page, live_of, other, pending_of, set_of, slots_of}
-use Rattle.ee_pages.specs.declared.side.Side.{Side}
+use Rattle.ee_core.proofs.Base.{◌≡◌, ◌⊎◌, inl, inr, ℕ, ◌+◌, ◌≤◌, Some, None, List, [], ◌∷◌, refl, sym, subst, ap, ◌∙◌, arith, fun_ext, Device, GoesOn, IsCut, KeepsLiveSet, IsLive, Change, Forget, Map, changed_by, live_in, meaning, first_page, live_of, other, pending_of, set_of, slots_of, Side, HasMoved, Moves, ErasesPartly, MovesPartly, IsDrawn, filled_set, is_used, moved_words, picture_of, retired_pages, each_forgotten, State, Wears, next_live, not_blank_in, state_in, state_of, used_pages_in, used_pages_of}
 use Rattle.ee_core.proofs.Making.{pending_was}
 use Rattle.ee_core.proofs.Nothing.{all_forgotten, none_live, none_moved}
 use Rattle.ee_core.proofs.States.{state_is, state_kept, state_moved}
-use Rattle.ee_core.specs.CallSteps.{HasMoved}
-use Rattle.ee_core.specs.Changes.{Moves}
-use Rattle.ee_core.specs.Cuts.{ErasesPartly, MovesPartly}
 use Rattle.ee_core.specs.Emptying.{Empties, IsCutClear, MayClear, ShowsCleared, cleared_state}
-use Rattle.ee_core.specs.Picture.{IsDrawn, filled_set, is_used, moved_words, picture_of, retired_pages}
-use Rattle.ee_core.specs.Puts.{each_forgotten, forgets_from}
-use Rattle.ee_core.specs.State.{State, Wears, next_live, not_blank_in, state_in, state_of, used_pages_in, used_pages_of}
+use Rattle.ee_core.specs.Puts.{forgets_from}
 
 module _ (old new : Device) (side : Side) (generation : ℕ) (live : IsLive old side generation) where
   state_cleared : HasMoved old new side generation each_forgotten → state_of new ≡ cleared_state (used_pages_of old) (state_of old)

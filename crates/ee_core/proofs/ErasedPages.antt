@@ -1,11 +1,5 @@
 -- What a look over pages erases, which erases those that are not blank.
-use Rattle.std.proofs.Common.{◌≡◌, ℕ, ◌+◌, ◌<◌, ◌++◌, true, false, List, [], ◌∷◌, length, take, drop, get_or, refl, sym, subst, ap, ◌∙◌}
-use Rattle.std.proofs.Math.Seq.{take-length}
-use Rattle.std.proofs.lemmas.List.{append_assoc}
-use Rattle.ee_flash.specs.Device.{Device, page_at}
-use Rattle.ee_flash.specs.declared.word.Word.{Word}
-use Rattle.ee_pages.specs.Page.{is_blank}
-use Rattle.ee_core.specs.State.{Wears, WearsTo, not_blank_from}
+use Rattle.ee_core.proofs.Base.{◌≡◌, ℕ, ◌+◌, ◌<◌, ◌++◌, true, false, List, [], ◌∷◌, length, take, drop, get_or, refl, sym, subst, ap, ◌∙◌, take-length, append_assoc, Device, page_at, Word, is_blank, Wears, WearsTo, not_blank_from}
 use Rattle.ee_core.proofs.NotBlank.{named, not_blank_more, not_blank_rest}
 use Rattle.ee_core.proofs.Wears.{wears_both, wears_none}
 

@@ -1,14 +1,5 @@
 -- What erasing a page of the set that is not live leaves.
-use Rattle.std.proofs.Common.{◌≡◌, ◌⊎◌, inl, inr, ℕ, ◌<◌, false, length, ap, arith}
-use Rattle.ee_flash.specs.Device.{Device, IsFormed, IsOn, page_at}
-use Rattle.ee_flash.specs.Laws.{IsStep}
-use Rattle.ee_flash.specs.Step.{Erase, IsCutIn, IsUntouched, MayFollow, with_page_erased}
-use Rattle.ee_pages.specs.Laws.{IsPageOf, KeepsSide}
-use Rattle.ee_pages.specs.Page.{is_blank}
-use Rattle.ee_pages.specs.Sets.{other}
-use Rattle.ee_pages.specs.declared.side.Side.{Side}
-use Rattle.ee_pages.proofs.Public.{other_set_keeps_side, erase_lowers_pending, step_keeps_other_pages, whole_erase_lowers_pending}
-use Rattle.ee_core.specs.CallSteps.{IsSameBut, PageErased, PageErasedPartly}
+use Rattle.ee_core.proofs.Base.{◌≡◌, ◌⊎◌, inl, inr, ℕ, ◌<◌, false, length, ap, arith, Device, IsFormed, IsOn, page_at, IsStep, Erase, IsCutIn, IsUntouched, MayFollow, with_page_erased, IsPageOf, KeepsSide, is_blank, other, Side, other_set_keeps_side, erase_lowers_pending, step_keeps_other_pages, whole_erase_lowers_pending, IsSameBut, PageErased, PageErasedPartly}
 use Rattle.ee_core.proofs.Cuts.{erase_partly}
 use Rattle.ee_core.proofs.SetPages.{page_of_device}
 use Rattle.ee_core.proofs.Wears.{cut_page_wears, page_wears}

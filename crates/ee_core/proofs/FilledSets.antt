@@ -1,24 +1,7 @@
 -- How the picture of a set that a transfer fills grows, to that of the set that is live afterwards.
-use Rattle.std.proofs.Common.{rules, ◌≡◌, ◌≢◌, ◌⊎◌, inl, inr, ℕ, ◌+◌, ◌-◌, ◌%◌, ◌<◌, ◌≤◌, List, [], ◌∷◌, ◌++◌, length, get_or, refl, sym, subst, ap, ◌∙◌, arith, append_assoc, length-append}
-use Rattle.std.proofs.Math.Seq.{get_or-append_seam}
-use Rattle.std.proofs.lemmas.Bool.{cases_eq, cases_lt, le-leb, le-ltb, lt-leb, lt-ltb, ne_eqb}
-use Rattle.std.proofs.lemmas.List.{get_or_append_left, get_or_past}
-use Rattle.std.proofs.lemmas.Nat.{div-mul-add, mod-mul-add}
-use Rattle.ee_flash.specs.Device.{Device, IsFormed}
-use Rattle.ee_flash.specs.Size.{Size}
-use Rattle.ee_flash.specs.declared.word.Word.{Word}
-use Rattle.ee_flash.specs.declared.word.Word.TheVariants.{Erased, Held}
-use Rattle.ee_pages.specs.Filling.{IsFilling}
-use Rattle.ee_pages.specs.Legal.{slots_before}
-use Rattle.ee_pages.specs.Sets.{first_page, other, page_of_slot, place_of_slot}
-use Rattle.ee_pages.specs.declared.side.Side.{Side}
-use Rattle.ee_pages.specs.declared.state.Mark.TheVariants.{Receive}
-use Rattle.ee_pages.proofs.Public.{keeps_side_same, split_by}
-use Rattle.ee_pages.specs.declared.find.Layout.{Layout}
+use Rattle.ee_core.proofs.Base.{rules, ◌≡◌, ◌≢◌, ◌⊎◌, inl, inr, ℕ, ◌+◌, ◌-◌, ◌%◌, ◌<◌, ◌≤◌, List, [], ◌∷◌, ◌++◌, length, get_or, refl, sym, subst, ap, ◌∙◌, arith, append_assoc, length-append, get_or-append_seam, cases_eq, cases_lt, le-leb, le-ltb, lt-leb, lt-ltb, ne_eqb, get_or_append_left, get_or_past, div-mul-add, mod-mul-add, Device, IsFormed, Size, Word, Erased, Held, IsFilling, slots_before, first_page, other, page_of_slot, place_of_slot, Side, Receive, keeps_side_same, split_by, Layout, AddsWords, Holds, PutsWord, SetsMark, number_written, opened_set, IsDrawn, picture_with_word}
 use Rattle.ee_core.proofs.Drawings.{drawn_as, drawn_same, mark_drawn, put_drawn, with_mark, with_word-elsewhere, with_word-there}
 use Rattle.ee_core.proofs.OpenedPages.{next_place, same_place}
-use Rattle.ee_core.specs.CallSteps.{AddsWords, Holds, PutsWord, SetsMark, number_written, opened_set}
-use Rattle.ee_core.specs.Picture.{IsDrawn, picture_with_word}
 use Rattle.ee_core.specs.Transfers.{OpensForSlot, PutsInSlot}
 use Rattle.ee_core.specs.declared.change.Change.{Change}
 

@@ -1,30 +1,11 @@
 -- What the parts of a transfer leave in the set that it fills, one after another.
-use Rattle.std.proofs.Common.{rules, ◌≡◌, inl, inr, ℕ, ◌+◌, ◌<◌, ◌≤◌, Bool, true, false, cond, Some, None, List, [], ◌∷◌, ◌++◌, length, get_or, take, drop, refl, sym, subst, ap, ◌∙◌, arith, suc, length-append}
-use Rattle.std.specs.Prelude.{◌==◌, ◌||◌}
-use Rattle.std.proofs.Math.Path.{fun_ext}
-use Rattle.std.proofs.lemmas.Bool.{cases_Bool}
-use Rattle.std.proofs.lemmas.List.{length-take-le, take-append-drop, take_all, take_more}
-use Rattle.ee_codec.specs.Words.{element}
-use Rattle.ee_flash.specs.Device.{Device}
-use Rattle.ee_flash.specs.Size.{slot_count}
-use Rattle.ee_flash.specs.declared.word.Word.{Word}
-use Rattle.ee_flash.specs.declared.word.Word.TheVariants.{Held}
-use Rattle.ee_pages.specs.Meaning.{Change, Forget, Map, Put, changed_by, map_after, live_in}
-use Rattle.ee_pages.specs.LiveOrder.{IsNextLive}
-use Rattle.ee_pages.specs.Sets.{other, set_of, slots_of}
-use Rattle.ee_pages.specs.declared.find.Layout.{Layout}
-use Rattle.ee_core.specs.CallSteps.{AddsWords, map_in, replaced_map}
-use Rattle.ee_core.specs.Cuts.{AddsPartly}
-use Rattle.ee_core.specs.Picture.{elements_of, elements_to, map_without, moved_words, put_words}
-use Rattle.ee_core.specs.Puts.{AreApart, changes_of_puts, forgets_of, names, puts_of}
+use Rattle.ee_core.proofs.Base.{rules, ◌≡◌, inl, inr, ℕ, ◌+◌, ◌<◌, ◌≤◌, Bool, true, false, cond, Some, None, List, [], ◌∷◌, ◌++◌, length, get_or, take, drop, refl, sym, subst, ap, ◌∙◌, arith, suc, length-append, ◌==◌, ◌||◌, fun_ext, cases_Bool, length-take-le, take-append-drop, take_all, take_more, element, Device, slot_count, Word, Held, Change, Forget, Map, Put, changed_by, map_after, live_in, IsNextLive, other, set_of, slots_of, Layout, AddsWords, map_in, replaced_map, AddsPartly, elements_of, elements_to, map_without, moved_words, put_words, AreApart, changes_of_puts, forgets_of, names, puts_of, Place, keeps_side_both, keeps_side_same}
 use Rattle.ee_core.specs.Transfers.{Filled, FilledPartly, IsNewlyOpened, IsOpenAt}
 use Rattle.ee_core.specs.declared.change.Put as listed
-use Rattle.ee_core.specs.declared.copying.Place.{Place}
 use Rattle.ee_core.proofs.CopiedMaps.{at_first, at_last, changed_by-append, changed_by-other, copied_to, nothing, passed, so_far, then_all}
 use Rattle.ee_core.proofs.CopiedWords.{all_words, copied_word, no_words, others, passed_word}
 use Rattle.ee_core.proofs.CutMoves.{adds_then, elements_front, partly_longer}
 use Rattle.ee_core.proofs.FilledSets.{adds_both, adds_none}
-use Rattle.ee_pages.proofs.Public.{keeps_side_both, keeps_side_same}
 use Rattle.ee_core.proofs.MovingFacts.{side_map}
 use Rattle.ee_core.proofs.Outside.{meaning-zero}
 use Rattle.ee_core.proofs.ShownStates.{moved_words_are_live_lem}

@@ -1,28 +1,7 @@
 -- How a blank device gets its first set.
-use Rattle.std.proofs.Common.{rules, ◌≡◌, ◌<◌, inl, ℕ, ◌+◌, ◌-◌, ◌/◌, true, false, None, List, [], ◌∷◌, refl, sym, subst, ap, ◌∙◌, arith, suc}
-use Rattle.std.specs.List.{All}
-use Rattle.std.proofs.Math.Nat.{zero-div}
-use Rattle.std.proofs.lemmas.List.Elements.{All-drop, All-get_or, All-take}
-use Rattle.ee_flash.specs.Device.{Device, IsFormed, IsOn, page_at, word_at}
-use Rattle.ee_flash.specs.Laws.{IsStep}
-use Rattle.ee_flash.specs.Size.{page_count}
-use Rattle.ee_flash.specs.Step.{device_after}
-use Rattle.ee_flash.specs.declared.word.Word.{Word}
-use Rattle.ee_flash.specs.declared.word.Word.TheVariants.{Erased}
-use Rattle.ee_flash.proofs.Public.{step_changes_one_page}
-use Rattle.ee_pages.specs.Filling.{IsCommitted, IsFilling}
-use Rattle.ee_pages.specs.Layout.{IsLayout}
-use Rattle.ee_pages.specs.Meaning.{meaning}
-use Rattle.ee_pages.specs.Page.{is_blank, is_marked, is_written, marking, place_of_mark}
-use Rattle.ee_pages.specs.Sets.{committed_generation, fill_of, page_of_slot, pending_of, set_of, slots_of, word_of}
-use Rattle.ee_pages.specs.declared.side.Side.TheVariants.{First, Second}
-use Rattle.ee_pages.specs.declared.state.Mark.{Mark}
-use Rattle.ee_pages.specs.declared.state.Mark.TheVariants.{Active, Receive}
-use Rattle.ee_pages.proofs.Public.{blank_word, first_commit_commits, first_word, same_set, page_of_set, length-set_of, opens_set, erased_word}
+use Rattle.ee_core.proofs.Base.{rules, ◌≡◌, ◌<◌, inl, ℕ, ◌+◌, ◌-◌, ◌/◌, true, false, None, List, [], ◌∷◌, refl, sym, subst, ap, ◌∙◌, arith, suc, All, zero-div, All-drop, All-get_or, All-take, Device, IsFormed, IsOn, page_at, word_at, IsStep, page_count, device_after, Word, Erased, step_changes_one_page, IsCommitted, IsFilling, IsLayout, meaning, is_blank, is_marked, is_written, marking, place_of_mark, committed_generation, fill_of, page_of_slot, pending_of, set_of, slots_of, word_of, First, Second, Mark, Active, Receive, blank_word, first_commit_commits, first_word, same_set, page_of_set, length-set_of, opens_set, erased_word, IsMarked, last_used, formatted_state, state_of}
 use Rattle.ee_core.proofs.Marks.{IsProper, mark_step, marked_by}
 use Rattle.ee_core.proofs.States.{same_states, state_is}
-use Rattle.ee_core.specs.Finished.{IsMarked, last_used}
-use Rattle.ee_core.specs.State.{formatted_state, state_of}
 
 -- a blank page has no mark
 pub unmarked : (device : Device) (page : ℕ) (mark : Mark) → IsFormed device → All (λ words. is_blank words ≡ true) device.image → page < page_count device.size → is_marked device page mark ≡ false

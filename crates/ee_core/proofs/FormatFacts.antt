@@ -1,23 +1,9 @@
 -- What formatting does: it erases what is not blank, and then commits the first set.
-use Rattle.std.proofs.Common.{◌≡◌, ◌≢◌, inl, inr, ℕ, ◌+◌, ◌<◌, ◌≤◌, true, false, List, [], length, replicate, refl, sym, ap, ◌∙◌, arith}
-use Rattle.std.specs.List.{All}
-use Rattle.std.proofs.lemmas.Bool.{cases_lt, true≢false}
-use Rattle.std.proofs.lemmas.List.{get_or-replicate, get_or-set_other, get_or-set_same, length-replicate}
-use Rattle.std.proofs.lemmas.List.Elements.{All-from_get_or}
-use Rattle.ee_flash.specs.Device.{Device, IsFormed, IsOn, page_at}
-use Rattle.ee_flash.specs.Power.{GoesOn}
-use Rattle.ee_flash.specs.Size.{page_count}
-use Rattle.ee_flash.specs.Step.{with_page_erased}
-use Rattle.ee_flash.specs.declared.word.Word.{Word}
-use Rattle.ee_flash.specs.declared.word.Word.TheVariants.{Erased}
-use Rattle.ee_pages.specs.Page.{is_blank, is_written}
-use Rattle.ee_pages.proofs.Public.{blank_page}
+use Rattle.ee_core.proofs.Base.{◌≡◌, ◌≢◌, inl, inr, ℕ, ◌+◌, ◌<◌, ◌≤◌, true, false, List, [], length, replicate, refl, sym, ap, ◌∙◌, arith, All, cases_lt, true≢false, get_or-replicate, get_or-set_other, get_or-set_same, length-replicate, All-from_get_or, Device, IsFormed, IsOn, page_at, GoesOn, page_count, with_page_erased, Word, Erased, is_blank, is_written, blank_page, IsSameBut, Wears}
 use Rattle.ee_core.proofs.AfterCalls.{goes_on_same}
 use Rattle.ee_core.proofs.ErasedPages.{blank_wears, written_wears}
 use Rattle.ee_core.proofs.NotBlank.{named}
 use Rattle.ee_core.proofs.Wears.{page_wears}
-use Rattle.ee_core.specs.CallSteps.{IsSameBut}
-use Rattle.ee_core.specs.State.{Wears}
 
 -- a page is blank now, and the others are as they were
 pub record BlanksPage (mid new : Device) (page : ℕ) : Type 0 where

@@ -1,19 +1,5 @@
 -- Which marks are there still where pages are as before.
-use Rattle.std.proofs.Common.{rules, ◌≡◌, inl, inr, ℕ, ◌+◌, ◌-◌, ◌<◌, ◌≤◌, true, List, get_or, sym, subst, ap, ◌∙◌, arith}
-use Rattle.std.proofs.lemmas.Bool.{cases_eq}
-use Rattle.std.proofs.lemmas.List.Sums.{count_by-le-length, length-filter}
-use Rattle.ee_flash.specs.Device.{Device, IsFormed, page_at}
-use Rattle.ee_flash.specs.Size.{Size, slot_count}
-use Rattle.ee_flash.specs.declared.word.Word.{Word}
-use Rattle.ee_flash.specs.declared.word.Word.TheVariants.{Erased}
-use Rattle.ee_pages.specs.Page.{is_blank, is_marked, is_written, place_of_mark}
-use Rattle.ee_pages.specs.Sets.{fill_of, first_page, other, page_of_slot, set_of, slots_of}
-use Rattle.ee_pages.specs.declared.side.Side.{Side}
-use Rattle.ee_pages.specs.declared.state.Mark.{Mark}
-use Rattle.ee_pages.specs.declared.state.Mark.TheVariants.{Active, Erasing, Valid}
-use Rattle.ee_pages.proofs.Public.{length-slots, page_in_range, slot_below}
-use Rattle.ee_core.specs.CallSteps.{IsReady, IsSameBut, IsSameSet, KeepsMarks}
-use Rattle.ee_core.specs.Finished.{IsLiveMarked, IsMarked, IsOldMarked, last_used}
+use Rattle.ee_core.proofs.Base.{rules, ◌≡◌, inl, inr, ℕ, ◌+◌, ◌-◌, ◌<◌, ◌≤◌, true, List, get_or, sym, subst, ap, ◌∙◌, arith, cases_eq, count_by-le-length, length-filter, Device, IsFormed, page_at, Size, slot_count, Word, Erased, is_blank, is_marked, is_written, place_of_mark, fill_of, first_page, other, page_of_slot, set_of, slots_of, Side, Mark, Active, Erasing, Valid, length-slots, page_in_range, slot_below, IsReady, IsSameBut, IsSameSet, KeepsMarks, IsLiveMarked, IsMarked, IsOldMarked, last_used}
 use Rattle.ee_core.proofs.SetPages.{same_page}
 
 pub fill_fits : (side : Side) (device : Device) → IsFormed device → fill_of (slots_of (set_of side device)) ≤ slot_count device.size

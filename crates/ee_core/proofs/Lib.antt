@@ -1,3 +1,4 @@
+mod Base
 mod SetPages
 mod Wears
 mod NotBlank

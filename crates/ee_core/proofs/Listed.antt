@@ -1,16 +1,8 @@
 -- Lists of values that are put: an address that is listed twice, and lists in which
 -- each is listed once.
-use Rattle.std.proofs.Common.{◌≡◌, ℕ, ◌≤◌, false, Bool, Option, Some, None, List, [], ◌∷◌, length, take, refl, ap, ◌∙◌, suc}
-use Rattle.std.specs.Prelude.{◌==◌, ◌||◌, slice_get}
-use Rattle.std.specs.List.{All}
-use Rattle.std.proofs.lemmas.Bool.{ne_eqb}
-use Rattle.std.proofs.lemmas.List.Elements.{All-head, All-tail}
-use Rattle.std.proofs.lemmas.Option.{slice_get_past}
-use Rattle.ee_codec.specs.Words.{IsAddress}
-use Rattle.ee_core.specs.Puts.{AreApart, IsEachOnce, ListsAreThere, is_put, is_put_again, is_twice, names, puts_of}
+use Rattle.ee_core.proofs.Base.{◌≡◌, ℕ, ◌≤◌, false, Bool, Option, Some, None, List, [], ◌∷◌, length, take, refl, ap, ◌∙◌, suc, ◌==◌, ◌||◌, slice_get, All, ne_eqb, All-head, All-tail, slice_get_past, IsAddress, AreApart, IsEachOnce, ListsAreThere, is_put, is_put_again, is_twice, names, puts_of, Put, map_after}
 use Rattle.ee_core.specs.declared.change.Put as listed
 use Rattle.ee_core.proofs.CopiedMaps.{apart, changed_by-other, neither, put-at}
-use Rattle.ee_pages.specs.Meaning.{Put, map_after}
 
 -- a list of values names the addresses that are put
 pub names-puts : (puts : List listed.Put) (address : ℕ) → names (puts_of puts) address ≡ is_put puts address

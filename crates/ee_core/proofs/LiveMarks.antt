@@ -1,27 +1,8 @@
 -- The marks that an opening sets in the live set and in the other one, page after page.
-use Rattle.std.proofs.Common.{rules, ◌≡◌, ◌≢◌, ◌⊎◌, inl, inr, ℕ, ◌+◌, ◌-◌, ◌<◌, ◌≤◌, true, false, refl, sym, subst, ap, ◌∙◌, arith}
-use Rattle.std.proofs.lemmas.Bool.{cases_lt, true≢false}
-use Rattle.std.proofs.Math.Nat.{div-mul-le_self, mul-le-mul_right}
-use Rattle.ee_flash.specs.Device.{Device, page_at}
-use Rattle.ee_flash.specs.Power.{GoesOn}
-use Rattle.ee_flash.specs.Size.{Size}
-use Rattle.ee_flash.specs.declared.word.Word.TheVariants.{Erased}
-use Rattle.std.specs.Prelude.{slice_index_or}
-use Rattle.ee_pages.specs.Layout.{IsLayout}
-use Rattle.ee_pages.specs.Legal.{IsLive}
-use Rattle.ee_pages.specs.Page.{is_blank, is_marked, is_written}
-use Rattle.ee_pages.specs.Pushing.{IsMarkBehind}
-use Rattle.ee_pages.specs.Sets.{fill_of, first_page, page_of_slot, set_of, slots_of}
-use Rattle.ee_pages.specs.declared.find.Layout.{Layout}
-use Rattle.ee_pages.specs.declared.side.Side.{Side}
-use Rattle.ee_pages.specs.declared.state.Mark.{Mark}
-use Rattle.ee_pages.specs.declared.state.Mark.TheVariants.{Active, Valid, Erasing}
-use Rattle.ee_pages.proofs.Public.{page_in_range, slot_below}
+use Rattle.ee_core.proofs.Base.{rules, ◌≡◌, ◌≢◌, ◌⊎◌, inl, inr, ℕ, ◌+◌, ◌-◌, ◌<◌, ◌≤◌, true, false, refl, sym, subst, ap, ◌∙◌, arith, cases_lt, true≢false, div-mul-le_self, mul-le-mul_right, Device, page_at, GoesOn, Size, Erased, slice_index_or, IsLayout, IsLive, is_blank, is_marked, is_written, IsMarkBehind, fill_of, first_page, page_of_slot, set_of, slots_of, Layout, Side, Mark, Active, Valid, Erasing, page_in_range, slot_below, IsSameBut, KeepsMarks, SetsMark, Stays, IsLiveMarked, IsOldMarked, last_used}
 use Rattle.ee_core.proofs.SetPages.{first_below}
 use Rattle.ee_core.proofs.AfterCalls.{goes_on_same}
 use Rattle.ee_core.proofs.Marks.{same_stays}
-use Rattle.ee_core.specs.CallSteps.{IsSameBut, KeepsMarks, SetsMark, Stays}
-use Rattle.ee_core.specs.Finished.{IsLiveMarked, IsOldMarked, last_used}
 use Rattle.ee_core.proofs.KeptMarks.{fill_fits}
 
 -- after what keeps the live set, the layout is still right

@@ -1,18 +1,6 @@
 -- The lowest page that waits to be erased, from a look over the pages of the other set.
-use Rattle.std.proofs.Common.{rules, ◌≡◌, ◌<◌, ◌≤◌, ℕ, Option, Some, None, true, false, [], ◌∷◌, sym, subst, ap, ◌∙◌}
-use Rattle.std.proofs.lemmas.Bool.{true≢false}
-use Rattle.ee_flash.specs.Device.{Device, page_at}
-use Rattle.ee_flash.specs.Step.{IsPartlyErased}
-use Rattle.ee_pages.specs.Laws.{IsPageOf, KeepsLiveSet}
-use Rattle.ee_pages.specs.Legal.{IsLive}
-use Rattle.ee_pages.specs.Page.{is_blank}
-use Rattle.ee_pages.specs.Sets.{first_page, live_of, other}
-use Rattle.ee_pages.specs.declared.side.Side.{Side}
-use Rattle.ee_pages.specs.declared.side.Side.TheVariants.{First}
+use Rattle.ee_core.proofs.Base.{rules, ◌≡◌, ◌<◌, ◌≤◌, ℕ, Option, Some, None, true, false, [], ◌∷◌, sym, subst, ap, ◌∙◌, true≢false, Device, page_at, IsPartlyErased, IsPageOf, KeepsLiveSet, IsLive, is_blank, first_page, live_of, other, Side, First, IsSameBut, ErasesLowest, IsLowestPending, KeepsAllButLowest, Wears, pending_pages}
 use Rattle.ee_core.proofs.PendingPages.{lowest_blank}
-use Rattle.ee_core.specs.CallSteps.{IsSameBut}
-use Rattle.ee_core.specs.Calls.{ErasesLowest, IsLowestPending, KeepsAllButLowest}
-use Rattle.ee_core.specs.State.{Wears, pending_pages}
 
 abbrev side_in : Option (Side × ℕ) → Side
 side_in None = First

@@ -1,41 +1,14 @@
 -- What an append or a transfer makes of a state, and when each is done.
-use Rattle.std.proofs.Common.{rules, ◌≡◌, ◌≢◌, ◌⊎◌, inl, inr, ℕ, ◌+◌, ◌-◌, ◌<◌, ◌≤◌, ◌&&◌, Bool, true, false, cond, Option, Some, None, is_some, List, [], ◌∷◌, length, nat_lt, refl, sym, subst, ap, ◌∙◌, arith}
-use Rattle.std.specs.Prelude.{Result, Ok, Err, OnErr, OnOk, not}
-use Rattle.std.proofs.lemmas.Bool.{cases_lt}
-use Rattle.std.proofs.lemmas.Grind.{common_steps}
-use Rattle.std.specs.List.{filter}
-use Rattle.ee_flash.specs.Device.{Device, IsFormed, IsOff, IsOn}
-use Rattle.ee_flash.specs.Power.{Ends, GoesOn, IsCut}
-use Rattle.ee_flash.specs.Size.{Size}
-use Rattle.ee_flash.specs.declared.word.Word.{Word}
-use Rattle.ee_flash.specs.declared.word.Word.TheVariants.{Erased, Held, Torn}
+use Rattle.ee_core.proofs.Base.{rules, ◌≡◌, ◌≢◌, ◌⊎◌, inl, inr, ℕ, ◌+◌, ◌-◌, ◌<◌, ◌≤◌, ◌&&◌, Bool, true, false, cond, Option, Some, None, is_some, List, [], ◌∷◌, length, nat_lt, refl, sym, subst, ap, ◌∙◌, arith, Result, Ok, Err, OnErr, OnOk, not, cases_lt, common_steps, filter, Device, IsFormed, IsOff, IsOn, Ends, GoesOn, IsCut, Size, Word, Erased, Held, Torn, IsAddress, IsGeneration, KeepsLiveSet, IsLive, Change, Map, Put, Forget, changed_by, map_after, live_in, meaning, is_blank, is_written, address_of, TakesSlot, fill_of, first_page, is_mark, other, pending_of, set_of, slots_of, word_of, Side, First, live_commits, change_counts, full_set_has_no_blank_page, live_within_fill, length-set_of, length-slots, Appends, HaveNoGeneration, IsAccepted, IsCutAppend, IsCutChange, IsCutMaking, IsCutMove, IsFull, Moves, NeedsTransfer, Proceeds, greatest_generation, pages_left, ErasesPartly, IsDrawnPartly, MovesPartly, IsDrawn, filled_set, is_used, moved_words, number_of_change, picture_of, retired_pages, with_change, AreApart, ForgetsHeld, HasMoved, IsSameSet, map_change, number_written, IsMarked, IsStore, State, Wears, appended_state, capacity, moved_state, next_live, not_blank_in, pending_pages, pending_pages_in, torn_state, state_of, used_pages_in}
 use Rattle.ee_codec.specs.Reading.{mark_of, receive_of}
-use Rattle.ee_codec.specs.Words.{IsAddress, IsGeneration}
-use Rattle.ee_pages.specs.Laws.{KeepsLiveSet}
-use Rattle.ee_pages.specs.Legal.{IsLive}
-use Rattle.ee_pages.specs.Meaning.{Change, Map, Put, Forget, changed_by, map_after, live_in, meaning}
-use Rattle.ee_pages.specs.Page.{is_blank, is_written}
-use Rattle.ee_pages.specs.Pending.{address_of}
-use Rattle.ee_pages.specs.Pushing.{TakesSlot}
-use Rattle.ee_pages.specs.Sets.{fill_of, first_page, is_mark, other, pending_of, set_of, slots_of, word_of}
-use Rattle.ee_pages.specs.declared.side.Side.{Side}
-use Rattle.ee_pages.specs.declared.side.Side.TheVariants.{First}
-use Rattle.ee_pages.proofs.Public.{live_commits, change_counts, full_set_has_no_blank_page, live_within_fill, length-set_of, length-slots}
 use Rattle.ee_core.specs.Appending.{MayTakeSlot}
-use Rattle.ee_core.specs.Changes.{Appends, HaveNoGeneration, IsAccepted, IsCutAppend, IsCutChange, IsCutMaking, IsCutMove, IsFull, Moves, NeedsTransfer, Proceeds, greatest_generation, pages_left}
 use Rattle.ee_core.specs.Shown.{ShowsAppended, ShowsCutAppend, ShowsCutMove, ShowsMoved, is_left}
-use Rattle.ee_core.specs.Cuts.{ErasesPartly, IsDrawnPartly, MovesPartly}
-use Rattle.ee_core.specs.Picture.{IsDrawn, filled_set, is_used, moved_words, number_of_change, picture_of, retired_pages, with_change}
-use Rattle.ee_core.specs.Puts.{AreApart}
 use Rattle.ee_core.specs.declared.change.Change as declared
 use Rattle.ee_core.specs.declared.change.Change.TheVariants as kinds
 use Rattle.ee_core.proofs.Drawings.{drawn_as, same_drawn}
 use Rattle.ee_core.proofs.MovedSets.{used_where_full}
 use Rattle.ee_core.specs.Known.{Knows}
 use Rattle.ee_core.specs.declared.known.Known.{Known}
-use Rattle.ee_core.specs.CallSteps.{ForgetsHeld, HasMoved, IsSameSet, map_change, number_written}
-use Rattle.ee_core.specs.Finished.{IsMarked, IsStore}
-use Rattle.ee_core.specs.State.{State, Wears, appended_state, capacity, moved_state, next_live, not_blank_in, pending_pages, pending_pages_in, torn_state, state_of, used_pages_in}
 use Rattle.ee_core.proofs.States.{same_states, state_is, state_kept, state_moved}
 use Rattle.ee_core.proofs.MovingFacts.{layout_kept}
 

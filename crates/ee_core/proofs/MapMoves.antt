@@ -1,24 +1,5 @@
 -- What a transfer leaves, from what its steps leave.
-use Rattle.std.proofs.Common.{◌≡◌, inl, inr, ℕ, ◌+◌, ◌-◌, List, [], length, refl, sym, subst, ap, ◌∙◌, arith}
-use Rattle.std.proofs.Math.Path.{fun_ext}
-use Rattle.ee_flash.specs.Device.{Device, IsFormed}
-use Rattle.ee_flash.specs.Size.{Size}
-use Rattle.ee_flash.specs.declared.word.Word.{Word}
-use Rattle.ee_pages.specs.Filling.{IsCommitted, IsFilling}
-use Rattle.ee_pages.specs.Laws.{KeepsSide}
-use Rattle.ee_pages.specs.Layout.{IsLayout}
-use Rattle.ee_pages.specs.Meaning.{Change, Map, changed_by, live_in, meaning}
-use Rattle.ee_pages.specs.Sets.{fill_of, other, page_of_slot, pending_of, set_of, slots_of}
-use Rattle.ee_pages.specs.declared.find.Layout.{Layout}
-use Rattle.ee_pages.specs.declared.side.Side.{Side}
-use Rattle.ee_pages.proofs.Public.{keeps_side_both, other_twice}
-use Rattle.ee_core.specs.CallSteps.{HasMoved, Holds, IsSameSet, Stays, map_in}
-use Rattle.ee_core.specs.Cuts.{AddsPartly, IsDrawnPartly, MovesMapPartly, MovesPartly}
-use Rattle.ee_core.specs.Finished.{IsMarked, last_used}
-use Rattle.ee_core.specs.Openings.{ShowsCutMarks, ShowsMarks}
-use Rattle.ee_core.specs.Picture.{IsDrawn, blank_picture, filled_set, is_used, moved_words, picture_of, retired_pages}
-use Rattle.ee_core.specs.Puts.{each_forgotten}
-use Rattle.ee_core.specs.State.{Wears, not_blank_in}
+use Rattle.ee_core.proofs.Base.{◌≡◌, inl, inr, ℕ, ◌+◌, ◌-◌, List, [], length, refl, sym, subst, ap, ◌∙◌, arith, fun_ext, Device, IsFormed, Size, Word, IsCommitted, IsFilling, KeepsSide, IsLayout, Change, Map, changed_by, live_in, meaning, fill_of, other, page_of_slot, pending_of, set_of, slots_of, Layout, Side, keeps_side_both, other_twice, HasMoved, Holds, IsSameSet, Stays, map_in, AddsPartly, IsDrawnPartly, MovesMapPartly, MovesPartly, IsMarked, last_used, ShowsCutMarks, ShowsMarks, IsDrawn, blank_picture, filled_set, is_used, moved_words, picture_of, retired_pages, each_forgotten, Wears, not_blank_in}
 use Rattle.ee_core.specs.Transfers.{Filled, FilledPartly, IsNewlyOpened, MapMoved, MapMovedPartly, OtherCleared, OtherCommitted, OtherCommittedPartly, OtherOpened, OtherOpenedPartly, SetMoved}
 use Rattle.ee_core.proofs.CutMoves.{filled_partly, marked_partly, retires_partly}
 use Rattle.ee_core.proofs.Cuts.{drawn_before}

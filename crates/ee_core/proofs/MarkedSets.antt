@@ -1,21 +1,8 @@
 -- The pictures of both sets while an opening sets the marks, page after page.
-use Rattle.std.proofs.Common.{rules, ◌≡◌, inl, inr, ℕ, ◌+◌, ◌-◌, ◌<◌, ◌≤◌, true, sym, subst, ap, ◌∙◌, arith}
-use Rattle.std.specs.Prelude.{◌&&◌, not, nat_lt}
-use Rattle.std.proofs.lemmas.Bool.{cases_Bool}
-use Rattle.ee_flash.specs.Device.{Device, IsFormed, page_at}
-use Rattle.ee_flash.specs.Size.{Size}
-use Rattle.ee_flash.specs.declared.word.Word.TheVariants.{Held}
-use Rattle.ee_pages.specs.Laws.{IsPageOf}
-use Rattle.ee_pages.specs.Page.{is_blank, is_marked}
-use Rattle.ee_pages.specs.Sets.{first_page, other, page_of_slot, place_of_slot}
-use Rattle.ee_pages.specs.declared.side.Side.{Side}
-use Rattle.ee_pages.specs.declared.state.Mark.TheVariants.{Active, Erasing, Valid}
-use Rattle.ee_pages.proofs.Public.{other_twice}
+use Rattle.ee_core.proofs.Base.{rules, ◌≡◌, inl, inr, ℕ, ◌+◌, ◌-◌, ◌<◌, ◌≤◌, true, sym, subst, ap, ◌∙◌, arith, ◌&&◌, not, nat_lt, cases_Bool, Device, IsFormed, page_at, Size, Held, IsPageOf, is_blank, is_marked, first_page, other, page_of_slot, place_of_slot, Side, Active, Erasing, Valid, other_twice, IsSameBut, IsSameSet, PutsWord, SetsMark, IsDrawn, Picture, is_used, marked_to, picture_of, retired_pages, with_change}
 use Rattle.ee_core.proofs.Drawings.{active_last, drawn_as, drawn_same, mark_drawn, put_drawn, retired_all, retired_more, retired_none, retired_past, same_drawn, valid_drawn, valid_more, valid_none, valid_to, with_mark}
 use Rattle.ee_core.proofs.LiveMarks.{MarksPage}
 use Rattle.ee_core.proofs.SetPages.{same_other, same_page}
-use Rattle.ee_core.specs.CallSteps.{IsSameBut, IsSameSet, PutsWord, SetsMark}
-use Rattle.ee_core.specs.Picture.{IsDrawn, Picture, is_used, marked_to, picture_of, retired_pages, with_change}
 
 module _ (side : Side) (old : Device) (first : ℕ) (first_is : first ≡ first_page old.size side) where
   place : (mid : Device) (page : ℕ) → mid.size ≡ old.size → first ≤ page → page ≡ first_page mid.size side + (page - first)

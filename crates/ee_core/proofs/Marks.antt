@@ -1,29 +1,7 @@
 -- What programming a mark leaves of its device, in every outcome.
-use Rattle.std.proofs.Common.{rules, ◌≡◌, ◌⊎◌, inl, inr, ℕ, ◌+◌, ◌-◌, ◌<◌, ◌≤◌, true, false, List, [], length, get_or, set, Result, Ok, Err, OnOk, OnErr, refl, sym, subst, ap, ◌∙◌, arith}
-use Rattle.std.proofs.lemmas.Bool.{cases_Bool, cases_eq}
-use Rattle.std.proofs.lemmas.List.{get_or-set_other, get_or-set_same}
-use Rattle.std.proofs.lemmas.List.Elements.{All-get_or}
-use Rattle.ee_codec.specs.Words.{IsGeneration}
-use Rattle.ee_flash.specs.Device.{Device, IsFormed, IsOn, all_ones, page_at}
-use Rattle.ee_flash.specs.Laws.{IsStep}
-use Rattle.ee_flash.specs.Size.{Size, page_count}
-use Rattle.ee_flash.specs.Step.{Step, Program, IsCutIn, IsUntouched, MayFollow, device_after}
+use Rattle.ee_core.proofs.Base.{rules, ◌≡◌, ◌⊎◌, inl, inr, ℕ, ◌+◌, ◌-◌, ◌<◌, ◌≤◌, true, false, List, [], length, get_or, set, Result, Ok, Err, OnOk, OnErr, refl, sym, subst, ap, ◌∙◌, arith, cases_Bool, cases_eq, get_or-set_other, get_or-set_same, All-get_or, IsGeneration, Device, IsFormed, IsOn, all_ones, page_at, IsStep, Size, page_count, Step, Program, IsCutIn, IsUntouched, MayFollow, device_after, Word, Erased, Held, Torn, step_leaves_pages, IsPageOf, IsLive, is_blank, is_marked, is_written, marking, number_of_mark, place_of_mark, word_in, IsMarkBehind, first_page, other, set_of, Side, Mark, Receive, Active, Valid, Erasing, other_set_keeps_live, program_leaves_written, step_keeps_other_pages, mark_keeps_live, erased_word, first_below, KeepsMarks, Stays, not_blank_from}
 use Rattle.ee_flash.specs.declared.device.Cut.{Cut}
-use Rattle.ee_flash.specs.declared.word.Word.{Word}
-use Rattle.ee_flash.specs.declared.word.Word.TheVariants.{Erased, Held, Torn}
-use Rattle.ee_flash.proofs.Public.{step_leaves_pages}
-use Rattle.ee_pages.specs.Laws.{IsPageOf}
-use Rattle.ee_pages.specs.Legal.{IsLive}
-use Rattle.ee_pages.specs.Page.{is_blank, is_marked, is_written, marking, number_of_mark, place_of_mark, word_in}
-use Rattle.ee_pages.specs.Pushing.{IsMarkBehind}
-use Rattle.ee_pages.specs.Sets.{first_page, other, set_of}
-use Rattle.ee_pages.specs.declared.side.Side.{Side}
-use Rattle.ee_pages.specs.declared.state.Mark.{Mark}
-use Rattle.ee_pages.specs.declared.state.Mark.TheVariants.{Receive, Active, Valid, Erasing}
-use Rattle.ee_pages.proofs.Public.{other_set_keeps_live, program_leaves_written, step_keeps_other_pages, mark_keeps_live, erased_word, first_below}
 use Rattle.ee_core.proofs.PendingPages.{same_not_blank}
-use Rattle.ee_core.specs.CallSteps.{KeepsMarks, Stays}
-use Rattle.ee_core.specs.State.{not_blank_from}
 
 -- a written word stays one where a word of the pages gets written
 written_stays : (image : List (List Word)) (page at : ℕ) (word : Word) (p k : ℕ) → page < length image → at < length (get_or image page []) → is_written word ≡ true → is_written (word_in (get_or image p []) k) ≡ true → is_written (word_in (get_or (set image page (set (get_or image page []) at word)) p []) k) ≡ true

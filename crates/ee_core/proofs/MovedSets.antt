@@ -1,32 +1,8 @@
 -- The pictures of both sets from the first step of a transfer to the last.
-use Rattle.std.proofs.Common.{rules, ◌≡◌, inl, inr, ℕ, ◌+◌, ◌-◌, ◌*◌, ◌<◌, ◌≤◌, true, List, [], length, get_or, refl, sym, ap, ◌∙◌, arith}
-use Rattle.std.specs.Prelude.{◌==◌, ◌&&◌, not, nat_lt, if◌then◌else◌}
-use Rattle.std.specs.List.{All}
-use Rattle.std.proofs.Math.Nat.{zero-div}
-use Rattle.std.proofs.lemmas.Bool.{cases_Bool, cases_eq, cases_lt, eq-eqb, le-leb, le-ltb, lt-leb, lt-ltb, ne_eqb}
-use Rattle.std.proofs.lemmas.List.{ext_get_or, get_or_past}
-use Rattle.std.proofs.lemmas.List.Elements.{All-drop, All-get_or, All-take}
+use Rattle.ee_core.proofs.Base.{rules, ◌≡◌, inl, inr, ℕ, ◌+◌, ◌-◌, ◌*◌, ◌<◌, ◌≤◌, true, List, [], length, get_or, refl, sym, ap, ◌∙◌, arith, ◌==◌, ◌&&◌, not, nat_lt, if◌then◌else◌, All, zero-div, cases_Bool, cases_eq, cases_lt, eq-eqb, le-leb, le-ltb, lt-leb, lt-ltb, ne_eqb, ext_get_or, get_or_past, All-drop, All-get_or, All-take, prefix_len_passes, row_fits, Device, IsFormed, page_at, Size, slot_count, Word, Erased, length-page_at, IsPageOf, IsLive, slots_before, is_blank, is_written, fill_of, first_page, front, page_of_slot, set_of, slots_of, Side, First, Second, Active, Receive, fill-front, get_or-slots_of, length-set_of, pages-set_of, blank_word, Holds, IsCommittedWith, SetsMark, opened_set, last_used, IsDrawn, Picture, blank_picture, filled_set, is_used, mark_where, marked_to, picture_of, retired_pages}
 use Rattle.std.proofs.lemmas.List.Folds.{list_any_at}
-use Rattle.std.proofs.lemmas.List.Sums.{prefix_len_passes}
-use Rattle.std.proofs.lemmas.Nat.{row_fits}
-use Rattle.ee_flash.specs.Device.{Device, IsFormed, page_at}
-use Rattle.ee_flash.specs.Size.{Size, slot_count}
-use Rattle.ee_flash.specs.declared.word.Word.{Word}
-use Rattle.ee_flash.specs.declared.word.Word.TheVariants.{Erased}
-use Rattle.ee_flash.proofs.Public.{length-page_at}
-use Rattle.ee_pages.specs.Laws.{IsPageOf}
-use Rattle.ee_pages.specs.Legal.{IsLive, slots_before}
-use Rattle.ee_pages.specs.Page.{is_blank, is_written}
-use Rattle.ee_pages.specs.Sets.{fill_of, first_page, front, page_of_slot, set_of, slots_of}
-use Rattle.ee_pages.specs.declared.side.Side.{Side}
-use Rattle.ee_pages.specs.declared.side.Side.TheVariants.{First, Second}
-use Rattle.ee_pages.specs.declared.state.Mark.TheVariants.{Active, Receive}
-use Rattle.ee_pages.proofs.Public.{fill-front, get_or-slots_of, length-set_of, pages-set_of, blank_word}
 use Rattle.ee_core.proofs.Drawings.{drawn_as, drawn_both, mark_drawn, marked-written, put_apart, with_mark, with_word-elsewhere, with_word-there}
 use Rattle.ee_core.proofs.SetPages.{page_in_device, page_of_set}
-use Rattle.ee_core.specs.CallSteps.{Holds, IsCommittedWith, SetsMark, opened_set}
-use Rattle.ee_core.specs.Finished.{last_used}
-use Rattle.ee_core.specs.Picture.{IsDrawn, Picture, blank_picture, filled_set, is_used, mark_where, marked_to, picture_of, retired_pages}
 
 -- blank pages
 pub blank_drawn : (side : Side) (device : Device) → IsFormed device → All (λ page. is_blank page ≡ true) (set_of side device) → IsDrawn side device blank_picture

@@ -1,21 +1,5 @@
 -- What calls in the other set leave together.
-use Rattle.std.proofs.Common.{rules, ◌≡◌, ◌⊎◌, inl, inr, ◌≤◌, ◌<◌, ◌-◌, ◌/◌, ℕ, ◌+◌, true, List, [], refl, sym, subst, ap, ◌∙◌, arith}
-use Rattle.std.specs.List.{All}
-use Rattle.std.proofs.lemmas.List.Elements.{All-from_get_or}
-use Rattle.std.proofs.Math.Nat.{zero-div}
-use Rattle.std.proofs.lemmas.Nat.{mul-le}
-use Rattle.ee_flash.specs.Device.{Device, IsFormed, page_at}
-use Rattle.ee_flash.specs.Size.{slot_count}
-use Rattle.ee_pages.specs.Laws.{KeepsLiveSet, KeepsSide}
-use Rattle.ee_pages.specs.Layout.{IsLayout}
-use Rattle.ee_pages.specs.Legal.{IsLive}
-use Rattle.ee_pages.specs.Meaning.{Change, changed_by, live_in, meaning}
-use Rattle.ee_pages.specs.Page.{is_blank}
-use Rattle.ee_pages.specs.Sets.{first_page, other, page_of_slot, set_of, slots_of}
-use Rattle.ee_pages.specs.declared.find.Layout.{Layout}
-use Rattle.ee_pages.specs.declared.side.Side.{Side}
-use Rattle.ee_pages.proofs.Public.{kept_side_is_live, length-set_of, other_twice}
-use Rattle.ee_core.specs.CallSteps.{HasMoved, Stays}
+use Rattle.ee_core.proofs.Base.{rules, ◌≡◌, ◌⊎◌, inl, inr, ◌≤◌, ◌<◌, ◌-◌, ◌/◌, ℕ, ◌+◌, true, List, [], refl, sym, subst, ap, ◌∙◌, arith, All, All-from_get_or, zero-div, mul-le, Device, IsFormed, page_at, slot_count, KeepsLiveSet, KeepsSide, IsLayout, IsLive, Change, changed_by, live_in, meaning, is_blank, first_page, other, page_of_slot, set_of, slots_of, Layout, Side, kept_side_is_live, length-set_of, other_twice, HasMoved, Stays}
 use Rattle.ee_core.proofs.PendingPages.{as_many_not_blank}
 use Rattle.ee_core.proofs.SetPages.{page_of_set}
 

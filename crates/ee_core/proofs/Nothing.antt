@@ -1,14 +1,8 @@
 -- A map of which every address is forgotten: nothing has a value in it, and no word is copied of
 -- it.
-use Rattle.std.proofs.Common.{◌≡◌, inl, inr, ℕ, ◌+◌, ◌<◌, ◌≤◌, Bool, true, false, cond, Option, None, List, [], refl, ap, ◌∙◌, arith, subst, length, suc, zero}
-use Rattle.std.specs.Prelude.{◌==◌, slice_index_or}
-use Rattle.std.specs.List.{Contains}
-use Rattle.std.proofs.lemmas.Bool.{cases_eq, cases_lt}
-use Rattle.ee_flash.specs.declared.word.Word.{Word}
-use Rattle.ee_pages.specs.Meaning.{Change, Forget, Map, changed_by, live_in, map_after, meaning}
-use Rattle.ee_core.specs.Changes.{HasChange}
-use Rattle.ee_core.specs.Picture.{elements_of, elements_to, map_without, moved_words, put_words}
-use Rattle.ee_core.specs.Puts.{each_forgotten, forgets_from}
+use Rattle.ee_core.proofs.Base.{◌≡◌, inl, inr, ℕ, ◌+◌, ◌<◌, ◌≤◌, Bool, true, false, cond, Option, None, List, [], refl, ap, ◌∙◌, arith, subst, length, suc, zero, ◌==◌, slice_index_or, Contains, cases_eq, cases_lt, Word, Change, Forget, Map, changed_by, live_in, map_after, meaning, HasChange, elements_of, map_without, moved_words, put_words, each_forgotten}
+use Rattle.ee_core.specs.Picture.{elements_to}
+use Rattle.ee_core.specs.Puts.{forgets_from}
 use Rattle.ee_core.proofs.CopiedMaps.{forget-at, live_in-nothing}
 use Rattle.ee_core.proofs.Outside.{meaning-above, meaning-zero}
 

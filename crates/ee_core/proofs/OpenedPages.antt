@@ -1,20 +1,5 @@
 -- The page of the first free slot, and what marks it.
-use Rattle.std.proofs.Common.{◌≡◌, ◌≢◌, ◌⊎◌, inl, inr, ℕ, ◌+◌, ◌-◌, ◌*◌, ◌<◌, ◌≤◌, ◌/◌, ◌%◌, true, refl, sym, subst, ap, ◌∙◌, arith}
-use Rattle.std.proofs.Math.Nat.{div-add-mod, div-mul-le_self, lt-div-mul-add}
-use Rattle.std.proofs.lemmas.Bool.{cases_eq, cases_lt}
-use Rattle.std.proofs.lemmas.Nat.{div-mul-add, mod-mul-add}
-use Rattle.ee_flash.specs.Device.{Device, IsFormed}
-use Rattle.ee_flash.specs.Size.{Size, slot_count}
-use Rattle.ee_pages.specs.Laws.{IsPageOf}
-use Rattle.ee_pages.specs.Layout.{IsLayout}
-use Rattle.ee_pages.specs.Page.{is_marked}
-use Rattle.ee_pages.specs.Pushing.{IsMarkBehind}
-use Rattle.ee_pages.specs.Sets.{first_page, other, page_of_slot, place_of_slot}
-use Rattle.ee_pages.specs.declared.find.Layout.{Layout}
-use Rattle.ee_pages.specs.declared.state.Mark.TheVariants.{Active, Valid}
-use Rattle.ee_pages.proofs.Public.{page_in_range, slot_below}
-use Rattle.ee_core.specs.CallSteps.{IsReady, IsSameBut, IsSameSet, KeepsMarks, Stays}
-use Rattle.ee_core.specs.Finished.{IsLiveMarked, last_used}
+use Rattle.ee_core.proofs.Base.{◌≡◌, ◌≢◌, ◌⊎◌, inl, inr, ℕ, ◌+◌, ◌-◌, ◌*◌, ◌<◌, ◌≤◌, ◌/◌, ◌%◌, true, refl, sym, subst, ap, ◌∙◌, arith, div-add-mod, div-mul-le_self, lt-div-mul-add, cases_eq, cases_lt, div-mul-add, mod-mul-add, Device, IsFormed, Size, slot_count, IsPageOf, IsLayout, is_marked, IsMarkBehind, first_page, other, page_of_slot, place_of_slot, Layout, Active, Valid, page_in_range, slot_below, IsReady, IsSameBut, IsSameSet, KeepsMarks, Stays, IsLiveMarked, last_used}
 use Rattle.ee_core.proofs.SetPages.{same_other}
 
 -- within a page the slot before stands in the same page

@@ -1,19 +1,6 @@
 -- What an opening leaves, from what setting the marks leaves.
-use Rattle.std.proofs.Common.{rules, ◌≡◌, ℕ, Option, Some, None, [], sym, subst, ap, ◌∙◌}
-use Rattle.ee_flash.specs.Device.{Device}
-use Rattle.ee_flash.specs.Power.{GoesOn, IsCut}
-use Rattle.ee_pages.specs.Layout.{IsLayout}
-use Rattle.ee_pages.specs.Legal.{IsLive}
-use Rattle.ee_pages.specs.Sets.{live_of}
-use Rattle.ee_pages.specs.declared.find.Layout.{Layout}
-use Rattle.ee_pages.specs.declared.side.Side.{Side}
-use Rattle.ee_pages.specs.declared.side.Side.TheVariants.{First, Second}
+use Rattle.ee_core.proofs.Base.{rules, ◌≡◌, ℕ, Option, Some, None, [], sym, subst, ap, ◌∙◌, Device, GoesOn, IsCut, IsLayout, IsLive, live_of, Layout, Side, First, Second, IsFinished, IsMarked, IsStore, IsCutOpening, IsFormatted, Opens, ShowsCutMarks, ShowsMarks, not_blank_pages, IsDrawn, blank_picture, filled_set, Stays, State, Wears, formatted_state, state_of}
 use Rattle.ee_core.proofs.States.{state_is, state_stays}
-use Rattle.ee_core.specs.Finished.{IsFinished, IsMarked, IsStore}
-use Rattle.ee_core.specs.Openings.{IsCutOpening, IsFormatted, Opens, ShowsCutMarks, ShowsMarks, not_blank_pages}
-use Rattle.ee_core.specs.Picture.{IsDrawn, blank_picture, filled_set}
-use Rattle.ee_core.specs.CallSteps.{Stays}
-use Rattle.ee_core.specs.State.{State, Wears, formatted_state, state_of}
 
 abbrev side_in : Option (Side × ℕ) → Side
 side_in None = First

@@ -1,28 +1,5 @@
 -- Steps in the set that a transfer fills.
-use Rattle.std.proofs.Common.{rules, ◌≡◌, ◌⊎◌, inl, inr, ℕ, ◌+◌, ◌-◌, ◌<◌, Bool, true, false, None, [], length, refl, sym, subst, ap, ◌∙◌, arith}
-use Rattle.std.specs.List.{All}
-use Rattle.std.specs.Prelude.{Result, Ok, Err, slice_set}
-use Rattle.std.proofs.lemmas.Bool.{cases_Bool}
-use Rattle.std.proofs.lemmas.List.Elements.{All-get_or}
-use Rattle.std.proofs.Math.Nat.{div-mul-le_self}
-use Rattle.ee_codec.specs.Words.{IsGeneration}
-use Rattle.ee_flash.specs.Device.{Device, IsFormed, IsOn, all_ones, word_at}
-use Rattle.ee_flash.specs.Laws.{IsStep}
-use Rattle.ee_flash.specs.Size.{page_count, slot_count}
-use Rattle.ee_flash.specs.Step.{Program, IsCutIn, IsUntouched, MayFollow, device_after}
-use Rattle.ee_flash.specs.declared.word.Word.TheVariants.{Erased, Held}
-use Rattle.ee_pages.specs.Filling.{IsCommitted, IsFilling}
-use Rattle.ee_pages.specs.Laws.{IsPageOf, KeepsSide}
-use Rattle.ee_core.specs.CallSteps.{IsOlder}
-use Rattle.ee_pages.specs.Meaning.{Change, SpellsChange, map_after, meaning}
-use Rattle.ee_pages.specs.Page.{is_blank, is_marked, is_written, marking, number_of_mark}
-use Rattle.ee_pages.specs.Pushing.{slot_step}
-use Rattle.ee_pages.specs.Sets.{first_page, front, other, page_of_slot, place_of_slot, set_of, slots_of}
-use Rattle.ee_pages.specs.declared.side.Side.{Side}
-use Rattle.ee_pages.specs.declared.side.Side.TheVariants.{First, Second}
-use Rattle.ee_pages.specs.declared.state.Mark.{Mark}
-use Rattle.ee_pages.specs.declared.state.Mark.TheVariants.{Active, Receive}
-use Rattle.ee_pages.proofs.Public.{blank_word, erased_word, fill-front, slots_behind, other_set_keeps_side, keeps_side_same, length-set_of, page_in_range, place_in_range, slot_at, commits_over, whole_commits_over, opens_page, opens_set, stages_change, first_word, word-in_set, first_in_set}
+use Rattle.ee_core.proofs.Base.{rules, ◌≡◌, ◌⊎◌, inl, inr, ℕ, ◌+◌, ◌-◌, ◌<◌, Bool, true, false, None, [], length, refl, sym, subst, ap, ◌∙◌, arith, All, Result, Ok, Err, slice_set, cases_Bool, All-get_or, div-mul-le_self, IsGeneration, Device, IsFormed, IsOn, all_ones, word_at, IsStep, page_count, slot_count, Program, IsCutIn, IsUntouched, MayFollow, device_after, Erased, Held, IsCommitted, IsFilling, IsPageOf, KeepsSide, IsOlder, Change, SpellsChange, map_after, meaning, is_blank, is_marked, is_written, marking, number_of_mark, slot_step, first_page, front, other, page_of_slot, place_of_slot, set_of, slots_of, Side, First, Second, Mark, Active, Receive, blank_word, erased_word, fill-front, slots_behind, other_set_keeps_side, keeps_side_same, length-set_of, page_in_range, place_in_range, slot_at, commits_over, whole_commits_over, opens_page, opens_set, stages_change, first_word, word-in_set, first_in_set}
 use Rattle.ee_core.proofs.Marks.{place_below}
 
 in_device : (side : Side) (device : Device) (page : ℕ) → page < device.size.pages → first_page device.size side + page < page_count device.size

@@ -1,13 +1,8 @@
 -- No slot says anything of a number that is no address.
-use Rattle.std.proofs.Common.{rules, ◌≡◌, ℕ, ◌≤◌, Bool, false, cond, Some, None, List, [], ◌∷◌, refl, ap, arith}
-use Rattle.std.specs.Prelude.{◌&&◌, nat_lt}
-use Rattle.std.proofs.lemmas.Bool.{cases_eq, cases_lt, ne_eqb}
+use Rattle.ee_core.proofs.Base.{rules, ◌≡◌, ℕ, ◌≤◌, Bool, false, cond, Some, None, List, [], ◌∷◌, refl, ap, arith, ◌&&◌, nat_lt, cases_eq, cases_lt, ne_eqb, IsAddress, Word, latest_in, meaning, says, slot_says, value_said}
 use Rattle.std.proofs.lemmas.Bool.Decides.{nat_tests}
-use Rattle.ee_codec.specs.Words.{IsAddress}
 use Rattle.ee_codec.specs.declared.slot.Slot.{Slot}
 use Rattle.ee_codec.specs.declared.slot.Slot.TheVariants.{Element, Forgotten, Foreign}
-use Rattle.ee_flash.specs.declared.word.Word.{Word}
-use Rattle.ee_pages.specs.Meaning.{latest_in, meaning, says, slot_says, value_said}
 
 -- the test of a proper address
 abbrev is_proper : ℕ → Bool

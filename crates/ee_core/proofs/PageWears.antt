@@ -1,27 +1,9 @@
 -- How often a page is erased in a run, by where it stands.
-use Rattle.ee_pages.specs.Legal.{IsLegal}
-use Rattle.std.proofs.Common.{rules, ◌≡◌, ◌≢◌, ◌⊎◌, inl, inr, ℕ, ◌+◌, ◌/◌, ◌<◌, ◌≤◌, Bool, true, false, cond, eqb, Option, Some, None, List, [], ◌∷◌, get_or, refl, sym, subst, ap, ◌∙◌, arith}
-use Rattle.std.specs.List.{All}
-use Rattle.std.proofs.lemmas.Bool.{cases_eq, cases_lt, ne_eqb}
-use Rattle.std.proofs.lemmas.List.Elements.{All-tail}
-use Rattle.std.proofs.lemmas.List.Sums.{sum_by-cons}
-use Rattle.ee_flash.specs.Device.{Device, page_at, wear_at}
-use Rattle.ee_flash.specs.Size.{Size, page_count}
-use Rattle.ee_flash.specs.declared.word.Word.{Word}
-use Rattle.ee_pages.specs.Laws.{IsPageOf}
-use Rattle.ee_pages.specs.Meaning.{Change}
-use Rattle.ee_pages.specs.Page.{is_blank}
-use Rattle.ee_pages.specs.Sets.{live_of, other}
-use Rattle.ee_pages.specs.declared.side.Side.{Side}
-use Rattle.ee_pages.specs.declared.side.Side.TheVariants.{First, Second}
-use Rattle.ee_pages.proofs.Public.{other_twice}
+use Rattle.ee_core.proofs.Base.{IsLegal, rules, ◌≡◌, ◌≢◌, ◌⊎◌, inl, inr, ℕ, ◌+◌, ◌/◌, ◌<◌, ◌≤◌, Bool, true, false, cond, eqb, Option, Some, None, List, [], ◌∷◌, get_or, refl, sym, subst, ap, ◌∙◌, arith, All, cases_eq, cases_lt, ne_eqb, All-tail, sum_by-cons, Device, page_at, wear_at, Size, page_count, Word, IsPageOf, Change, is_blank, live_of, other, Side, First, Second, other_twice, ErasesOne, Appends, Moves, pending_pages, pending_pages_in, state_of, next_live}
 use Rattle.ee_core.proofs.Effects.{by_effect}
 use Rattle.ee_core.proofs.PendingPages.{length-pending_pages, times_in_other, times_in_set, waits}
 use Rattle.ee_core.proofs.Wears.{times, times_few, worn_at_most}
-use Rattle.ee_core.specs.Calls.{ErasesOne}
-use Rattle.ee_core.specs.Changes.{Appends, Moves}
 use Rattle.ee_core.specs.Runs.{Call, Follows, IsRun, IsWholeRun, WearsAtMost, is_cut, is_transfer, transfers}
-use Rattle.ee_core.specs.State.{pending_pages, pending_pages_in, state_of, next_live}
 
 abbrev Live : Device → Side → ℕ → Type 0
 Live device side generation = live_of device ≡ Some (side, generation)

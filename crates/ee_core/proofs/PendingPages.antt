@@ -1,17 +1,5 @@
 -- The pages that wait to be erased: how many they are, and whether a page is one of them.
-use Rattle.std.proofs.Common.{◌≡◌, ℕ, ◌+◌, ◌-◌, ◌<◌, ◌≤◌, true, false, cond, Option, Some, None, List, [], ◌∷◌, get_or, length, set, refl, sym, ap, ◌∙◌, arith}
-use Rattle.std.proofs.lemmas.List.{length-take}
-use Rattle.ee_flash.specs.Device.{Device, IsFormed, page_at}
-use Rattle.ee_flash.specs.Size.{Size}
-use Rattle.ee_flash.specs.declared.word.Word.{Word}
-use Rattle.ee_pages.specs.Laws.{IsPageOf}
-use Rattle.ee_pages.specs.Page.{is_blank}
-use Rattle.ee_pages.specs.Sets.{first_page, live_of, other, pending_of, set_of}
-use Rattle.ee_pages.specs.declared.side.Side.{Side}
-use Rattle.ee_pages.specs.declared.side.Side.TheVariants.{First, Second}
-use Rattle.ee_pages.proofs.Public.{length-set_of}
-use Rattle.ee_core.specs.CallSteps.{IsSameBut}
-use Rattle.ee_core.specs.State.{not_blank_from, not_blank_in, pending_pages, pending_pages_in, state_in, state_of}
+use Rattle.ee_core.proofs.Base.{◌≡◌, ℕ, ◌+◌, ◌-◌, ◌<◌, ◌≤◌, true, false, cond, Option, Some, None, List, [], ◌∷◌, get_or, length, set, refl, sym, ap, ◌∙◌, arith, length-take, Device, IsFormed, page_at, Size, Word, IsPageOf, is_blank, first_page, live_of, other, pending_of, set_of, Side, First, Second, length-set_of, IsSameBut, not_blank_from, not_blank_in, pending_pages, pending_pages_in, state_in, state_of}
 use Rattle.ee_core.proofs.NotBlank.{first_blank, length-not_blank, not_blank_same, times_below, times_here, times_past}
 use Rattle.ee_core.proofs.SetPages.{one_changed, page_of_set}
 use Rattle.ee_core.proofs.Wears.{times}

@@ -1,11 +1,5 @@
 -- A place goes on from slot to slot of a set.
-use Rattle.std.proofs.Common.{rules, ◌≡◌, ◌≢◌, ℕ, ◌+◌, ◌-◌, ◌*◌, ◌<◌, ◌≤◌, ◌/◌, ◌%◌, ap, ◌∙◌, arith}
-use Rattle.std.proofs.lemmas.Nat.{div-mul-add, mod-mul-add}
-use Rattle.ee_flash.specs.Size.{Size}
-use Rattle.ee_pages.specs.declared.side.Side.{Side}
-use Rattle.ee_pages.proofs.Public.{split_by}
-use Rattle.ee_core.specs.CallSteps.{Stands}
-use Rattle.ee_core.specs.declared.copying.Place.{Place}
+use Rattle.ee_core.proofs.Base.{rules, ◌≡◌, ◌≢◌, ℕ, ◌+◌, ◌-◌, ◌*◌, ◌<◌, ◌≤◌, ◌/◌, ◌%◌, ap, ◌∙◌, arith, div-mul-add, mod-mul-add, Size, Side, split_by, Stands, Place}
 
 -- one further within a row
 within_row : (n m : ℕ) → n % m + 1 < m → ((n + 1) / m ≡ n / m) × ((n + 1) % m ≡ n % m + 1)

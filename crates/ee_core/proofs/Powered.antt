@@ -1,11 +1,5 @@
 -- What an image says, it says with any power.
-use Rattle.std.proofs.Common.{rules, ◌≡◌, ◌≤◌, ℕ, Bool, true, Option, Some, None, refl}
-use Rattle.ee_flash.specs.Device.{Device, IsFormed, all_ones}
-use Rattle.ee_pages.specs.Legal.{IsLegal, IsLive}
-use Rattle.ee_pages.specs.declared.side.Side.{Side}
-use Rattle.ee_pages.specs.declared.side.Side.TheVariants.{First, Second}
-use Rattle.ee_core.specs.Points.{with_power_on}
-use Rattle.ee_core.specs.State.{state_in}
+use Rattle.ee_core.proofs.Base.{rules, ◌≡◌, ◌≤◌, ℕ, Bool, true, Option, Some, None, refl, Device, IsFormed, all_ones, IsLegal, IsLive, Side, First, Second, with_power_on, state_in}
 
 -- the device on or off, with so many cuts behind it and so many to come
 abbrev pub with_power : ℕ → Option ℕ → Bool → Device → Device

@@ -1,16 +1,6 @@
 -- What laws of this crate need: without the named premise they would be false, and here is where.
-use Rattle.std.proofs.Common.{◌≡◌, ◌+◌, ◌/◌, ◌<◌, ◌≤◌, ℕ, true, false, Ok, Err, List, [], ◌∷◌, get_or, refl, ap, sym, ◌∙◌, arith}
-use Rattle.std.proofs.lemmas.Bool.{true≢false}
-use Rattle.std.proofs.lemmas.List.{get_or-set_same}
-use Rattle.std.proofs.lemmas.List.Elements.{All-cons, All-nil}
-use Rattle.ee_flash.specs.Device.{Device, wear_at}
-use Rattle.ee_flash.specs.Power.{GoesOn}
-use Rattle.ee_flash.specs.Size.{page_count}
-use Rattle.ee_flash.specs.Step.{one_more}
-use Rattle.ee_pages.specs.Legal.{IsLegal}
-use Rattle.ee_core.specs.Calls.{Cleans, Writes}
+use Rattle.ee_core.proofs.Base.{◌≡◌, ◌+◌, ◌/◌, ◌<◌, ◌≤◌, ℕ, true, false, Ok, Err, List, [], ◌∷◌, get_or, refl, ap, sym, ◌∙◌, arith, true≢false, get_or-set_same, All-cons, All-nil, Device, wear_at, GoesOn, page_count, one_more, IsLegal, Cleans, Writes, CountsWear}
 use Rattle.ee_core.specs.Runs.{Call, Cleaned, IsRun, IsWholeRun, Wrote, is_cut, transfers}
-use Rattle.ee_core.specs.State.{CountsWear}
 use Rattle.ee_core.specs.declared.variables.WriteFault.TheVariants as write
 
 -- `runs_go_on` needs that power is not cut in the run: each write in which it is cut is a run

@@ -1,22 +1,8 @@
 -- Openings and rescues that are cut, one after another.
-use Rattle.std.proofs.Common.{◌≡◌, ◌⊎◌, inl, inr, ℕ, ◌<◌, true, Option, None, Some, List, [], ◌∷◌, refl, sym, subst, ap, ◌∙◌, arith}
-use Rattle.std.proofs.lemmas.Bool.{cases_eq, cases_lt}
-use Rattle.ee_flash.specs.Device.{Device}
-use Rattle.ee_flash.specs.declared.word.Word.{Word}
-use Rattle.ee_pages.specs.Laws.{KeepsSide}
-use Rattle.ee_pages.specs.Legal.{IsLegal, IsLive}
-use Rattle.ee_pages.specs.Meaning.{meaning}
-use Rattle.ee_pages.specs.Page.{is_written}
+use Rattle.ee_core.proofs.Base.{◌≡◌, ◌⊎◌, inl, inr, ℕ, ◌<◌, true, Option, None, Some, List, [], ◌∷◌, refl, sym, subst, ap, ◌∙◌, arith, cases_eq, cases_lt, Device, Word, KeepsSide, IsLegal, IsLive, meaning, is_written, other, set_of, slots_of, Side, First, Second, held_is_rescued, held_is_rescued_side, live_is_held, live_is_rescued, one_word_costs_its_value, bad_word_leaves_held, bad_waiting_word_leaves_held, waiting_word_costs_nothing, IsCutOpening, with_power_on, State, state_of}
 use Rattle.ee_pages.specs.Rescue.{map_of_side, rescued_map, rescued_side}
 use Rattle.ee_pages.specs.RescueLaws.{IsHeld, WentBad, IsToldApart, PutsInSet}
-use Rattle.ee_pages.specs.Sets.{other, set_of, slots_of}
-use Rattle.ee_pages.specs.declared.side.Side.{Side}
-use Rattle.ee_pages.specs.declared.side.Side.TheVariants.{First, Second}
-use Rattle.ee_pages.proofs.Public.{held_is_rescued, held_is_rescued_side, live_is_held, live_is_rescued, one_word_costs_its_value, bad_word_leaves_held, bad_waiting_word_leaves_held, waiting_word_costs_nothing}
-use Rattle.ee_core.specs.Openings.{IsCutOpening}
-use Rattle.ee_core.specs.Points.{with_power_on}
 use Rattle.ee_core.specs.Rescues.{AreCutTries, CostsNewest, IsCutRescue, IsCutTry, IsMadeStore, last_on}
-use Rattle.ee_core.specs.State.{State, state_of}
 use Rattle.ee_core.proofs.States.{state_is}
 
 -- the map of a legal image is the one that is rescued

@@ -1,18 +1,8 @@
 -- What a rescue leaves, from what its transfer leaves.
-use Rattle.std.proofs.Common.{rules, ◌≡◌, ℕ, ◌+◌, Some, [], sym, ap, ◌∙◌, arith}
-use Rattle.std.proofs.Math.Path.{fun_ext}
-use Rattle.ee_codec.specs.Words.{IsGeneration}
-use Rattle.ee_flash.specs.Device.{Device}
-use Rattle.ee_pages.specs.Layout.{IsLayout}
-use Rattle.ee_pages.specs.Meaning.{live_in}
+use Rattle.ee_core.proofs.Base.{rules, ◌≡◌, ℕ, ◌+◌, Some, [], sym, ap, ◌∙◌, arith, fun_ext, IsGeneration, Device, IsLayout, live_in, fill_of, other, pending_of, set_of, slots_of, Layout, Side, map_rescued, other_twice, HasMoved, IsOlder, State, moved_state, state_of, state_with}
 use Rattle.ee_pages.specs.Rescue.{named_generation, rescued_map, rescued_side}
-use Rattle.ee_pages.specs.Sets.{fill_of, other, pending_of, set_of, slots_of}
-use Rattle.ee_pages.specs.declared.find.Layout.{Layout}
-use Rattle.ee_pages.specs.declared.side.Side.{Side}
-use Rattle.ee_pages.proofs.Public.{map_rescued, names, other_twice}
-use Rattle.ee_core.specs.CallSteps.{HasMoved, IsOlder}
+use Rattle.ee_pages.proofs.Public.{names}
 use Rattle.ee_core.specs.Rescues.{HasRescued, Rescues}
-use Rattle.ee_core.specs.State.{State, moved_state, state_of, state_with}
 use Rattle.ee_core.proofs.States.{same_states, state_is}
 
 -- a set is committed with the generation that it names, if at all

@@ -1,22 +1,10 @@
 -- What each call of a run does to power, wear, pending pages and the map, and so what a run does.
-use Rattle.std.proofs.Common.{rules, length, ◌≤◌, ◌≡◌, ℕ, ◌+◌, ◌-◌, ◌*◌, Bool, true, false, cond, Ok, Err, List, [], ◌∷◌, refl, sym, ◌∙◌, ap, subst, arith}
-use Rattle.std.specs.List.{All, flat_map}
-use Rattle.std.proofs.lemmas.List.Elements.{All-head, All-tail}
-use Rattle.std.proofs.lemmas.List.Sums.{sum_by-cons}
-use Rattle.ee_flash.proofs.Public.{calls_compose}
-use Rattle.ee_flash.specs.Device.{Device}
-use Rattle.ee_flash.specs.Power.{GoesOn}
-use Rattle.ee_flash.specs.Size.{Size}
-use Rattle.ee_flash.specs.Wear.{total_wear_of}
-use Rattle.ee_pages.specs.Meaning.{Change, Map, changed_by}
+use Rattle.ee_core.proofs.Base.{rules, length, ◌≤◌, ◌≡◌, ℕ, ◌+◌, ◌-◌, ◌*◌, Bool, true, false, cond, Ok, Err, List, [], ◌∷◌, refl, sym, ◌∙◌, ap, subst, arith, All, flat_map, All-head, All-tail, sum_by-cons, calls_compose, Device, GoesOn, Size, total_wear_of, Change, Map, changed_by, ErasesOne, Appends, Moves, NeedsTransfer, pages_left, CountsWear, State, capacity, pending_pages, state_of}
 use Rattle.ee_core.proofs.CopiedMaps.{changed_by-append}
 use Rattle.ee_core.proofs.Effects.{by_effect}
 use Rattle.ee_core.proofs.PendingPages.{length-pending_pages}
 use Rattle.ee_core.proofs.Wears.{no_wear, total_rises, wears_rise}
-use Rattle.ee_core.specs.Calls.{ErasesOne}
-use Rattle.ee_core.specs.Changes.{Appends, Moves, NeedsTransfer, pages_left}
 use Rattle.ee_core.specs.Runs.{Call, Wrote, WroteAll, Forgot, Cleared, Cleaned, DidRead, AreAnsweredFrom, Follows, IsAnsweredBy, IsRun, changes_of_call, is_cut, is_single, is_transfer, transfers, IsWholeRun}
-use Rattle.ee_core.specs.State.{CountsWear, State, capacity, pending_pages, state_of}
 
 -- ---- one call
 

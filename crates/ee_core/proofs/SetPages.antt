@@ -1,15 +1,5 @@
 -- The pages of a set by their numbers in the device.
-use Rattle.std.proofs.Common.{rules, ◌≡◌, ◌≢◌, ℕ, ◌+◌, ◌<◌, ◌≤◌, inl, inr, [], length, get_or, set, sym, ap, ◌∙◌, arith}
-use Rattle.std.proofs.lemmas.Bool.{cases_eq}
-use Rattle.std.proofs.lemmas.List.{ext_get_or, get_or-drop, get_or-set_other, get_or-set_same, get_or-take, length-set}
-use Rattle.ee_flash.specs.Device.{Device, IsFormed, page_at}
-use Rattle.ee_flash.specs.Size.{Size, page_count}
-use Rattle.ee_pages.specs.Laws.{IsPageOf}
-use Rattle.ee_pages.specs.Sets.{first_page, other, set_of}
-use Rattle.ee_pages.specs.declared.side.Side.{Side}
-use Rattle.ee_pages.specs.declared.side.Side.TheVariants.{First, Second}
-use Rattle.ee_pages.proofs.Public.{length-set_of}
-use Rattle.ee_core.specs.CallSteps.{IsSameBut, IsSameSet}
+use Rattle.ee_core.proofs.Base.{rules, ◌≡◌, ◌≢◌, ℕ, ◌+◌, ◌<◌, ◌≤◌, inl, inr, [], length, get_or, set, sym, ap, ◌∙◌, arith, cases_eq, ext_get_or, get_or-drop, get_or-set_other, get_or-set_same, get_or-take, length-set, Device, IsFormed, page_at, Size, page_count, IsPageOf, first_page, other, set_of, Side, First, Second, length-set_of, IsSameBut, IsSameSet}
 
 pub page_of_set : (side : Side) (device : Device) (k : ℕ) → k < device.size.pages → get_or (set_of side device) k [] ≡ page_at device (first_page device.size side + k)
 page_of_set First device k h =

@@ -1,16 +1,5 @@
 -- Lists of two values or more: when one is refused, and how many addresses have a value with it.
-use Rattle.std.proofs.Common.{rules, ◌≡◌, ℕ, ◌+◌, ◌<◌, ◌≤◌, true, false, Bool, cond, Option, Some, is_some, List, [], ◌∷◌, length, get_or, take, refl, sym, subst, ap, ◌∙◌, arith, suc, zero, length-append}
-use Rattle.std.specs.Prelude.{◌==◌, slice_get}
-use Rattle.std.proofs.lemmas.Bool.{ne_eqb}
-use Rattle.std.proofs.lemmas.Option.{slice_get_read}
-use Rattle.ee_codec.specs.Words.{IsAddress}
-use Rattle.ee_flash.specs.Device.{Device, IsOn}
-use Rattle.ee_pages.specs.Meaning.{Map, Put, changed_by, live_in, live_to}
-use Rattle.ee_pages.proofs.Public.{change_counts, live_to-zero, live_to-suc}
-use Rattle.ee_core.specs.Changes.{HaveNoGeneration, HaveNoPlace, NeedsTransfer, Proceeds, greatest_generation}
-use Rattle.ee_core.specs.Picture.{elements_of, map_without, put_words}
-use Rattle.ee_core.specs.Puts.{AreApart, names, puts_of}
-use Rattle.ee_core.specs.State.{State, capacity, state_of}
+use Rattle.ee_core.proofs.Base.{rules, ◌≡◌, ℕ, ◌+◌, ◌<◌, ◌≤◌, true, false, Bool, cond, Option, Some, is_some, List, [], ◌∷◌, length, get_or, take, refl, sym, subst, ap, ◌∙◌, arith, suc, zero, length-append, ◌==◌, slice_get, ne_eqb, slice_get_read, IsAddress, Device, IsOn, Map, Put, changed_by, live_in, live_to, change_counts, live_to-zero, live_to-suc, HaveNoGeneration, HaveNoPlace, NeedsTransfer, Proceeds, greatest_generation, elements_of, map_without, put_words, AreApart, names, puts_of, State, capacity, state_of}
 use Rattle.ee_core.specs.declared.change.Put as listed
 use Rattle.ee_core.proofs.CopiedMaps.{apart, changed_by-other, neither}
 use Rattle.ee_core.proofs.Fillings.{length-put_words, map_with_more}

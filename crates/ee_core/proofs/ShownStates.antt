@@ -1,31 +1,9 @@
 -- What the pictures say of the states of the pages.
-use Rattle.std.proofs.Common.{rules, ◌≡◌, inl, inr, ℕ, ◌+◌, ◌-◌, ◌<◌, Bool, true, false, cond, not, Option, Some, None, is_some, List, [], ◌∷◌, length, get_or, refl, sym, subst, ap, ◌∙◌, arith, suc, zero, length-append}
-use Rattle.std.specs.Prelude.{◌==◌, ◌&&◌}
-use Rattle.std.proofs.Math.Nat.{zero-div}
-use Rattle.std.proofs.lemmas.Bool.{cases_Bool, cases_eq, cases_lt, eq-eqb, le-ltb, lt-leb, lt-ltb, ne_eqb}
-use Rattle.std.proofs.lemmas.List.{ext_get_or}
-use Rattle.ee_flash.specs.Device.{Device, page_at, word_at}
-use Rattle.ee_flash.specs.Size.{Size, page_count}
-use Rattle.ee_flash.specs.declared.word.Word.{Word}
-use Rattle.ee_flash.specs.declared.word.Word.TheVariants.{Erased, Held, Torn}
-use Rattle.ee_flash.proofs.Public.{length-page_at}
-use Rattle.ee_pages.specs.Legal.{IsLegal, IsLive}
-use Rattle.ee_pages.specs.Meaning.{Change, Forget, Map, Put, changed_by, map_after, live_in, live_to}
-use Rattle.ee_pages.specs.Page.{is_blank, is_written, state_of_words}
-use Rattle.ee_pages.specs.Sets.{first_page, live_of, other, page_of_slot, place_of_slot}
-use Rattle.ee_pages.specs.declared.side.Side.{Side}
-use Rattle.ee_pages.specs.declared.side.Side.TheVariants.{First, Second}
-use Rattle.ee_pages.specs.declared.state.Mark.{Mark}
+use Rattle.ee_core.proofs.Base.{rules, ◌≡◌, inl, inr, ℕ, ◌+◌, ◌-◌, ◌<◌, Bool, true, false, cond, not, Option, Some, None, is_some, List, [], ◌∷◌, length, get_or, refl, sym, subst, ap, ◌∙◌, arith, suc, zero, length-append, ◌==◌, ◌&&◌, zero-div, cases_Bool, cases_eq, cases_lt, eq-eqb, le-ltb, lt-leb, lt-ltb, ne_eqb, ext_get_or, Device, page_at, word_at, Size, page_count, Word, Erased, Held, Torn, length-page_at, IsLegal, IsLive, Change, Forget, Map, Put, changed_by, map_after, live_in, live_to, is_blank, is_written, state_of_words, first_page, live_of, other, page_of_slot, place_of_slot, Side, First, Second, Mark, live_to-zero, change_counts, blank_word, live_to-suc, IsLowestPending, last_used, ShowsMarks, IsDrawn, OfLive, Picture, element_at, elements_to, filled_set, is_used, marked_word, marked_to, moved_words, picture_of, retired_pages, State, state_of}
 use Rattle.ee_pages.specs.declared.state.Mark.TheVariants as marks
 use Rattle.ee_pages.specs.declared.state.State.TheVariants.{Erased as Unused, Erasing}
-use Rattle.ee_pages.proofs.Public.{live_to-zero, change_counts, blank_word, live_to-suc}
-use Rattle.ee_core.specs.Calls.{IsLowestPending}
 use Rattle.ee_core.specs.Shown.{ShowsAppended, ShowsMoved, is_left}
-use Rattle.ee_core.specs.Finished.{last_used}
-use Rattle.ee_core.specs.Openings.{ShowsMarks}
 use Rattle.ee_core.specs.PageStates.{MovedWordsAreLive, PicturesTellImages, StatesAfterAppend, StatesAfterClean, StatesAfterFormat, StatesAfterOpening, StatesAfterTransfer, filled_state, marked_state, state_at}
-use Rattle.ee_core.specs.Picture.{IsDrawn, OfLive, Picture, element_at, elements_to, filled_set, is_used, marked_word, marked_to, moved_words, picture_of, retired_pages}
-use Rattle.ee_core.specs.State.{State, state_of}
 use Rattle.ee_core.proofs.CopiedMaps.{changed_by-other, forget-at, put_last, same_counts}
 use Rattle.ee_core.proofs.CopiedWords.{no_elements, one_further}
 use Rattle.ee_core.proofs.Drawings.{with_word-elsewhere}

@@ -1,41 +1,12 @@
 -- What steps leave of a device that can be started: from a first start on, until its set is
 -- committed.
-use Rattle.std.proofs.Common.{rules, ◌≡◌, ◌≢◌, ◌⊎◌, inl, inr, ℕ, ◌+◌, ◌<◌, ◌≤◌, true, Some, None, Option, List, [], length, get_or, set, refl, sym, subst, ap, ◌∙◌, arith, suc, zero}
-use Rattle.std.specs.List.{All}
-use Rattle.std.proofs.lemmas.Bool.{cases_eq}
-use Rattle.std.proofs.lemmas.Option.{same_Some}
-use Rattle.std.specs.Prelude.{option_map}
-use Rattle.std.proofs.lemmas.List.Elements.{All-drop, All-take}
-use Rattle.std.proofs.lemmas.List.{get_or-set_same, get_or_past}
-use Rattle.ee_flash.specs.Device.{Device, IsFormed, IsOn, page_at, word_at}
-use Rattle.ee_flash.specs.Laws.{DiffersInPage, IsStep}
-use Rattle.ee_flash.specs.Power.{IsCut}
-use Rattle.ee_flash.specs.Size.{page_count}
-use Rattle.ee_flash.specs.Step.{Step, Program, Erase, MayFollow, device_after, with_word}
-use Rattle.ee_flash.specs.declared.word.Word.{Word}
-use Rattle.ee_flash.specs.declared.word.Word.TheVariants.{Erased, Held, Torn}
-use Rattle.ee_flash.proofs.Public.{length-page_at, step_changes_one_page, step_keeps_formed, step_leaves_pages}
-use Rattle.ee_pages.specs.Filling.{IsCommitted}
-use Rattle.ee_pages.specs.Layout.{IsScanFault, IsUnformatted}
-use Rattle.ee_pages.specs.Legal.{IsLegal}
-use Rattle.ee_pages.specs.Laws.{CannotCommit, IsPageOf}
-use Rattle.ee_pages.specs.Meaning.{meaning}
-use Rattle.ee_pages.specs.Page.{is_blank, marking, word_in}
-use Rattle.ee_pages.specs.Sets.{committed_generation, fill_of, first_page, live_of, other, set_of}
+use Rattle.ee_core.proofs.Base.{rules, ◌≡◌, ◌≢◌, ◌⊎◌, inl, inr, ℕ, ◌+◌, ◌<◌, ◌≤◌, true, Some, None, Option, List, [], length, get_or, set, refl, sym, subst, ap, ◌∙◌, arith, suc, zero, All, cases_eq, same_Some, option_map, All-drop, All-take, get_or-set_same, get_or_past, Device, IsFormed, IsOn, page_at, word_at, DiffersInPage, IsStep, IsCut, page_count, Step, Program, Erase, MayFollow, device_after, with_word, Word, Erased, Held, Torn, length-page_at, step_changes_one_page, step_keeps_formed, step_leaves_pages, IsCommitted, IsScanFault, IsUnformatted, IsLegal, CannotCommit, IsPageOf, meaning, is_blank, marking, word_in, committed_generation, fill_of, first_page, live_of, other, set_of, Side, First, Second, Active, Receive, blank_set, commit_after, commits, commits_by, elsewhere, programmed_word, same_set, first_commits, other_set_stays, legal_is_good, as_it_was, none_live, with_power_on, IfOk, Result, Ok, Err, IsFormatted, OpenFails, formatted_state, state_of}
 use Rattle.ee_pages.specs.declared.find.ScanFault.TheVariants.{NoLiveSet, TwoLive, Foreign}
-use Rattle.ee_pages.specs.declared.side.Side.{Side}
-use Rattle.ee_pages.specs.declared.side.Side.TheVariants.{First, Second}
-use Rattle.ee_pages.specs.declared.state.Mark.TheVariants.{Active, Receive}
-use Rattle.ee_pages.proofs.Public.{blank_set, commit_after, commits, commits_by, elsewhere, programmed_word, same_set, first_commits, other_set_stays, legal_is_good, as_it_was, none_live}
 use Rattle.ee_core.proofs.FirstSet.{alone, erased_commits, no_pending, opened, same_second}
 use Rattle.ee_core.proofs.Powered.{legal_on, state_in_on}
 use Rattle.ee_core.proofs.States.{same_states, state_is}
-use Rattle.ee_core.specs.Points.{with_power_on}
-use Rattle.std.specs.Prelude.{IfOk, Result, Ok, Err}
 use Rattle.ee_pages.specs.declared.find.ScanFault.{ScanFault}
-use Rattle.ee_core.specs.Openings.{IsFormatted, OpenFails}
 use Rattle.ee_core.specs.Starts.{AreCutStarts, IsNew, IsStartable, IsStarting, StartFails, Starts, StartsEmpty}
-use Rattle.ee_core.specs.State.{formatted_state, state_of}
 use Rattle.ee_core.specs.declared.opening.OpenFault.{OpenFault}
 use Rattle.ee_core.specs.declared.opening.OpenFault.TheVariants.{Scan, Cut}
 

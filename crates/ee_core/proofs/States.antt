@@ -1,16 +1,6 @@
 -- What a live set says is the state of its device.
-use Rattle.std.proofs.Common.{rules, ◌≡◌, ℕ, List, refl, ap}
-use Rattle.std.proofs.Math.Path.{fun_ext}
-use Rattle.ee_flash.specs.Device.{Device}
-use Rattle.ee_pages.specs.Laws.{KeepsLiveSet}
-use Rattle.ee_pages.specs.Legal.{IsLive}
-use Rattle.ee_pages.specs.Meaning.{Change, Map}
-use Rattle.ee_pages.specs.Sets.{other, pending_of, set_of}
-use Rattle.ee_pages.specs.declared.side.Side.{Side}
-use Rattle.ee_pages.proofs.Public.{other_twice}
+use Rattle.ee_core.proofs.Base.{rules, ◌≡◌, ℕ, List, refl, ap, fun_ext, Device, KeepsLiveSet, IsLive, Change, Map, other, pending_of, set_of, Side, other_twice, HasMoved, Stays, State, moved_state, state_in, state_of, state_with, with_pending}
 use Rattle.ee_core.proofs.PendingPages.{as_many_not_blank}
-use Rattle.ee_core.specs.CallSteps.{HasMoved, Stays}
-use Rattle.ee_core.specs.State.{State, moved_state, state_in, state_of, state_with, with_pending}
 
 pub state_is : (device : Device) (side : Side) (generation : ℕ) → IsLive device side generation → state_of device ≡ state_with device side generation
 state_is device side generation live = ap (state_in device) live.live

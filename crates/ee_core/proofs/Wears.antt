@@ -1,14 +1,5 @@
 -- How wear rises over several steps, page by page and in all.
-use Rattle.std.proofs.Common.{rules, ◌≡◌, ◌⊎◌, inl, inr, ℕ, ◌+◌, ◌<◌, ◌++◌, List, [], ◌∷◌, ◌≤◌, Bool, true, false, cond, eqb, length, get_or, set, min, refl, sym, subst, ap, ◌∙◌, arith}
-use Rattle.std.specs.List.{All, sum}
-use Rattle.std.proofs.lemmas.Bool.{cases_eq, cases_lt, eq-eqb, ne_eqb, true≢false}
-use Rattle.std.proofs.lemmas.List.{get_or-set_other, get_or-set_same, get_or_past, length-append, length-set}
-use Rattle.std.proofs.lemmas.List.Elements.{All-append, All-cons, All-from_get_or, All-get_or, All-head, All-nil, All-tail}
-use Rattle.std.proofs.lemmas.List.Sums.{sum_by-set}
-use Rattle.ee_flash.specs.Device.{Device, IsOn, all_ones}
-use Rattle.ee_flash.specs.Step.{Erase, IsCutIn, IsUntouched, with_page_erased, one_more}
-use Rattle.ee_flash.specs.Wear.{total_wear_of}
-use Rattle.ee_core.specs.State.{CountsWear, WearRises, Wears, worn_by}
+use Rattle.ee_core.proofs.Base.{rules, ◌≡◌, ◌⊎◌, inl, inr, ℕ, ◌+◌, ◌<◌, ◌++◌, List, [], ◌∷◌, ◌≤◌, Bool, true, false, cond, eqb, length, get_or, set, min, refl, sym, subst, ap, ◌∙◌, arith, All, sum, cases_eq, cases_lt, eq-eqb, ne_eqb, true≢false, get_or-set_other, get_or-set_same, get_or_past, length-append, length-set, All-append, All-cons, All-from_get_or, All-get_or, All-head, All-nil, All-tail, sum_by-set, Device, IsOn, all_ones, Erase, IsCutIn, IsUntouched, with_page_erased, one_more, total_wear_of, CountsWear, WearRises, Wears, worn_by}
 
 -- ---- wears as lists
 

@@ -1,9 +1,4 @@
-use Rattle.std.proofs.Common.{◌≡◌, ◌<◌, refl, subst}
-use Rattle.std.proofs.lemmas.Result.{err_from_is_err_and}
-use Rattle.ee_pages.proofs.Public.{kept_side_is_live}
-use Rattle.ee_pages.specs.Laws.{IsPageOf}
-use Rattle.ee_pages.specs.Sets.{pending_of, set_of}
-use Rattle.ee_pages.specs.declared.side.Side.{Side}
+use Rattle.ee_core.proofs.Base.{◌≡◌, ◌<◌, refl, subst, err_from_is_err_and, kept_side_is_live, IsPageOf, pending_of, set_of, Side}
 use Rattle.ee_core.proofs.AfterCalls.{ends_later, goes_on_same, never_on_ok, not_both_ok, not_ok}
 use Rattle.ee_core.proofs.LowestPending.{erases_lowest, keeps_all_but_lowest}
 use Rattle.ee_core.proofs.KeptMarks.{cleaned_marked}

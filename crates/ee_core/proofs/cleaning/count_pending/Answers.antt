@@ -1,5 +1,4 @@
-use Rattle.std.proofs.Common.{sym, ◌∙◌, ap, arith, ◌<◌, ◌≤◌, ◌+◌, ◌≡◌}
-use Rattle.ee_flash.specs.Size.{Size}
+use Rattle.ee_core.proofs.Base.{sym, ◌∙◌, ap, arith, ◌<◌, ◌≤◌, ◌+◌, ◌≡◌, Size}
 use Rattle.ee_core.proofs.PendingCounts.{as_many, at_end, none_yet, one_more}
 use Rattle.ee_core.proofs.SetPages.{first_below}
 use Rattle.ee_core.proofs.cleaning.count_pending.Goals.{then-not-is_blank, else-not-is_blank}

@@ -1,5 +1,4 @@
-use Rattle.std.proofs.Common.{sym, ◌∙◌, ap, arith, ◌≡◌}
-use Rattle.ee_flash.specs.Size.{Size}
+use Rattle.ee_core.proofs.Base.{sym, ◌∙◌, ap, arith, ◌≡◌, Size}
 use Rattle.ee_core.proofs.PendingCounts.{none_pending, some_pending}
 use Rattle.ee_core.proofs.cleaning.first_pending.Goals as goal
 

@@ -1,9 +1,7 @@
-use Rattle.std.proofs.Common.{refl, ◌∙◌}
-use Rattle.ee_pages.specs.Sets.{other}
+use Rattle.ee_core.proofs.Base.{refl, ◌∙◌, other, last_used}
 use Rattle.ee_core.proofs.AfterCalls.{ends_later, goes_on_both, goes_on_same, never_on_ok, not_ok}
 use Rattle.ee_core.proofs.LiveMarks.{layout_stays, live_marks_kept, old_marks_kept, stays_both}
 use Rattle.ee_core.proofs.MarkedSets.{shows}
-use Rattle.ee_core.specs.Finished.{last_used}
 use Rattle.ee_core.proofs.CutMarks.{cut_live, cut_old}
 use Rattle.ee_core.proofs.Making.{always_on_err}
 use Rattle.ee_core.proofs.marking.finish.Goals as goal

@@ -1,18 +1,11 @@
-use Rattle.std.proofs.Common.{◌≡◌, ◌≤◌, ◌<◌, ◌+◌, ◌-◌, true, ap, arith, inl, ◌∙◌, refl, subst}
-use Rattle.ee_flash.specs.Size.{Size}
-use Rattle.ee_pages.specs.Page.{is_marked}
-use Rattle.ee_pages.specs.Sets.{first_page}
-use Rattle.ee_pages.specs.declared.state.Mark.TheVariants.{Active, Valid}
+use Rattle.ee_core.proofs.Base.{◌≡◌, ◌≤◌, ◌<◌, ◌+◌, ◌-◌, true, ap, arith, inl, ◌∙◌, refl, subst, Size, is_marked, first_page, Active, Valid, last_used, IsDrawn, picture_of, SetsPartly}
 use Rattle.ee_core.proofs.AfterCalls.{ends_later, goes_on_both, goes_on_same, never_on_ok, not_ok}
 use Rattle.ee_core.proofs.Drawings.{valid_to}
 use Rattle.ee_core.proofs.MarkedSets.{active_then, other_stays, valid_next, valid_start}
 use Rattle.ee_core.proofs.Marks.{same_stays}
-use Rattle.ee_core.specs.Finished.{last_used}
-use Rattle.ee_core.specs.Picture.{IsDrawn, picture_of}
 use Rattle.ee_core.proofs.LiveMarks.{last_behind, last_in_range, last_is, layout_stays, live_marked, stays_both, valid_already, valid_behind, valid_more}
 use Rattle.ee_core.proofs.CutMarks.{active_partly, valid_partly}
 use Rattle.ee_core.proofs.Making.{always_on_err}
-use Rattle.ee_core.specs.Cuts.{SetsPartly}
 use Rattle.ee_core.proofs.marking.mark_live_set.Goals as goal
 
 pub mark_live-requires-clause-behind : goal.mark_live-requires-clause-behind

@@ -1,8 +1,4 @@
-use Rattle.std.proofs.Common.{◌≡◌, false, ap, arith, ◌∙◌, refl, sym}
-use Rattle.ee_flash.specs.Device.{page_at}
-use Rattle.ee_flash.specs.Size.{Size}
-use Rattle.ee_pages.specs.Page.{is_blank}
-use Rattle.ee_pages.specs.Sets.{first_page, other}
+use Rattle.ee_core.proofs.Base.{◌≡◌, false, ap, arith, ◌∙◌, refl, sym, page_at, Size, is_blank, first_page, other}
 use Rattle.ee_core.proofs.AfterCalls.{ends_later, never_on_ok, not_ok}
 use Rattle.ee_core.proofs.CutMarks.{marked_all, marked_cut, marked_next, marked_start, was_done}
 use Rattle.ee_core.proofs.LiveMarks.{MarksPage, layout_stays, marked_from, marks_none, marks_one, stays_both}

@@ -1,8 +1,4 @@
-use Rattle.std.proofs.Common.{◌≡◌, false, true, is_some, length, take, not, ap, sym, ◌∙◌, arith}
-use Rattle.std.proofs.Math.Seq.{take-length}
-use Rattle.ee_pages.specs.Meaning.{changed_by, live_in}
-use Rattle.ee_core.specs.CallSteps.{map_in}
-use Rattle.ee_core.specs.Puts.{puts_of}
+use Rattle.ee_core.proofs.Base.{◌≡◌, false, true, is_some, length, take, not, ap, sym, ◌∙◌, arith, take-length, changed_by, live_in, map_in, puts_of}
 use Rattle.ee_core.proofs.Several.{live_few, one_counted}
 use Rattle.ee_core.proofs.puts.live_with.Goals.{then-is_none, else-is_none}
 use Rattle.ee_core.proofs.puts.live_with.Goals as goal

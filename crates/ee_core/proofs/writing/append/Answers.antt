@@ -1,18 +1,11 @@
-use Rattle.std.proofs.Common.{arith, ◌≡◌, ◌<◌, ◌+◌, inl, refl, sym, subst, ap, ◌∙◌}
-use Rattle.std.proofs.Math.Path.{fun_ext}
-use Rattle.std.proofs.lemmas.Result.{err_from_is_err_and}
-use Rattle.ee_flash.specs.Size.{Size, slot_count}
-use Rattle.ee_pages.specs.Meaning.{map_after}
-use Rattle.ee_pages.specs.Sets.{first_page, page_of_slot, place_of_slot}
+use Rattle.ee_core.proofs.Base.{arith, ◌≡◌, ◌<◌, ◌+◌, inl, refl, sym, subst, ap, ◌∙◌, fun_ext, err_from_is_err_and, Size, slot_count, map_after, first_page, page_of_slot, place_of_slot, map_change, number_written, page_in_range, place_in_range}
 use Rattle.ee_core.proofs.AfterCalls.{ends_later, goes_on_both, goes_on_same}
 use Rattle.ee_core.proofs.Appending.{cut_after, cut_size, taken_after}
 use Rattle.ee_core.proofs.MarkedSets.{appends_word}
 use Rattle.ee_core.proofs.LiveMarks.{layout_stays}
 use Rattle.ee_core.proofs.MovingFacts.{few_slots}
-use Rattle.ee_core.specs.CallSteps.{map_change, number_written}
 use Rattle.ee_core.proofs.KeptMarks.{appended_marked}
 use Rattle.ee_core.proofs.CutMarks.{cut_marks, cut_word}
-use Rattle.ee_pages.proofs.Public.{page_in_range, place_in_range}
 use native.Mathlib.Numerals.{unary_clauses}
 use Rattle.ee_core.proofs.writing.append.Goals as goal
 

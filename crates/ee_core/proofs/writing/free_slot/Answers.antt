@@ -1,5 +1,4 @@
-use Rattle.std.proofs.Common.{◌-◌, ◌*◌, ap, ◌∙◌}
-use Rattle.ee_flash.specs.Size.{Size}
+use Rattle.ee_core.proofs.Base.{◌-◌, ◌*◌, ap, ◌∙◌, Size}
 use Rattle.ee_core.proofs.OpenedPages.{free_behind, free_within}
 use Rattle.ee_core.proofs.writing.free_slot.Goals as goal
 

@@ -1,19 +1,12 @@
-use Rattle.std.proofs.Common.{◌≡◌, ◌+◌, ◌-◌, inr, ap, ◌∙◌, ◌<◌, arith, refl, sym, subst}
-use Rattle.ee_flash.specs.Size.{Size}
-use Rattle.ee_pages.proofs.Public.{page_in_range}
-use Rattle.ee_pages.specs.Sets.{first_page, page_of_slot}
-use Rattle.ee_pages.specs.declared.state.Mark.TheVariants.{Active, Valid}
+use Rattle.ee_core.proofs.Base.{◌≡◌, ◌+◌, ◌-◌, inr, ap, ◌∙◌, ◌<◌, arith, refl, sym, subst, Size, page_in_range, first_page, page_of_slot, Active, Valid, IsReady, SetsMark, IsDrawn, marked_to, picture_of, IsDrawnPartly, SetsPartly}
 use Rattle.ee_core.proofs.AfterCalls.{ends_later, goes_on_both, goes_on_same, never_on_ok}
 use Rattle.ee_core.proofs.Drawings.{marks_drawn}
 use Rattle.ee_core.proofs.LiveMarks.{current_below, last_behind, layout_stays, stays_both}
 use Rattle.ee_core.proofs.Marks.{same_stays}
 use Rattle.ee_core.proofs.MarkedSets.{opens_next}
-use Rattle.ee_core.specs.CallSteps.{IsReady, SetsMark}
-use Rattle.ee_core.specs.Picture.{IsDrawn, marked_to, picture_of}
 use Rattle.ee_core.proofs.OpenedPages.{first_other, further, last_is, next_behind, ready_already, ready_now, second_other, stays_in, turns}
 use Rattle.ee_core.proofs.CutMarks.{opens_partly, opens_partly_then}
 use Rattle.ee_core.proofs.Making.{always_on_err}
-use Rattle.ee_core.specs.Cuts.{IsDrawnPartly, SetsPartly}
 use Rattle.ee_core.proofs.writing.open_page.Goals as goal
 
 pub returns-then-page-layout : goal.returns-then-page-layout

@@ -1,7 +1,4 @@
-use Rattle.std.proofs.Common.{arith}
-use Rattle.std.proofs.lemmas.Result.{err_from_is_err_and}
-use Rattle.ee_pages.specs.Sets.{page_of_slot}
-use Rattle.ee_pages.proofs.Public.{page_in_range, place_in_range}
+use Rattle.ee_core.proofs.Base.{arith, err_from_is_err_and, page_of_slot, page_in_range, place_in_range}
 use Rattle.ee_core.proofs.AfterCalls.{ends_in_step, goes_on_programmed, goes_on_same}
 use Rattle.ee_core.proofs.Appending.{pushed, pushed_partly, slot_erased}
 use Rattle.ee_core.proofs.SetPages.{page_in_device}

@@ -1,7 +1,4 @@
-use Rattle.std.proofs.Common.{◌≡◌, ap, ◌∙◌, arith}
-use Rattle.std.proofs.lemmas.Bool.{lt-ltb}
-use Rattle.ee_flash.specs.Size.{slot_count}
-use Rattle.ee_core.specs.State.{capacity, state_of}
+use Rattle.ee_core.proofs.Base.{◌≡◌, ap, ◌∙◌, arith, lt-ltb, slot_count, capacity, state_of}
 use Rattle.ee_core.proofs.Several.{puts_within}
 use Rattle.ee_core.proofs.store.Store.is_full_for_all.Goals as goal
 

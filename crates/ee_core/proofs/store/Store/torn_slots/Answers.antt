@@ -1,5 +1,4 @@
-use Rattle.std.proofs.Common.{◌∙◌, ap, subst, sym, ◌≡◌}
-use Rattle.ee_core.specs.State.{torn_slots_in, torn_slots_of}
+use Rattle.ee_core.proofs.Base.{◌∙◌, ap, subst, sym, ◌≡◌, torn_slots_in, torn_slots_of}
 use Rattle.ee_core.proofs.store.Store.torn_slots.Goals as goal
 
 pub returns : goal.returns

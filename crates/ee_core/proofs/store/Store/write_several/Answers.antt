@@ -1,8 +1,4 @@
-use Rattle.std.proofs.Common.{refl, subst, sym}
-use Rattle.ee_flash.specs.Device.{Device}
-use Rattle.ee_core.specs.Changes.{Proceeds}
-use Rattle.ee_core.specs.Puts.{HasNew, puts_of}
-use Rattle.ee_core.specs.State.{capacity, state_of}
+use Rattle.ee_core.proofs.Base.{refl, subst, sym, Device, Proceeds, HasNew, puts_of, capacity, state_of}
 use Rattle.ee_core.proofs.Listed.{each_apart}
 use Rattle.ee_core.proofs.Several.{needs_transfer, no_generation, no_place, several_proceed, some_place}
 use Rattle.ee_core.proofs.store.Store.write_several.Goals as goal

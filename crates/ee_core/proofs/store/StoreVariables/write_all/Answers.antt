@@ -1,5 +1,4 @@
-use Rattle.std.proofs.Common.{List, rules, sym, subst}
-use Rattle.ee_core.specs.Calls.{WritesAll}
+use Rattle.ee_core.proofs.Base.{List, rules, sym, subst, WritesAll}
 use Rattle.ee_core.specs.declared.change.Put.{Put}
 use Rattle.ee_core.proofs.Several.{one_listed}
 use Rattle.ee_core.proofs.store.StoreVariables.write_all.Goals as goal
