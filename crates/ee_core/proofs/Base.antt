@@ -23,7 +23,7 @@ pub use Rattle.ee_flash.specs.Wear.{total_wear_of}
 pub use Rattle.ee_flash.specs.declared.word.Word.{Word}
 pub use Rattle.ee_flash.specs.declared.word.Word.TheVariants.{Erased, Held, Torn}
 pub use Rattle.ee_codec.specs.Words.{IsAddress, IsGeneration, element}
-pub use Rattle.ee_pages.proofs.Public.{as_it_was, bad_waiting_word_leaves_held, bad_word_leaves_held, blank_page, blank_set, blank_word, change_counts, commit_after, commits, commits_by, commits_over, elsewhere, erase_lowers_pending, erased_word, fill-front, first_below, first_commit_commits, first_commits, first_in_set, first_word, full_set_has_no_blank_page, get_or-slots_of, held_is_rescued, held_is_rescued_side, keeps_side_both, keeps_side_same, kept_side_is_live, legal_is_good, length-set_of, length-slots, live_commits, live_is_held, live_is_rescued, live_to-suc, live_to-zero, live_within_fill, map_rescued, mark_keeps_live, none_live, one_word_costs_its_value, opens_page, opens_set, other_set_keeps_live, other_set_keeps_side, other_set_stays, other_twice, page_in_range, page_of_set, pages-set_of, place_in_range, program_leaves_written, programmed_word, push_takes, same_set, slot_at, slot_below, slots_behind, split_by, stages_change, step_keeps_other_pages, waiting_word_costs_nothing, whole_commits_over, whole_erase_lowers_pending, whole_push_takes, word-in_set}
+pub use Rattle.ee_pages.proofs.Public.{as_it_was, bad_waiting_word_leaves_held, bad_word_leaves_held, blank_page, blank_set, blank_word, change_counts, commit_after, commits, commits_by, commits_over, elsewhere, erase_lowers_pending, erased_word, fill-front, first_below, first_commit_commits, first_commits, first_in_set, first_word, full_set_has_no_blank_page, get_or-slots_of, held_is_rescued, held_is_rescued_side, keeps_side_both, keeps_side_same, kept_side_is_live, legal_is_good, length-set_of, length-slots, live_commits, live_is_held, live_is_rescued, live_to-suc, live_to-zero, live_within_fill, map_rescued, mark_keeps_live, neither, none_live, one_word_costs_its_value, opens_page, opens_set, other_set_keeps_live, other_set_keeps_side, other_set_stays, other_twice, page_in_range, page_of_set, pages-set_of, place_in_range, program_leaves_written, programmed_word, push_takes, same_set, side_in, slot_at, slot_below, slots_behind, split_by, stages_change, step_keeps_other_pages, waiting_word_costs_nothing, whole_commits_over, whole_erase_lowers_pending, whole_push_takes, word-in_set}
 pub use Rattle.ee_pages.specs.Filling.{IsCommitted, IsFilling}
 pub use Rattle.ee_pages.specs.Laws.{CannotCommit, IsPageOf, KeepsLiveSet, KeepsSide}
 pub use Rattle.ee_pages.specs.Layout.{IsLayout, IsScanFault, IsUnformatted}

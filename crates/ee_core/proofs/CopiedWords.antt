@@ -1,20 +1,20 @@
 -- The elements of the addresses that are copied, address by address.
-use Rattle.ee_core.proofs.Base.{◌≡◌, inl, inr, ℕ, ◌<◌, ◌≤◌, true, false, Some, None, List, [], ◌∷◌, ◌++◌, refl, ap, ◌∙◌, arith, suc, zero, append-nil, cases_Bool, cases_eq, cases_lt, element, Word, Held, Change, Map, IsNextLive, element_at, elements_of, map_without, names}
+use Rattle.ee_core.proofs.Base.{◌≡◌, inl, inr, ℕ, ◌<◌, ◌≤◌, true, false, Some, None, List, [], ◌∷◌, ◌++◌, refl, ap, ◌∙◌, arith, suc, zero, append-nil, cases_Bool, cases_eq, cases_lt, element, Held, Change, Map, IsNextLive, element_at, elements_of, map_without, names}
 use Rattle.ee_core.proofs.CopiedMaps.{without-at, without-other}
 use Rattle.ee_core.specs.Picture.{elements_to}
 
 pub no_elements : (map : Map) → elements_to map zero ≡ []
 unfolding elements_to
-no_elements map = refl
+no_elements _ = refl
 
 pub one_further : (map : Map) (n : ℕ) → elements_to map (suc n) ≡ elements_to map n ++ element_at (suc n) (map (suc n))
 unfolding elements_to
-one_further map n = refl
+one_further _ n = refl
 
 -- up to an address behind which none has a value for a while
 pub none_between : (map : Map) (from to : ℕ) → from ≤ to → ((address : ℕ) → from < address → address ≤ to → map address ≡ None) → elements_to map to ≡ elements_to map from
-none_between map from zero h none = let e : zero ≡ from = omega arith in ap (elements_to map) e
-none_between map from (suc to) h none = elim (cases_lt from (suc to)) [
+none_between map from zero h _ = let e : zero ≡ from = omega arith in ap (elements_to map) e
+none_between map from (suc to) h none = elim (cases_lt _ _) [
   | inr last ↦ let e : suc to ≡ from = omega arith in ap (elements_to map) e
   | inl more ↦
       one_further map to
@@ -25,11 +25,11 @@ none_between map from (suc to) h none = elim (cases_lt from (suc to)) [
 
 -- with the next address that has a value
 pub next_element : (map : Map) (above next value : ℕ) → IsNextLive map above (Some (next, value)) → elements_to map next ≡ elements_to map above ++ (Held (element next value) ∷ [])
-next_element map above zero value is = absurd (omega (arith, is.0))
+next_element _ _ zero _ is = absurd (omega arith)
 next_element map above (suc next) value is =
     one_further map next
     ∙ ap (λ held. elements_to map next ++ element_at (suc next) held) is.1
-    ∙ ap (λ (words : List Word). words ++ (Held (element (suc next) value) ∷ [])) (none_between map above next (omega (arith, is.0)) (λ address low high. is.2 address low (omega arith)))
+    ∙ ap (λ words. words ++ (Held (element (suc next) value) ∷ [])) (none_between map above next (omega arith) (λ address low high. is.2 address low (omega arith)))
 
 module _ (map : Map) (changes : List Change) where
   abbrev pub others : Map
@@ -47,8 +47,8 @@ module _ (map : Map) (changes : List Change) where
 
   -- or it is one that is not
   pub passed_word : (above next value : ℕ) → IsNextLive map above (Some (next, value)) → names changes next ≡ true → elements_to others next ≡ elements_to others above
-  passed_word above next value is here = none_between others above next (omega (arith, is.0)) (λ address low high. elim (cases_eq address next) [
-    | inl last ↦ without-at changes map address (ap (names changes) last ∙ here)
+  passed_word above next _ is here = none_between others above next (omega arith) (λ address low high. elim (cases_eq _ _) [
+    | inl last ↦ without-at _ _ address (ap (names changes) last ∙ here)
     | inr earlier ↦ other_none address (is.2 address low (omega arith))
   ])
 

@@ -1,10 +1,6 @@
 -- The lowest page that waits to be erased, from a look over the pages of the other set.
-use Rattle.ee_core.proofs.Base.{rules, ◌≡◌, ◌<◌, ◌≤◌, ℕ, Option, Some, None, true, false, [], ◌∷◌, sym, subst, ap, ◌∙◌, true≢false, Device, page_at, IsPartlyErased, IsPageOf, KeepsLiveSet, IsLive, is_blank, first_page, live_of, other, Side, First, IsSameBut, ErasesLowest, IsLowestPending, KeepsAllButLowest, Wears, pending_pages}
+use Rattle.ee_core.proofs.Base.{rules, ◌≡◌, ◌<◌, ◌≤◌, ℕ, Some, true, false, [], ◌∷◌, sym, subst, ap, ◌∙◌, true≢false, Device, page_at, IsPartlyErased, IsPageOf, KeepsLiveSet, IsLive, is_blank, first_page, live_of, other, Side, IsSameBut, ErasesLowest, IsLowestPending, KeepsAllButLowest, Wears, pending_pages, side_in}
 use Rattle.ee_core.proofs.PendingPages.{lowest_blank}
-
-abbrev side_in : Option (Side × ℕ) → Side
-side_in None = First
-side_in (Some live) = live.0
 
 module _ (old new : Device) (side searched : Side) (generation page : ℕ) (live : live_of old ≡ Some (side, generation)) (is_other : searched ≡ other side) (in_set : IsPageOf old.size searched page)
     (not_blank : is_blank (page_at old page) ≡ false) (lower_blank : (lower : ℕ) → first_page old.size searched ≤ lower → lower < page → is_blank (page_at old lower) ≡ true)
@@ -13,8 +9,8 @@ module _ (old new : Device) (side searched : Side) (generation page : ℕ) (live
   is_lowest = record {
     waits = record { side = side; generation = generation; live = live; in_other = subst (λ set. IsPageOf old.size set page) is_other in_set; not_blank = not_blank };
     none_lower = λ lower below waits.
-        let same : other waits.side ≡ searched = ap (λ found. other (side_in found)) (sym waits.live ∙ live) ∙ sym is_other in
-        let from : first_page old.size searched ≤ lower = subst (λ set. first_page old.size set ≤ lower) same waits.in_other.from in
+        let same = ap (λ found. other (side_in found)) (sym waits.live ∙ live) ∙ sym is_other in
+        let from = subst (λ set. first_page old.size set ≤ lower) same waits.in_other.from in
         true≢false (sym (lower_blank lower from below) ∙ waits.not_blank);
   }
 

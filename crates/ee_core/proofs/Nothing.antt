@@ -9,41 +9,41 @@ use Rattle.ee_core.proofs.Outside.{meaning-above, meaning-zero}
 -- ---- the map
 
 none_or_none : (here : Bool) (value : Option ℕ) → value ≡ None → cond here None value ≡ None
-none_or_none true value none = refl
-none_or_none false value none = none
+none_or_none true _ _ = refl
+none_or_none false _ none = none
 
 pub still_none : (first count : ℕ) (map : Map) (address : ℕ) → map address ≡ None → changed_by (forgets_from first count) map address ≡ None
 unfolding forgets_from
-still_none first zero map address none = none
+still_none _ zero _ _ none = none
 still_none first (suc more) map address none = still_none (first + 1) more (map_after (Forget first) map) address (none_or_none (first == address) (map address) none)
 
 forgotten_in : (first count : ℕ) (map : Map) (address : ℕ) → first ≤ address → address < first + count → changed_by (forgets_from first count) map address ≡ None
 unfolding forgets_from
-forgotten_in first zero map address from below = absurd (omega arith)
-forgotten_in first (suc more) map address from below = elim (cases_eq address first) [
-  | inl here ↦ still_none (first + 1) more (map_after (Forget first) map) address (forget-at map first address here)
-  | inr further ↦ forgotten_in (first + 1) more (map_after (Forget first) map) address (omega (arith, further)) (omega arith)
+forgotten_in _ zero _ _ from below = absurd (omega arith)
+forgotten_in first (suc more) map address from below = elim (cases_eq _ _) [
+  | inl here ↦ still_none (first + 1) more (map_after (Forget first) map) address (forget-at map _ _ here)
+  | inr further ↦ forgotten_in (first + 1) more (map_after (Forget first) map) address (omega arith) (omega arith)
 ]
 
 pub all_forgotten : (slots : List Word) (address : ℕ) → changed_by each_forgotten (meaning slots) address ≡ None
-all_forgotten slots address = elim (cases_eq address 0) [
+all_forgotten slots address = elim (cases_eq _ 0) [
   | inl zeroth ↦ still_none 1 65534 (meaning slots) address (ap (meaning slots) zeroth ∙ meaning-zero slots)
   | inr some ↦ elim (cases_lt address 65535) [
-    | inl below ↦ forgotten_in 1 65534 (meaning slots) address (omega (arith, some)) (omega arith)
-    | inr above ↦ still_none 1 65534 (meaning slots) address (meaning-above slots address above)
+    | inl below ↦ forgotten_in 1 65534 (meaning slots) address (omega arith) (omega arith)
+    | inr above ↦ still_none 1 65534 (meaning slots) address (meaning-above slots _ above)
   ]
 ]
 
 -- no address has a value in it
 pub none_live : (slots : List Word) → 0 ≡ live_in (changed_by each_forgotten (meaning slots))
-none_live slots = live_in-nothing (changed_by each_forgotten (meaning slots)) (all_forgotten slots)
+none_live slots = live_in-nothing _ (all_forgotten slots)
 
 -- each of the changes is there in a map in which nothing has a value
 forgotten_at : (first count : ℕ) (change : Change) (map : Map) (place : ℕ) → place < length (forgets_from first count) → slice_index_or (forgets_from first count) place change ≡ change → ((address : ℕ) → map address ≡ None) → HasChange change map
 unfolding forgets_from
-forgotten_at first zero change map place within is none = absurd (omega (arith, within))
-forgotten_at first (suc more) change map zero within is none = subst (λ (one : Change). HasChange one map) is (none first)
-forgotten_at first (suc more) change map (suc place) within is none = forgotten_at (first + 1) more change map place (omega (arith, within)) is none
+forgotten_at _ zero _ map place within is none = absurd (omega arith)
+forgotten_at first (suc more) change map zero within is none = subst (λ one. HasChange one map) is (none first)
+forgotten_at first (suc more) change map (suc place) within is none = forgotten_at (first + 1) more change map place (omega arith) is none
 
 pub forgotten_has : (first count : ℕ) (change : Change) (map : Map) → Contains (forgets_from first count) change → ((address : ℕ) → map address ≡ None) → HasChange change map
 forgotten_has first count change map kept none = forgotten_at first count change map kept.0 kept.1 kept.2 none
@@ -52,21 +52,21 @@ forgotten_has first count change map kept none = forgotten_at first count change
 
 none_put : (first count : ℕ) → put_words (forgets_from first count) ≡ []
 unfolding forgets_from
-none_put first zero = refl
+none_put _ zero = refl
 none_put first (suc more) = none_put (first + 1) more
 
 without_is : (first count : ℕ) (map : Map) → map_without (forgets_from first count) map ≡ changed_by (forgets_from first count) map
 unfolding forgets_from
-without_is first zero map = refl
+without_is _ zero _ = refl
 without_is first (suc more) map = without_is (first + 1) more (map_after (Forget first) map)
 
 no_elements : (map : Map) (count : ℕ) → ((address : ℕ) → map address ≡ None) → elements_to map count ≡ []
 unfolding elements_to
-no_elements map zero none = refl
+no_elements _ zero _ = refl
 no_elements map (suc count) none = rw (no_elements map count none, none (suc count)) refl
 
 pub none_moved : (slots : List Word) → moved_words each_forgotten (meaning slots) ≡ []
 none_moved slots =
-    let left : elements_of (map_without each_forgotten (meaning slots)) ≡ [] =
+    let left =
     ap elements_of (without_is 1 65534 (meaning slots)) ∙ no_elements (changed_by each_forgotten (meaning slots)) 65534 (all_forgotten slots) in
     rw (none_put 1 65534, left) refl

@@ -20,9 +20,9 @@ no_page_wears_more_needs_none_waiting law old new legal counts cleaned =
     let page = cleaned.lowest.page in
     let within = cleaned.lowest.wear.there 0 0 (omega arith) in
     let formed = legal.2.formed in
-    let run : IsWholeRun (Cleaned (Ok true) ∷ []) old new = record { run = (new, cleaned, refl); without_cuts = All-cons (λ (call : Call). is_cut call ≡ false) (Cleaned (Ok true)) [] refl (All-nil (λ (call : Call). is_cut call ≡ false)) } in
-    let few = law (Cleaned (Ok true) ∷ []) old new page run legal (omega (arith, within, formed.wear_length)) in
+    let run : IsWholeRun (Cleaned (Ok true) ∷ []) old new = record { run = (new, cleaned, refl); without_cuts = All-cons (λ call. is_cut call ≡ false) _ [] refl (All-nil (λ call. is_cut call ≡ false)) } in
+    let few = law (Cleaned (Ok true) ∷ []) old new page run legal (omega arith) in
     let below = counts page 0 within in
-    let more : wear_at new page ≡ one_more (wear_at old page) =
-    ap (λ (wear : List ℕ). get_or wear page 0) cleaned.lowest.wear.wear_is ∙ get_or-set_same old.wear page (one_more (wear_at old page)) 0 within in
-    absurd (omega (arith, few, below, more))
+    let more =
+    ap (λ wear. get_or wear page 0) cleaned.lowest.wear.wear_is ∙ get_or-set_same old.wear page (one_more (wear_at old page)) 0 within in
+    absurd (omega arith)

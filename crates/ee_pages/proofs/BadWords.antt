@@ -51,12 +51,6 @@ any_set p (x ∷ xs) (suc k) y d e = ap (λ (b : Bool). p x || b) (any_set p xs 
 
 -- ---- what is told without the words that commit
 
-rule_two_first : (left_first left_second committed_first committed_second : Bool) (n m : ℕ) → by_rules true false left_first left_second committed_first committed_second n m ≡ Some First
-rule_two_first left_first left_second committed_first committed_second n m = refl
-
-rule_two_second : (left_first left_second committed_first committed_second : Bool) (n m : ℕ) → by_rules false true left_first left_second committed_first committed_second n m ≡ Some Second
-rule_two_second left_first left_second committed_first committed_second n m = refl
-
 rule_three_first : (begun committed_first committed_second : Bool) (n m : ℕ) → by_rules true begun false true committed_first committed_second n m ≡ Some First
 rule_three_first true committed_first committed_second n m = refl
 rule_three_first false committed_first committed_second n m = refl
@@ -82,18 +76,18 @@ told_by_headers Second device begun left (inr whole) = let rule = rule_three_sec
 
 -- ---- what the header of a set with a word that went bad says
 
-either_false : (x y : Bool) → (x || y) ≡ false → (x ≡ false) × (y ≡ false)
-either_false true y e = absurd (cc e)
-either_false false y e = (refl, e)
+pub neither : (x y : Bool) → (x || y) ≡ false → (x ≡ false) × (y ≡ false)
+neither true y e = absurd (cc e)
+neither false y e = (refl, e)
 
 none_any : {X : Type 0} (p : X → Bool) (d : X) (xs : List X) → list_any p xs ≡ false → All (λ x. p x ≡ false) xs
 none_any p d [] none = All-from_get_or (λ x. p x ≡ false) [] d (λ k h. absurd (omega arith))
-none_any p d (x ∷ xs) none = let rest = either_false (p x) (list_any p xs) none in All-cons (λ x. p x ≡ false) x xs rest.0 (none_any p d xs rest.1)
+none_any p d (x ∷ xs) none = let rest = neither (p x) (list_any p xs) none in All-cons (λ x. p x ≡ false) x xs rest.0 (none_any p d xs rest.1)
 
 any_set_none : {X : Type 0} (p : X → Bool) (xs : List X) (k : ℕ) (y : X) → p y ≡ false → list_any p xs ≡ false → list_any p (set xs k y) ≡ false
 any_set_none p [] k y e none = refl
-any_set_none p (x ∷ xs) zero y e none = let rest = either_false (p x) (list_any p xs) none in rw (e, rest.1) refl
-any_set_none p (x ∷ xs) (suc k) y e none = let rest = either_false (p x) (list_any p xs) none in rw (rest.0, any_set_none p xs k y e rest.1) refl
+any_set_none p (x ∷ xs) zero y e none = let rest = neither (p x) (list_any p xs) none in rw (e, rest.1) refl
+any_set_none p (x ∷ xs) (suc k) y e none = let rest = neither (p x) (list_any p xs) none in rw (rest.0, any_set_none p xs k y e rest.1) refl
 
 module _ (pages : List (List Word)) (page at : ℕ) (word : Word) (in_range : page < length pages) where
   abbrev changed : List (List Word)
