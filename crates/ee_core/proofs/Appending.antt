@@ -1,5 +1,5 @@
 -- What programming a change into the first free slot of the live set leaves.
-use Rattle.ee_core.proofs.Base.{rules, ◌≡◌, ◌≢◌, ◌⊎◌, inl, inr, ℕ, ◌+◌, ◌-◌, ◌<◌, ◌%◌, length, get_or, refl, sym, subst, ap, ◌∙◌, arith, cases_eq, Device, IsOn, all_ones, word_at, CanTake, IsStep, slot_count, Step, Program, IsCutIn, IsUntouched, MayFollow, device_after, Erased, step_leaves_pages, KeepsLiveSet, IsLayout, Layout, IsLive, Change, Map, SpellsChange, map_after, TakesSlot, slot_step, fill_of, first_page, other, page_of_slot, place_of_slot, set_of, slots_of, Side, erased_word, fill-front, slots_behind, step_keeps_other_pages, page_in_range, place_in_range, slot_at, push_takes, whole_push_takes, programmed_word, IsSameSet, KeepsMarks, map_change, map_in, number_written}
+use Rattle.ee_core.proofs.Base.{rules, ◌≡◌, ◌≢◌, ◌⊎◌, inl, inr, ℕ, ◌+◌, ◌-◌, ◌<◌, get_or, sym, ap, ◌∙◌, arith, Device, IsOn, all_ones, word_at, CanTake, IsStep, slot_count, Step, Program, IsCutIn, IsUntouched, MayFollow, device_after, Erased, step_leaves_pages, KeepsLiveSet, IsLayout, Layout, IsLive, Change, Map, SpellsChange, map_after, TakesSlot, slot_step, fill_of, first_page, other, page_of_slot, place_of_slot, set_of, slots_of, Side, erased_word, fill-front, slots_behind, step_keeps_other_pages, page_in_range, place_in_range, slot_at, push_takes, whole_push_takes, programmed_word, IsSameSet, KeepsMarks, map_change, map_in, number_written}
 use Rattle.ee_core.proofs.Cuts.{program_partly}
 use Rattle.ee_core.specs.Appending.{MayTakeSlot, Pushed, PushedPartly}
 use Rattle.ee_core.specs.declared.change.Change as declared
@@ -9,13 +9,7 @@ use Rattle.ee_core.proofs.Drawings.{put_there}
 use Rattle.ee_core.proofs.Marks.{place_below, program_keeps_wear}
 
 program_keeps_words : (page at value : ℕ) (old new : Device) → IsStep (Program page at value) old new → (there k : ℕ) → k ≢ at → word_at new there k ≡ word_at old there k
-program_keeps_words page at value old new taken _ k other = elim (cases_eq _ _) [
-  | inr apart ↦ ap (λ words. get_or words k Erased) (step_keeps_other_pages _ _ _ _ taken apart)
-  | inl same ↦
-      let h : page < length old.image = omega arith in
-      let here = programmed_word old new _ at value k h other (step_leaves_pages _ _ _ taken) in
-      subst (λ n. word_at new n k ≡ word_at old n k) (sym same) here
-]
+program_keeps_words page at value old new taken _ k other = search (rules, step_keeps_other_pages, taken, programmed_word, step_leaves_pages)
 
 -- so a program behind the header keeps all marks
 slot_keeps_marks : (page place value : ℕ) (old new : Device) → IsStep (Program page (4 + place) value) old new → KeepsMarks old new
@@ -26,11 +20,9 @@ pub slot_erased : (side : Side) (generation fill : ℕ) (old : Device) → IsLiv
 slot_erased side _ fill old live fill_is free =
     let slots = slots_of (set_of side old) in
     let front = fill-front _ _ _ live.formed live.allowed in
-    let unwritten = slots_behind _ _ _ live.formed live.allowed _ (omega arith) in
-    let there = page_of_set _ _ _ (page_in_range old _ free) in
-    ap (λ words. get_or words (place_of_slot old.size fill) Erased) (sym there)
+    ap (λ words. get_or words (place_of_slot old.size fill) Erased) (sym (page_of_set _ _ _ (page_in_range old _ free)))
     ∙ sym (slot_at _ _ _ live.formed free)
-    ∙ erased_word _ unwritten
+    ∙ erased_word _ (slots_behind _ _ _ live.formed live.allowed _ (omega arith))
 
 -- a change in it
 module _ (old new : Device) (layout : Layout) (found : IsLayout old layout) (free : layout.fill < slot_count old.size) (change : declared.Change) (spells : SpellsChange (number_written change) (map_change change)) (below : number_written change < all_ones) where
@@ -38,13 +30,13 @@ module _ (old new : Device) (layout : Layout) (found : IsLayout old layout) (fre
   step slot = slot_step old.size layout.side slot (number_written change)
 
   can_take : CanTake (step layout.fill) old
-  can_take = (page_in_device old.size _ _ (page_in_range old _ free), place_in_range _ _ found.live.formed, slot_erased layout.side layout.generation layout.fill old found.live found.fill free, below)
+  can_take = search (rules, page_in_device, page_in_range, place_in_range, slot_erased)
 
   taken : MayFollow (step layout.fill) old new → IsStep (step layout.fill) old new
-  taken follows = record { formed = found.live.formed; may = can_take; follows = follows }
+  taken follows = search (rules, can_take)
 
   at_fill : MayFollow (step layout.fill) old new → IsStep (step (fill_of (slots_of (set_of layout.side old)))) old new
-  at_fill follows = subst (λ n. IsStep (step n) old new) found.fill (taken follows)
+  at_fill follows = search (rules, taken)
 
   free_there : fill_of (slots_of (set_of layout.side old)) < slot_count old.size
   free_there = omega arith
@@ -53,7 +45,7 @@ module _ (old new : Device) (layout : Layout) (found : IsLayout old layout) (fre
   outcome follows = push_takes _ _ _ _ _ _ found.live free_there spells (at_fill follows)
 
   keeps_marks : MayFollow (step layout.fill) old new → KeepsMarks old new
-  keeps_marks follows = slot_keeps_marks (first_page old.size layout.side + page_of_slot old.size layout.fill) (layout.fill % (old.size.words - 4)) (number_written change) old new (taken follows)
+  keeps_marks follows = search (rules, slot_keeps_marks, taken)
 
   pub pushed : IsOn old → new ≡ device_after (step layout.fill) old → Pushed old new layout change
   pushed on done =
@@ -62,7 +54,7 @@ module _ (old new : Device) (layout : Layout) (found : IsLayout old layout) (fre
         takes = (whole_push_takes _ _ _ _ _ _ found.live free_there spells (at_fill whole)
             (done ∙ ap (λ n. device_after (step n) old) found.fill)).0;
         spells = spells;
-        puts = put_there _ _ _ _ _ _ _ _ found.live.formed can_take.0 can_take.1 refl refl refl done;
+        puts = search (rules, put_there, can_take);
         marks = keeps_marks whole;
         other = (outcome whole).0;
         wear = ap (λ device. device.wear) done;
@@ -71,7 +63,7 @@ module _ (old new : Device) (layout : Layout) (found : IsLayout old layout) (fre
   pub pushed_partly : IsCutIn (step layout.fill) old new ⊎ IsUntouched old new → PushedPartly old new layout change
   pushed_partly cut = record {
     cut = (outcome (inr cut)).1;
-    begun = program_partly _ _ _ _ _ found.live.formed can_take.0 can_take.1 can_take.2 cut;
+    begun = search (rules, program_partly, can_take);
     marks = keeps_marks (inr cut);
     other = (outcome (inr cut)).0;
     wear = program_keeps_wear _ _ _ _ _ (inr cut);

@@ -39,7 +39,6 @@ module _ (side : Side) (old : Device) (first pages : ℕ) (formed : IsFormed old
     -- one page more
     pub cleared_next : (new : Device) → KeepsSide mid new side → BlanksPage mid new page → ClearedTo old new side first (page + 1)
     cleared_next new keeps step =
-        let next : page - first + 1 ≡ page + 1 - first = omega arith in
         record {
           keeps = keeps_side_both _ _ _ _ so_far.keeps keeps;
           blank = λ k low high. elim (cases_eq k _) [
@@ -50,7 +49,7 @@ module _ (side : Side) (old : Device) (first pages : ℕ) (formed : IsFormed old
             | inl low ↦ step.others k (λ e. omega arith) ∙ so_far.rest k (inl low)
             | inr high ↦ step.others k (λ e. omega arith) ∙ so_far.rest k (inr (omega arith))
           ];
-          wear = subst (λ n. Wears (not_blank_from first (take n (set_of (other side) old))) old new) next (wears_next _ _ _ page _ mid _ at within there so_far.wear step.wear);
+          wear = subst (λ n. Wears (not_blank_from first (take n (set_of (other side) old))) old new) (omega arith) (wears_next _ _ _ page _ mid _ at within there so_far.wear step.wear);
           goes = goes_on_both _ _ _ so_far.goes step.power;
         }
 
@@ -58,5 +57,4 @@ module _ (side : Side) (old : Device) (first pages : ℕ) (formed : IsFormed old
     pub cleared_cut : (new : Device) → is_blank (page_at mid page) ≡ false → Wears (page ∷ []) mid new → IsSameBut page mid new → IsPartlyErased (page_at mid page) (page_at new page)
         → ErasesPartly (first_page old.size (other side)) (set_of (other side) old) old new
     cleared_cut new written now others partly =
-        let wear = wears_to _ _ (page - first) _ _ mid _ at within there so_far.wear written now in
-        subst (λ n. ErasesPartly n (set_of (other side) old) old new) first_is (erases_partly _ _ _ _ mid _ wear from so_far.blank so_far.rest others partly)
+        subst (λ n. ErasesPartly n (set_of (other side) old) old new) first_is (erases_partly _ _ _ _ mid _ (wears_to _ _ (page - first) _ _ mid _ at within there so_far.wear written now) from so_far.blank so_far.rest others partly)

@@ -35,8 +35,7 @@ up_to_next map above next _ address is other = elim (cases_lt _ _) [
   | inl more ↦ elim (cases_lt _ _) [
     | inl high ↦ map_to-above map next address high ∙ sym (map_to-above map above address more)
     | inr within ↦
-        let below : address < next = omega arith in
-        map_to-below map next address within ∙ is.2 address more below ∙ sym (map_to-above map above address more)
+        map_to-below map next address within ∙ is.2 address more (omega arith) ∙ sym (map_to-above map above address more)
   ]
 ]
 
@@ -51,7 +50,7 @@ module _ (start map : Map) (named : ℕ → Bool) where
     | inr other ↦
         let none : map_to map 0 address ≡ None = elim (cases_lt 0 _) [
           | inl more ↦ map_to-above map 0 address more
-          | inr low ↦ map_to-below map 0 address low ∙ (let e : address ≡ 0 = omega arith in ap map e ∙ zeroth)
+          | inr low ↦ map_to-below map 0 address low ∙ (ap map (omega arith) ∙ zeroth)
         ] in
         only address other ∙ sym none ∙ sym (replaced-other start (map_to map 0) named address other)
   ]
@@ -153,9 +152,8 @@ changed_by-at [] _ _ _ e = absurd (cc e)
 changed_by-at (change ∷ changes) first second address e = elim (cases_Bool _) [
   | inl later ↦ changed_by-at changes (map_after change first) (map_after change second) address later
   | inr none ↦
-      let here = eqb-true (address_of change) address (the_first (address_of change == address) (names changes address) e none) in
       changed_by-other changes (map_after change first) address none
-      ∙ changed-at change first second address (sym here)
+      ∙ changed-at change first second address (sym (eqb-true (address_of change) address (the_first (address_of change == address) (names changes address) e none)))
       ∙ sym (changed_by-other changes (map_after change second) address none)
 ]
 
@@ -170,8 +168,7 @@ without-at [] _ _ e = absurd (cc e)
 without-at (change ∷ changes) map address e = elim (cases_Bool _) [
   | inl later ↦ without-at changes (map_after (Forget (address_of change)) map) address later
   | inr none ↦
-      let here = eqb-true (address_of change) address (the_first (address_of change == address) (names changes address) e none) in
-      without-other changes (map_after (Forget (address_of change)) map) address none ∙ forget-at map (address_of change) address (sym here)
+      without-other changes (map_after (Forget (address_of change)) map) address none ∙ forget-at map (address_of change) address (sym (eqb-true (address_of change) address (the_first (address_of change == address) (names changes address) e none)))
 ]
 
 -- the changes, and then each other address, are the map after the changes

@@ -13,9 +13,9 @@ one_further _ n = refl
 
 -- up to an address behind which none has a value for a while
 pub none_between : (map : Map) (from to : ℕ) → from ≤ to → ((address : ℕ) → from < address → address ≤ to → map address ≡ None) → elements_to map to ≡ elements_to map from
-none_between map from zero h _ = let e : zero ≡ from = omega arith in ap (elements_to map) e
+none_between map from zero h _ = ap (elements_to map) (omega arith)
 none_between map from (suc to) h none = elim (cases_lt _ _) [
-  | inr last ↦ let e : suc to ≡ from = omega arith in ap (elements_to map) e
+  | inr last ↦ ap (elements_to map) (omega arith)
   | inl more ↦
       one_further map to
       ∙ ap (λ value. elements_to map to ++ element_at (suc to) value) (none (suc to) more (omega arith))

@@ -71,8 +71,7 @@ one_taken map above items _ through n found same h is over =
     let here = is ∙ ap (λ l. get_or l n found) same in
     let e : n + 1 ≡ suc n = omega arith in
     let moved = ap (λ m. last_of 0 (take m items)) e ∙ last_taken items n 0 found within ∙ ap (λ one. one.0) (sym here) in
-    let split = drop_more _ n _ within ∙ ap (λ one. one ∷ drop (n + 1) items) (sym here) in
-    let all = first_ready map above found (drop (n + 1) items) (drop n items) through split over in
+    let all = first_ready map above found (drop (n + 1) items) (drop n items) through (drop_more _ n _ within ∙ ap (λ one. one ∷ drop (n + 1) items) (sym here)) over in
     record { next = all.0; proper = all.1; moved = moved; over = subst (λ m. GoesOver map record { after = m; ready = drop (n + 1) items; through = through }) (sym moved) all.2 }
 
 -- a further batch, where all of one was given
@@ -81,7 +80,6 @@ pub further : (map : Map) (after : ℕ) (items more : List (ℕ × ℕ)) (throug
     → AreLiveThrough map to more last → All (λ (found : ℕ × ℕ). IsAddress found.0) more
     → GoesOver map record { after = after; ready = more; through = last }
 further map after items more through last n to h is over live proper =
-    let over_last = subst (λ t. GoesOver map record { after = after; ready = drop n items; through = t }) is over in
-    let none = (subst (λ l. GoesOver map record { after = after; ready = l; through = Some to }) (drop_all n _ h) over_last).rest in
+    let none = (subst (λ l. GoesOver map record { after = after; ready = l; through = Some to }) (drop_all n _ h) (subst (λ t. GoesOver map record { after = after; ready = drop n items; through = t }) is over)).rest in
     let behind = live_behind map after to none more last live in
     record { next = behind.next; rest = behind.rest; proper = proper }

@@ -18,7 +18,7 @@ cut_cases : (old new : Device) (change : Change) → IsCutChange old change new
 cut_cases old _ _ cut =
     elim (cases_lt (state_of old).fill (capacity old)) [
       | inl h ↦ inl (cut.free h)
-      | inr h ↦ (let e : (state_of old).fill ≡ capacity old = omega arith in inr (cut.all_used e))
+      | inr h ↦ (inr (cut.all_used (omega arith)))
     ]
 
 cut_state : (old new : State) (pages : ℕ) (change : Change) → IsCutAppend old change new ⊎ IsCutMove pages pages old (change ∷ []) new → (new.map ≡ old.map) ⊎ (new.map ≡ map_after change old.map)

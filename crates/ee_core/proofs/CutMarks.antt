@@ -1,5 +1,5 @@
 -- What is drawn where power was cut in setting marks, and in an append.
-use Rattle.ee_core.proofs.Base.{rules, ◌≡◌, inl, inr, ℕ, ◌+◌, ◌-◌, ◌<◌, ◌≤◌, Bool, false, true, refl, sym, subst, ap, ◌∙◌, arith, ◌&&◌, nat_lt, not, cases_eq, cases_lt, eq-eqb, le-ltb, lt-ltb, ne_eqb, Device, IsFormed, page_at, GoesOn, Size, Held, IsPageOf, IsLive, is_blank, is_marked, first_page, other, page_of_slot, place_of_slot, Side, Active, Erasing, Valid, IsSameBut, IsSameSet, KeepsMarks, SetsMark, Stays, IsDrawnPartly, PutsPartly, SetsPartly, IsOldMarked, last_used, ShowsCutMarks, IsDrawn, Picture, is_used, marked_to, picture_of, retired_pages, with_change}
+use Rattle.ee_core.proofs.Base.{rules, ◌≡◌, inr, ℕ, ◌+◌, ◌-◌, ◌<◌, ◌≤◌, Bool, false, true, refl, sym, subst, ap, ◌∙◌, arith, ◌&&◌, nat_lt, not, Device, IsFormed, page_at, GoesOn, Size, Held, IsPageOf, IsLive, is_blank, is_marked, first_page, other, page_of_slot, place_of_slot, Side, Active, Erasing, Valid, IsSameBut, IsSameSet, KeepsMarks, SetsMark, Stays, IsDrawnPartly, PutsPartly, SetsPartly, IsOldMarked, last_used, ShowsCutMarks, IsDrawn, Picture, is_used, marked_to, picture_of, retired_pages, with_change}
 use Rattle.ee_core.proofs.Cuts.{IsOnTheWay, drawn_before, drawn_between, drawn_whole, mark_drawn_partly, put_partly}
 use Rattle.ee_core.proofs.Drawings.{active_last, mark_drawn, drawn_as, retired_more, same_drawn, valid_drawn, valid_more, valid_to, with_word-elsewhere}
 use Rattle.ee_core.proofs.AfterCalls.{goes_on_both, goes_on_same}
@@ -11,22 +11,10 @@ use Rattle.ee_core.proofs.SetPages.{page_reached, same_page}
 -- ---- the marks that are set so far are on the way
 
 valid_way : (k last : ℕ) (picture : Picture) (page at : ℕ) → k ≤ last → IsOnTheWay (picture page at) (marked_to last picture page at) (valid_to k picture page at)
-valid_way k last _ page at h = elim (cases_eq at 2) [
-  | inr away ↦ inl (rw (ne_eqb at 2 away) refl)
-  | inl two ↦ elim (cases_lt _ k) [
-    | inl below ↦ inr (rw (eq-eqb at 2 two, lt-ltb page k below, lt-ltb page last (omega arith)) refl)
-    | inr above ↦ inl (rw (eq-eqb at 2 two, le-ltb page k above) refl)
-  ]
-]
+valid_way k last _ page at h = search rules
 
 retired_way : (k : ℕ) (waiting : ℕ → Bool) (picture : Picture) (page at : ℕ) → IsOnTheWay (picture page at) (retired_pages waiting picture page at) (retired_pages (λ p. nat_lt p k && waiting p) picture page at)
-retired_way k _ _ page at = elim (cases_eq at 3) [
-  | inr away ↦ inl (rw (ne_eqb at 3 away) refl)
-  | inl three ↦ elim (cases_lt _ k) [
-    | inl below ↦ inr (rw (lt-ltb page k below) refl)
-    | inr above ↦ inl (rw (eq-eqb at 3 three, le-ltb page k above) refl)
-  ]
-]
+retired_way k _ _ page at = search rules
 
 -- ---- a mark that was cut, in the set that is drawn with the marks before it
 
@@ -40,10 +28,7 @@ valid_partly _ _ new k last picture formed sizes h before sets drawn =
     (mark_drawn_partly _ _ _ k Valid _ formed sizes h drawn sets)
 
 pub active_partly : (side : Side) (mid new : Device) (last : ℕ) (picture : Picture) → IsFormed mid → new.size ≡ mid.size → last < mid.size.pages → SetsPartly (first_page mid.size side + last) Active mid new → IsDrawn side mid (valid_to last picture) → IsDrawnPartly side new picture (marked_to last picture)
-active_partly _ _ new last picture formed sizes h sets drawn =
-    drawn_between _ new _ _ _ _
-    (λ page at _ _. (valid_way last last picture page at (omega arith), inr (active_last _ picture _ at)))
-    (mark_drawn_partly _ _ _ _ Active _ formed sizes h drawn sets)
+active_partly _ _ new last picture formed sizes h sets drawn = search (rules, drawn_between, valid_way, active_last, mark_drawn_partly, drawn)
 
 pub retired_partly : (side : Side) (old mid new : Device) (k : ℕ) → IsFormed mid → new.size ≡ mid.size → k < mid.size.pages → is_used side old k ≡ true → SetsPartly (first_page mid.size side + k) Erasing mid new → IsDrawn side mid (retired_to side old k) → IsDrawnPartly side new (picture_of side old) (retired_pages (is_used side old) (picture_of side old))
 retired_partly side old _ new k formed sizes h waiting sets drawn =
@@ -83,15 +68,11 @@ opens_partly_then side old mid new k formed mid_formed first_sizes second_sizes 
     drawn_as _ mid _ _
     (mark_drawn _ _ _ k Valid _ formed first_sizes (omega arith) (valid_drawn _ old k before) valid)
     (λ p at _ _. valid_more k picture p at) in
-    let there = subst (λ size. SetsPartly (first_page size side + (k + 1)) Active mid new) (sym first_sizes) active in
-    active_partly side mid new (k + 1) picture mid_formed second_sizes (omega (arith, ap (λ size. size.pages) first_sizes)) there used
+    search (rules, active_partly)
 
 -- the marks are on the way to the change
 marks_way : (size : Size) (fill number : ℕ) (picture : Picture) (page at : ℕ) → IsOnTheWay (picture page at) (with_change size fill number picture page at) (marked_to (page_of_slot size fill) picture page at)
-marks_way size fill number picture page at = elim (cases_eq at (place_of_slot size fill)) [
-  | inr away ↦ inr (sym (with_word-elsewhere (page_of_slot size fill) _ (Held number) (marked_to (page_of_slot size fill) picture) page at (inr away)))
-  | inl there ↦ inl (rw (ne_eqb at 2 (λ e. omega arith), ne_eqb at 1 (λ e. omega arith)) refl)
-]
+marks_way size fill number picture page at = search (rules, with_word-elsewhere)
 
 pub cut_marks : (side : Side) (old new : Device) (fill number : ℕ) → IsDrawnPartly side new (picture_of side old) (marked_to (page_of_slot old.size fill) (picture_of side old)) → IsDrawnPartly side new (picture_of side old) (with_change old.size fill number (picture_of side old))
 cut_marks _ _ _ _ number drawn = search (rules, drawn_between, marks_way)
@@ -142,23 +123,23 @@ module _ (side : Side) (generation : ℕ) (old : Device) (first pages : ℕ) (fi
 
   module _ (mid : Device) (page : ℕ) (formed : IsFormed mid) (from : first ≤ page) (below : page < first + pages) (so_far : MarkedTo old mid side generation first page) where
     in_set : IsPageOf mid.size (other side) page
-    in_set = page_reached _ old mid _ _ _ first_is pages_is so_far.stays.keeps.same_size from below
+    in_set = search (rules, page_reached)
 
     within : page - first < mid.size.pages
     within = omega (arith, ap (λ size. size.pages) so_far.stays.keeps.same_size)
 
     pub was_done : IsOldMarked old (other side) → IsPageDone mid page
-    was_done marked = subst (λ device. IsPageDone device page) (sym (so_far.no_step marked)) (done_already old _ _ marked (omega arith) (omega arith))
+    was_done marked = search (rules, done_already)
 
     -- one page more
     pub marked_next : (new : Device) → IsFormed new → MarksPage mid new side generation page → MarkedTo old new side generation first (page + 1)
     marked_next new new_formed step = record {
       stays = stays_both _ _ _ _ _ so_far.stays step.stays;
       marks = λ p mark was. step.marks p mark (so_far.marks p mark was);
-      done = done_more _ _ mid new from so_far.done step.others step.done;
-      no_step = λ marked. step.no_step (was_done marked) ∙ so_far.no_step marked;
+      done = search (rules, done_more);
+      no_step = search (rules, was_done);
       drawn = retired_next _ old _ first_is _ _ _ _ _ formed so_far.stays.keeps.same_size from within (so_far.rest page (omega arith)) step so_far.drawn;
-      live = live_stays _ _ _ _ _ formed new_formed step.stays.keeps.same_size in_set step.others so_far.live;
+      live = search (rules, live_stays, in_set);
       rest = λ k h. step.others k (λ e. omega arith) ∙ so_far.rest k (omega arith);
       power = goes_on_both _ _ _ so_far.power step.power;
     }
@@ -168,9 +149,7 @@ module _ (side : Side) (generation : ℕ) (old : Device) (first pages : ℕ) (fi
         → IsDrawnPartly (other side) new (picture_of (other side) old) (retired_pages (is_used (other side) old) (picture_of (other side) old)) × IsSameSet side old new
     marked_cut new new_formed written stays others begun =
         let k = page - first in
-        let at : page ≡ first_page mid.size (other side) + k = omega (arith, ap (λ size. first_page size (other side)) so_far.stays.keeps.same_size) in
-        let there : first_page old.size (other side) + k ≡ page = omega arith in
-        let was = ap (λ n. not (is_blank (page_at old n))) there ∙ ap (λ words. not (is_blank words)) (sym (so_far.rest page (omega arith))) ∙ ap not written in (
-          retired_partly (other side) old mid new k formed stays.keeps.same_size within was (subst (λ n. SetsPartly n Erasing mid new) at begun) so_far.drawn,
+        let was = ap (λ n. not (is_blank (page_at old n))) (omega arith) ∙ ap (λ words. not (is_blank words)) (sym (so_far.rest page (omega arith))) ∙ ap not written in (
+          retired_partly (other side) old mid new k formed stays.keeps.same_size within was (subst (λ n. SetsPartly n Erasing mid new) (omega (arith, ap (λ size. first_page size (other side)) so_far.stays.keeps.same_size)) begun) so_far.drawn,
           live_stays _ _ _ _ _ formed new_formed stays.keeps.same_size in_set others so_far.live,
         )

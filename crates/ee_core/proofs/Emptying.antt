@@ -11,10 +11,7 @@ module _ (old new : Device) (side : Side) (generation : ℕ) (live : IsLive old 
   state_cleared has =
       let slots = slots_of (set_of side old) in
       let map = ap (λ state. state.map) (state_is _ _ _ live) in
-      let none = ap (changed_by each_forgotten) map ∙ fun_ext (all_forgotten slots) in
-      let count = ap (λ said. live_in (changed_by each_forgotten said)) map ∙ sym (none_live slots) in
-      let pages = sym (ap (used_pages_in old) live.live) in
-      state_moved _ _ _ _ live _ has ∙ rw (count, none, pages) refl
+      state_moved _ _ _ _ live _ has ∙ rw ((ap (λ said. live_in (changed_by each_forgotten said)) map ∙ sym (none_live slots)), (ap (changed_by each_forgotten) map ∙ fun_ext (all_forgotten slots)), (sym (ap (used_pages_in old) live.live))) refl
 
   pub empties : MayClear old → pending_of (set_of side old) ≤ old.size.pages → GoesOn old new → HasMoved old new side generation each_forgotten → Wears (not_blank_in (other side) old) old new
       → IsDrawn (other side) new (filled_set old.size (generation + 1) []) → IsDrawn side new (retired_pages (is_used side old) (picture_of side old)) → Empties old new

@@ -20,19 +20,17 @@ module _ (pages : List (List Word)) (first k page : ℕ) (old mid new : Device) 
 
   pub wears_next : Wears (named page (page_at mid page)) mid new → Wears (not_blank_from first (take (k + 1) pages)) old new
   wears_next now =
-      let more = not_blank_more _ _ k within ∙ ap (λ list. not_blank_from first (take k pages) ++ list) here in
-      subst (λ list. Wears list old new) (sym more) (wears_both _ _ _ _ _ sooner now)
+      subst (λ list. Wears list old new) (sym (not_blank_more _ _ k within ∙ ap (λ list. not_blank_from first (take k pages) ++ list) here)) (wears_both _ _ _ _ _ sooner now)
 
   -- power was cut in erasing it
   pub wears_to : is_blank (page_at mid page) ≡ false → Wears (page ∷ []) mid new → WearsTo page (not_blank_from first pages) old new
   wears_to written now =
-      let one : named page (page_at mid page) ≡ page ∷ [] = rw written refl in
       let before = not_blank_from first (take k pages) in
       let behind = not_blank_from (first + (k + 1)) (drop (k + 1) pages) in
       record {
         before = before;
         behind = behind;
-        pages_are = not_blank_rest _ _ k within ∙ ap (λ list. (before ++ list) ++ behind) (here ∙ one) ∙ append_assoc before (page ∷ []) behind;
+        pages_are = not_blank_rest _ _ k within ∙ ap (λ list. (before ++ list) ++ behind) (here ∙ (rw written refl)) ∙ append_assoc before (page ∷ []) behind;
         wears = wears_both _ _ _ _ _ sooner now;
       }
 

@@ -1,5 +1,5 @@
 -- How the picture of a set that a transfer fills grows, to that of the set that is live afterwards.
-use Rattle.ee_core.proofs.Base.{rules, ◌≡◌, ◌≢◌, ◌⊎◌, inl, inr, ℕ, ◌+◌, ◌-◌, ◌%◌, ◌<◌, ◌≤◌, List, [], ◌∷◌, ◌++◌, length, get_or, refl, sym, subst, ap, ◌∙◌, arith, append_assoc, length-append, get_or-append_seam, cases_eq, cases_lt, le-leb, le-ltb, lt-leb, lt-ltb, ne_eqb, get_or_append_left, get_or_past, div-mul-add, mod-mul-add, Device, IsFormed, Size, Word, Erased, Held, IsFilling, slots_before, first_page, other, page_of_slot, place_of_slot, Side, Receive, keeps_side_same, split_by, Layout, AddsWords, Holds, PutsWord, SetsMark, number_written, opened_set, IsDrawn, picture_with_word}
+use Rattle.ee_core.proofs.Base.{rules, ◌≡◌, ◌≢◌, ◌⊎◌, inl, inr, ℕ, ◌+◌, ◌-◌, ◌%◌, ◌<◌, List, [], ◌∷◌, ◌++◌, length, get_or, refl, sym, subst, ap, ◌∙◌, arith, append_assoc, length-append, get_or-append_seam, cases_eq, cases_lt, lt-ltb, get_or_append_left, get_or_past, div-mul-add, mod-mul-add, Device, IsFormed, Size, Word, Erased, Held, IsFilling, slots_before, first_page, other, page_of_slot, place_of_slot, Side, Receive, keeps_side_same, split_by, Layout, AddsWords, Holds, PutsWord, SetsMark, number_written, opened_set, IsDrawn, picture_with_word}
 use Rattle.ee_core.proofs.Drawings.{drawn_as, drawn_same, mark_drawn, put_drawn, with_mark, with_word-elsewhere, with_word-there}
 use Rattle.ee_core.proofs.OpenedPages.{next_place, same_place}
 use Rattle.ee_core.specs.Transfers.{OpensForSlot, PutsInSlot}
@@ -7,27 +7,7 @@ use Rattle.ee_core.specs.declared.change.Change.{Change}
 
 -- the receive word of the page up to which the set is open, or of the next one
 pub opens_further : (size : Size) (generation last k : ℕ) (words : List Word) (page at : ℕ) → (k ≡ last) ⊎ (k ≡ last + 1) → with_mark k (Receive generation) (opened_set size generation last words) page at ≡ opened_set size generation k words page at
-opens_further size generation last k words page at near = elim (cases_eq at 0) [
-  | inr away ↦ with_word-elsewhere k 0 _ (opened_set size generation last words) _ at (inr away) ∙ rw (ne_eqb at 0 away) refl
-  | inl zeroth ↦ elim (cases_eq _ k) [
-    | inl here ↦
-        with_word-there k 0 _ (opened_set size generation last words) _ at here zeroth
-        ∙ elim (cases_lt _ k) [
-          | inl further ↦ rw (lt-leb k last further, zeroth, here, le-leb k k (omega arith)) refl
-          | inr within ↦ rw (le-leb k last within, zeroth, here, le-leb k k (omega arith)) refl
-        ]
-    | inr away ↦
-        with_word-elsewhere k 0 _ (opened_set size generation last words) _ at (inl away)
-        ∙ elim (cases_lt _ _) [
-          | inl above ↦
-              let beyond : k < page = elim near [ inl same ↦ omega arith | inr next ↦ omega arith ] in
-              rw (lt-leb page last above, lt-leb page k beyond) refl
-          | inr below ↦
-              let within : page ≤ k = elim near [ inl same ↦ omega arith | inr next ↦ omega arith ] in
-              rw (le-leb page last below, le-leb page k within) refl
-        ]
-  ]
-]
+opens_further size generation last k words page at near = search (rules, with_word-elsewhere, with_word-there, near)
 
 -- the word of the first free slot
 slot_is : (size : Size) (page at count : ℕ) → 3 < at → at < size.words → slots_before size page at ≡ count → (page ≡ page_of_slot size count) × (at ≡ place_of_slot size count)
@@ -41,8 +21,7 @@ one_word_more size generation last count words word page at long within =
     let before = opened_set size generation last words in
     elim (cases_lt 3 at) [
       | inr low ↦
-          with_word-elsewhere _ _ _ before _ at (inr (λ e. omega arith))
-          ∙ rw (le-ltb 3 at low) refl
+          search (rules, with_word-elsewhere)
       | inl slot ↦ elim (cases_eq _ _) [
         | inl same ↦
             let place = slot_is size page at count slot within same in
@@ -69,13 +48,7 @@ one_word_more size generation last count words word page at long within =
 
 -- the page of the first free slot is the one up to which the set is open, or the next one
 pub near : (size : Size) (count : ℕ) → 0 < size.words - 4 → (page_of_slot size count ≡ page_of_slot size (count - 1)) ⊎ (page_of_slot size count ≡ page_of_slot size (count - 1) + 1)
-near _ _ some = elim (cases_eq _ 0) [
-  | inl none ↦ inl (same_place _ _ some (inl none))
-  | inr more ↦ elim (cases_eq _ 0) [
-    | inl whole ↦ inr (next_place _ _ some (omega arith) whole)
-    | inr inside ↦ inl (same_place _ _ some (inr inside))
-  ]
-]
+near _ _ some = search (rules, same_place, next_place)
 
 -- the receive word and the word of a slot, in the device
 pub receive_opens : (side : Side) (old new : Device) (generation count : ℕ) (words : List Word) → IsFormed old → new.size ≡ old.size → page_of_slot old.size count < old.size.pages → SetsMark (first_page old.size side + page_of_slot old.size count) (Receive generation) old new → IsDrawn side old (opened_set old.size generation (page_of_slot old.size (count - 1)) words) → IsDrawn side new (opened_set old.size generation (page_of_slot old.size count) words)
@@ -101,12 +74,11 @@ adds_both _ _ new side generation _ more further first second = record {
 -- the page of the first free slot may be open
 pub open_already : (device : Device) (layout : Layout) (count : ℕ) → IsFilling device (other layout.side) (layout.generation + 1) count → count % (device.size.words - 4) ≢ 0 → OpensForSlot device device layout count
 open_already device layout _ filling inside =
-    let some : 0 < device.size.words - 4 = omega arith in
     record {
       keeps = keeps_side_same _ _ filling.formed;
       filling = filling;
       same_slots = refl;
-      opens = λ words _ drawn. subst (λ last. IsDrawn (other layout.side) device (opened_set device.size (layout.generation + 1) last words)) (sym (same_place _ _ some (inr inside))) drawn;
+      opens = search (rules, same_place);
       wear = refl;
     }
 
@@ -117,12 +89,10 @@ stages old mid new layout count change first second = record {
       let side = other layout.side in
       let generation = layout.generation + 1 in
       let word = Held (number_written change) in
-      let before = subst (λ n. IsDrawn side old (opened_set old.size generation (page_of_slot old.size (n - 1)) words)) long holds in
       let open_now =
-      subst (λ size. IsDrawn side mid (opened_set size generation (page_of_slot size count) words)) (sym first.keeps.same_size) (first.opens words long before) in
-      let last : count ≡ length (words ++ (word ∷ [])) - 1 = omega (arith, length-append words (word ∷ [])) in
+      subst (λ size. IsDrawn side mid (opened_set size generation (page_of_slot size count) words)) (sym first.keeps.same_size) (first.opens words long (subst (λ n. IsDrawn side old (opened_set old.size generation (page_of_slot old.size (n - 1)) words)) long holds)) in
       let there =
-      subst (λ n. IsDrawn side new (opened_set mid.size generation (page_of_slot mid.size n) (words ++ (word ∷ [])))) last (second.puts words long open_now) in
+      subst (λ n. IsDrawn side new (opened_set mid.size generation (page_of_slot mid.size n) (words ++ (word ∷ [])))) (omega (arith, length-append words (word ∷ []))) (second.puts words long open_now) in
       subst (λ size. IsDrawn side new (opened_set size generation (page_of_slot size (length (words ++ (word ∷ [])) - 1)) (words ++ (word ∷ [])))) (sym second.keeps.same_size) there;
 }
 

@@ -1,5 +1,5 @@
 -- What the parts of a transfer leave in the set that it fills, one after another.
-use Rattle.ee_core.proofs.Base.{rules, ◌≡◌, inl, inr, ℕ, ◌+◌, ◌<◌, ◌≤◌, Bool, true, false, cond, Some, None, List, [], ◌∷◌, ◌++◌, length, get_or, take, drop, refl, sym, subst, ap, ◌∙◌, arith, suc, length-append, ◌==◌, ◌||◌, fun_ext, cases_Bool, length-take-le, take-append-drop, take_all, take_more, element, Device, slot_count, Word, Held, Change, Forget, Map, Put, changed_by, map_after, live_in, IsNextLive, other, set_of, slots_of, Layout, AddsWords, map_in, replaced_map, AddsPartly, elements_of, elements_to, map_without, moved_words, put_words, AreApart, changes_of_puts, forgets_of, names, puts_of, Place, keeps_side_both, keeps_side_same}
+use Rattle.ee_core.proofs.Base.{rules, ◌≡◌, inl, inr, ℕ, ◌+◌, ◌<◌, ◌≤◌, Bool, true, false, cond, Some, None, List, [], ◌∷◌, ◌++◌, length, get_or, take, drop, refl, sym, subst, ap, ◌∙◌, arith, suc, length-append, ◌==◌, ◌||◌, fun_ext, cases_Bool, length-take-le, take-append-drop, take_all, take_more, element, Device, slot_count, Word, Held, Change, Forget, Map, Put, changed_by, map_after, live_in, IsNextLive, other, Layout, map_in, replaced_map, elements_of, elements_to, map_without, moved_words, put_words, AreApart, changes_of_puts, forgets_of, names, puts_of, Place, keeps_side_both, keeps_side_same}
 use Rattle.ee_core.specs.Transfers.{Filled, FilledPartly, IsNewlyOpened, IsOpenAt}
 use Rattle.ee_core.specs.declared.change.Put as listed
 use Rattle.ee_core.proofs.CopiedMaps.{at_first, at_last, changed_by-append, changed_by-other, copied_to, nothing, passed, so_far, then_all}
@@ -16,20 +16,14 @@ both_filled _ mid new layout _ _ _ words more _ _ first second = record {
   keeps = keeps_side_both _ _ _ _ first.keeps second.keeps;
   filling = second.filling;
   map_is = second.map_is;
-  adds = adds_both _ _ _ _ _ _ _ _ first.adds
-      (subst (λ n. AddsWords mid new layout.side (layout.generation + 1) n more) first.as_many second.adds);
+  adds = search (rules, adds_both);
   as_many = omega (arith, length-append words more);
   wear = second.wear ∙ first.wear;
 }
 
 -- or more in part
 pub then_partly : (old mid new : Device) (layout : Layout) (count slot : ℕ) (words more : List Word) (held : Map) → Filled old mid layout count words held slot → FilledPartly mid new layout slot more → FilledPartly old new layout count (words ++ more)
-then_partly _ mid new layout _ _ _ more _ first second = record {
-  keeps = keeps_side_both _ _ _ _ first.keeps second.keeps;
-  begun = adds_then _ _ _ _ _ _ _ _ first.adds
-      (subst (λ n. AddsPartly mid new layout.side (layout.generation + 1) n more) first.as_many second.begun);
-  wear = second.wear ∙ first.wear;
-}
+then_partly _ mid new layout _ _ _ more _ first second = search (rules, keeps_side_both, adds_then)
 
 -- some words in part are more words in part
 partly_filled : (old new : Device) (layout : Layout) (count : ℕ) (words rest : List Word) → FilledPartly old new layout count words → FilledPartly old new layout count (words ++ rest)
@@ -51,16 +45,14 @@ module _ (old : Device) (layout : Layout) (place : Place) (changes : List Change
   none_filled at only = record {
     keeps = keeps_side_same _ _ at.filling.formed;
     filling = at.filling;
-    map_is = at_first _ _ _ (meaning-zero (slots_of (set_of layout.side old))) only;
-    adds = subst (λ words. AddsWords old old layout.side (layout.generation + 1) place.slot words) (sym (no_words map changes)) (adds_none _ _ _ _);
+    map_is = search (rules, at_first, meaning-zero);
+    adds = search (rules, no_words, adds_none);
     as_many = omega (arith, ap length (no_words map changes));
     wear = refl;
   }
 
   pub all_filled : (above : ℕ) (now : Device) (slot : ℕ) → FilledTo above now slot → above < 65535 → IsNextLive map above None → Filled old now layout place.slot (elements_of (others map changes)) (replaced_map start (names changes) map) slot
-  all_filled above now slot filled below none =
-      subst (λ words. Filled old now layout place.slot words (replaced_map start (names changes) map) slot) (sym (all_words _ changes _ below none))
-      (subst (λ said. Filled old now layout place.slot (elements_to (others map changes) above) said slot) (fun_ext (at_last start _ (names changes) _ none)) filled)
+  all_filled above now slot filled below none = search (rules, all_words, at_last)
 
   module _ (above next value : ℕ) (mid new : Device) (slot : ℕ) (is : IsNextLive map above (Some (next, value))) (filled : FilledTo above mid slot) where
     abbrev word : List Word
@@ -71,8 +63,7 @@ module _ (old : Device) (layout : Layout) (place : Place) (changes : List Change
     next_filled more passing copying = elim (cases_Bool _) [
       | inl here ↦
           let words = subst (λ words. Filled old mid layout place.slot words (so_far start map (names changes) above) slot) (sym (passed_word _ _ _ _ _ is here)) filled in
-          let same = subst (λ said. Filled old mid layout place.slot (elements_to (others map changes) next) said slot) (fun_ext (passed start _ _ _ _ _ is here)) words in
-          subst (λ n. FilledTo next new n) (sym (passing here).0) (subst (λ device. FilledTo next device slot) (sym (passing here).1) same)
+          subst (λ n. FilledTo next new n) (sym (passing here).0) (subst (λ device. FilledTo next device slot) (sym (passing here).1) (subst (λ said. Filled old mid layout place.slot (elements_to (others map changes) next) said slot) (fun_ext (passed start _ _ _ _ _ is here)) words))
       | inr apart ↦
           let further = both_filled old mid new layout place.slot slot more (elements_to (others map changes) above) word (so_far start map (names changes) above) (map_after (Put next value) (map_in (other layout.side) mid)) filled (copying apart) in
           let words = subst (λ words. Filled old new layout place.slot words (map_after (Put next value) (map_in (other layout.side) mid)) more) (sym (copied_word _ _ _ _ _ is apart)) further in
@@ -95,8 +86,7 @@ module _ (old : Device) (layout : Layout) (place : Place) (changes : List Change
       -- so there is room for it
       pub room : (capacity : ℕ) → place.slot + length (elements_of (others map changes)) ≤ capacity → slot < capacity
       room _ fits =
-          let all = elements_to (others map changes) above ++ word in
-          omega (arith, ap length front.1, length-append all front.0, length-append (elements_to (others map changes) above) word)
+          omega (arith, ap length front.1, length-append (elements_to (others map changes) above ++ word) front.0, length-append (elements_to (others map changes) above) word)
 
 -- ---- the values that are put come first
 
@@ -122,7 +112,7 @@ map_of_first puts count = changed_by (puts_of (take count puts)) nothing
 
 module _ (puts : List listed.Put) (count : ℕ) (put : listed.Put) (within : count < length puts) (is : put ≡ get_or puts count put) where
   one_put_more : take (count + 1) puts ≡ take count puts ++ (put ∷ [])
-  one_put_more = take_more _ _ _ within ∙ ap (λ last. take count puts ++ (last ∷ [])) (sym is)
+  one_put_more = search (rules, take_more)
 
   pub words_more : words_to puts (count + 1) ≡ words_to puts count ++ (Held (element put.address put.value) ∷ [])
   words_more = search (rules, one_put_more, puts-append, words-append)
@@ -157,18 +147,15 @@ module _ (old : Device) (layout : Layout) (puts : List listed.Put) where
 
     pub one_put : (more : ℕ) → Filled mid new layout slot put_word (map_after (Put put.address put.value) (map_in (other layout.side) mid)) more → FilledBy (count + 1) new more
     one_put more staged =
-        let held = fun_ext filled.map_is in
-        let here = subst (λ said. Filled mid new layout slot put_word (map_after (Put put.address put.value) said) more) held staged in
-        let both = both_filled old mid new layout 0 slot more (words_to puts count) put_word (map_of_first puts count) (map_after (Put put.address put.value) (map_of_first puts count)) filled here in
+        let here = subst (λ said. Filled mid new layout slot put_word (map_after (Put put.address put.value) said) more) (fun_ext filled.map_is) staged in
         subst (λ words. Filled old new layout 0 words (map_of_first puts (count + 1)) more) (sym (words_more puts count put within is))
-        (subst (λ said. Filled old new layout 0 (words_to puts count ++ put_word) said more) (sym (map_more puts count put within is)) both)
+        (subst (λ said. Filled old new layout 0 (words_to puts count ++ put_word) said more) (sym (map_more puts count put within is)) (both_filled old mid new layout 0 slot more (words_to puts count) put_word (map_of_first puts count) (map_after (Put put.address put.value) (map_of_first puts count)) filled here))
 
     pub one_put_partly : FilledPartly mid new layout slot put_word → FilledPartly old new layout 0 (put_words (puts_of puts))
     one_put_partly partly =
-        let there = then_partly old mid new layout 0 slot (words_to puts count) put_word (map_of_first puts count) filled partly in
         subst (λ words. FilledPartly old new layout 0 words) (sym (words_rest puts (count + 1)))
         (partly_filled old new layout 0 (words_to puts (count + 1)) (put_words (puts_of (drop (count + 1) puts)))
-        (subst (λ words. FilledPartly old new layout 0 words) (sym (words_more puts count put within is)) there))
+        (subst (λ words. FilledPartly old new layout 0 words) (sym (words_more puts count put within is)) (then_partly old mid new layout 0 slot (words_to puts count) put_word (map_of_first puts count) filled partly)))
 
     -- so there is room for it
     pub put_room : (capacity : ℕ) → length puts ≤ capacity → slot < capacity
@@ -184,7 +171,7 @@ forgets_words [] = refl
 forgets_words (put ∷ puts) = forgets_words puts
 
 forgets_nothing : (named : ℕ) → map_after (Forget named) nothing ≡ nothing
-forgets_nothing named = fun_ext (λ address. elim (cases_Bool (named == address)) [ inl here ↦ rw here refl | inr away ↦ rw away refl ])
+forgets_nothing named = search rules
 
 forgets_map : (puts : List listed.Put) → changed_by (forgets_of puts) nothing ≡ nothing
 forgets_map [] = refl
@@ -211,15 +198,13 @@ module _ (old new : Device) (layout : Layout) (puts : List listed.Put) where
   pub carried_first : (forgets : Bool) (values : List listed.Put) (slot : ℕ) → values ≡ cond forgets [] puts → Filled old new layout 0 (put_words (puts_of values)) (changed_by (puts_of values) nothing) slot
       → Filled old new layout 0 (put_words (changes_of_puts puts forgets)) (changed_by (changes_of_puts puts forgets) nothing) slot
   carried_first true _ slot is filled =
-      let none = subst (λ found. Filled old new layout 0 (put_words (puts_of found)) (changed_by (puts_of found) nothing) slot) is filled in
       subst (λ words. Filled old new layout 0 words (changed_by (forgets_of puts) nothing) slot) (sym (forgets_words puts))
-      (subst (λ said. Filled old new layout 0 [] said slot) (sym (forgets_map puts)) none)
+      (subst (λ said. Filled old new layout 0 [] said slot) (sym (forgets_map puts)) (subst (λ found. Filled old new layout 0 (put_words (puts_of found)) (changed_by (puts_of found) nothing) slot) is filled))
   carried_first false _ slot is filled = subst (λ found. Filled old new layout 0 (put_words (puts_of found)) (changed_by (puts_of found) nothing) slot) is filled
 
   pub carried_partly : (forgets : Bool) (values : List listed.Put) → values ≡ cond forgets [] puts → FilledPartly old new layout 0 (put_words (puts_of values)) → FilledPartly old new layout 0 (put_words (changes_of_puts puts forgets))
   carried_partly true _ is partly =
-      let none = subst (λ found. FilledPartly old new layout 0 (put_words (puts_of found))) is partly in
-      subst (λ words. FilledPartly old new layout 0 words) (sym (forgets_words puts)) none
+      subst (λ words. FilledPartly old new layout 0 words) (sym (forgets_words puts)) (subst (λ found. FilledPartly old new layout 0 (put_words (puts_of found))) is partly)
   carried_partly false _ is partly = subst (λ found. FilledPartly old new layout 0 (put_words (puts_of found))) is partly
 
   -- and so the others are those that the list leaves
@@ -228,7 +213,7 @@ module _ (old new : Device) (layout : Layout) (puts : List listed.Put) where
   others_carried _ _ _ _ map filled = search (rules, fun_ext, carried_names, carried_without)
 
   pub others_carried_partly : (forgets : Bool) (slot : ℕ) (map : Map) → FilledPartly old new layout slot (elements_of (map_without (puts_of puts) map)) → FilledPartly old new layout slot (elements_of (map_without (changes_of_puts puts forgets) map))
-  others_carried_partly forgets slot map partly = subst (λ left. FilledPartly old new layout slot (elements_of left)) (sym (carried_without puts forgets map)) partly
+  others_carried_partly forgets slot map partly = search (rules, carried_without)
 
 -- the changes come first, and then the other addresses
 module _ (changes : List Change) (old mid new : Device) (layout : Layout) (slot : ℕ) (first : Filled old mid layout 0 (put_words changes) (changed_by changes nothing) slot) where
@@ -269,7 +254,7 @@ module _ (changes : List Change) (old mid new : Device) (layout : Layout) (slot 
       (then_partly old mid new layout 0 slot (put_words changes) (elements_of (others now changes)) (changed_by changes nothing) first second)
 
 pub first_partly : (changes : List Change) (old new : Device) (layout : Layout) (map : Map) → FilledPartly old new layout 0 (put_words changes) → FilledPartly old new layout 0 (moved_words changes map)
-first_partly changes old new layout map partly = partly_filled old new layout 0 (put_words changes) (elements_of (others map changes)) partly
+first_partly changes old new layout map partly = search (rules, partly_filled)
 
 -- the values that are put find room
 pub puts_fit : (puts : List listed.Put) (forgets : Bool) (values : List listed.Put) (map : Map) (capacity : ℕ) → values ≡ cond forgets [] puts → AreApart (changes_of_puts puts forgets) → live_in (changed_by (changes_of_puts puts forgets) map) ≤ capacity → length values ≤ capacity

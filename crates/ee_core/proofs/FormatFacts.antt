@@ -21,9 +21,8 @@ erase_goes_on _ _ _ on done = rw done (record { same_size = refl; same_power = r
 pub blanks_page : (page : ℕ) (mid new : Device) → IsFormed mid → page < page_count mid.size → is_blank (page_at mid page) ≡ false → IsOn mid → new ≡ with_page_erased page mid → BlanksPage mid new page
 blanks_page page mid new formed h written on done =
     let words = replicate mid.size.words Erased in
-    let in_range : page < length mid.image = omega arith in
     let there =
-    ap (λ device. page_at device page) done ∙ get_or-set_same mid.image page words [] in_range in
+    ap (λ device. page_at device page) done ∙ get_or-set_same mid.image page words [] (omega arith) in
     record {
       others = λ k apart. ap (λ device. page_at device k) done ∙ get_or-set_other mid.image page k words [] apart;
       blank = ap is_blank there ∙ blank_page _ _ (length-replicate mid.size.words Erased) (λ k below. ap is_written (get_or-replicate mid.size.words k Erased Erased below));
@@ -35,9 +34,8 @@ blanks_page page mid new formed h written on done =
 pub blank_more : (page : ℕ) (mid new : Device) → ((k : ℕ) → k < page → is_blank (page_at mid k) ≡ true) → BlanksPage mid new page → (k : ℕ) → k < page + 1 → is_blank (page_at new k) ≡ true
 blank_more page _ new before blanks k h = elim (cases_lt k _) [
   | inl earlier ↦
-      let apart : k ≢ page = λ e. omega (arith, earlier) in
-      ap is_blank (blanks.others k apart) ∙ before k earlier
-  | inr last ↦ let e : k ≡ page = omega arith in ap (λ n. is_blank (page_at new n)) e ∙ blanks.blank
+      ap is_blank (blanks.others k (λ e. omega (arith, earlier))) ∙ before k earlier
+  | inr last ↦ ap (λ n. is_blank (page_at new n)) (omega arith) ∙ blanks.blank
 ]
 
 pub all_blank : (device : Device) (pages : ℕ) → length device.image ≤ pages → ((k : ℕ) → k < pages → is_blank (page_at device k) ≡ true) → All (λ page. is_blank page ≡ true) device.image

@@ -21,8 +21,7 @@ again_first _ earlier (Some other) e = let away = (neither _ (is_put earlier oth
 none_again : (put : listed.Put) (puts : List listed.Put) → ((place : ℕ) → is_put_again (put ∷ []) (slice_get puts place) ≡ false) → names (puts_of puts) put.address ≡ false
 none_again _ [] _ = refl
 none_again put (other ∷ puts) each =
-    let away = (neither _ _ (each 0)).0 in
-    let here = ne_eqb other.address put.address (apart _ _ away) in
+    let here = ne_eqb other.address put.address (apart _ _ ((neither _ _ (each 0)).0)) in
     rw here (none_again put puts (λ place. each (suc place)))
 
 pub each_apart : (puts : List listed.Put) → All (λ put. IsAddress put.address) puts → IsEachOnce puts → AreApart (puts_of puts)

@@ -1,5 +1,5 @@
 -- The marks that an opening sets in the live set and in the other one, page after page.
-use Rattle.ee_core.proofs.Base.{rules, ◌≡◌, ◌≢◌, ◌⊎◌, inl, inr, ℕ, ◌+◌, ◌-◌, ◌<◌, ◌≤◌, true, false, refl, sym, subst, ap, ◌∙◌, arith, cases_lt, true≢false, mul-le-mul_right, Device, page_at, GoesOn, Erased, slice_index_or, IsLayout, IsLive, is_blank, is_marked, is_written, IsMarkBehind, fill_of, first_page, page_of_slot, set_of, slots_of, Layout, Side, Mark, Active, Valid, Erasing, page_in_range, slot_below, IsSameBut, KeepsMarks, SetsMark, Stays, IsLiveMarked, IsOldMarked, last_used}
+use Rattle.ee_core.proofs.Base.{rules, ◌≡◌, ◌≢◌, ◌⊎◌, inl, inr, ℕ, ◌+◌, ◌-◌, ◌<◌, ◌≤◌, true, false, refl, sym, subst, ap, ◌∙◌, arith, cases_lt, true≢false, Device, page_at, GoesOn, IsLayout, IsLive, is_blank, is_marked, IsMarkBehind, fill_of, first_page, page_of_slot, set_of, slots_of, Layout, Side, Mark, Active, Valid, Erasing, page_in_range, slot_below, IsSameBut, KeepsMarks, SetsMark, Stays, IsLiveMarked, IsOldMarked, last_used}
 use Rattle.ee_core.proofs.SetPages.{first_below}
 use Rattle.ee_core.proofs.AfterCalls.{goes_on_same}
 use Rattle.ee_core.proofs.Marks.{same_stays}
@@ -14,22 +14,17 @@ stays_both _ _ _ _ _ first second = search rules
 
 -- the page of the last used slot, counted from the set's first
 pub last_is : (layout : Layout) (device : Device) → IsLayout device layout → layout.current ≡ first_page device.size layout.side + last_used device layout.side
-last_is layout device is = is.current ∙ ap (λ fill. first_page device.size layout.side + page_of_slot device.size (fill - 1)) is.fill
+last_is layout device is = search rules
 
 pub last_in_range : (layout : Layout) (device : Device) → IsLayout device layout → last_used device layout.side < device.size.pages
-last_in_range layout device is =
-    let fill = fill_of (slots_of (set_of layout.side device)) in
-    page_in_range device _ (slot_below _ _ is.live.formed (fill_fits _ _ is.live.formed))
+last_in_range layout device is = search (rules, page_in_range, slot_below, fill_fits)
 
 pub current_below : (layout : Layout) (device : Device) → IsLayout device layout → layout.current < 128
 current_below layout device is = omega (arith, last_is layout device is, last_in_range layout device is, first_below device.size layout.side)
 
 -- a page up to that one stands behind written slots
 mark_behind : (layout : Layout) (device : Device) (page : ℕ) (mark : Mark) → IsLayout device layout → page ≤ last_used device layout.side → (mark ≡ Active) ⊎ (mark ≡ Valid) → IsMarkBehind device layout.side page mark
-mark_behind layout device _ _ is h kind =
-    let fill = fill_of (slots_of (set_of layout.side device)) in
-    let row = device.size.words - 4 in
-    record { in_range = omega (arith, last_in_range layout device is); behind = omega (arith, mul-le-mul_right row h); active_or_valid = kind }
+mark_behind layout device _ _ is h kind = search (rules, last_in_range)
 
 pub valid_behind : (layout : Layout) (device : Device) (page : ℕ) → IsLayout device layout → first_page device.size layout.side ≤ page → page < layout.current → IsMarkBehind device layout.side (page - first_page device.size layout.side) Valid
 valid_behind layout device page is _ below =
@@ -42,28 +37,26 @@ last_behind layout device mark is kind =
 -- where the live set is marked, each mark is set
 pub valid_already : (layout : Layout) (device : Device) (page : ℕ) → IsLayout device layout → IsLiveMarked device layout.side → first_page device.size layout.side ≤ page → page < layout.current → is_marked device page Valid ≡ true
 valid_already layout device page is marked from below =
-    let place : page ≡ first_page device.size layout.side + (page - first_page device.size layout.side) = omega arith in
-    ap (λ n. is_marked device n Valid) place
+    ap (λ n. is_marked device n Valid) (omega arith)
     ∙ marked.valid (page - first_page device.size layout.side) (omega (arith, last_is layout device is))
 
 -- one page more is marked
 pub valid_more : (first page : ℕ) (mid new : Device) → first ≤ page → ((k : ℕ) → k < page - first → is_marked mid (first + k) Valid ≡ true) → KeepsMarks mid new → is_marked new page Valid ≡ true → (k : ℕ) → k < page + 1 - first → is_marked new (first + k) Valid ≡ true
 valid_more first page _ new _ before keeps here k h = elim (cases_lt k _) [
   | inl earlier ↦ keeps (first + k) Valid (before k earlier)
-  | inr last ↦ let e : first + k ≡ page = omega arith in ap (λ n. is_marked new n Valid) e ∙ here
+  | inr last ↦ search rules
 ]
 
 -- the marks of the live set, said of the device as it was
 pub live_marked : (layout : Layout) (old mid new : Device) → IsLayout old layout → Stays old new layout.side layout.generation → ((k : ℕ) → k < layout.current - first_page old.size layout.side → is_marked mid (first_page old.size layout.side + k) Valid ≡ true) → KeepsMarks mid new → is_marked new layout.current Active ≡ true → IsLiveMarked new layout.side
 live_marked layout old _ new is stays valid keeps active =
-    let new_is = layout_stays layout old new is stays in
     let first = ap (λ size. first_page size layout.side) stays.keeps.same_size in
-    let place = sym (last_is layout new new_is) in
+    let place = sym (last_is layout new (layout_stays layout old new is stays)) in
     record {
       valid = λ page below.
           ap (λ n. is_marked new (n + page) Valid) first
           ∙ keeps (first_page old.size layout.side + page) Valid (valid page (omega arith));
-      active = ap (λ n. is_marked new n Active) place ∙ active;
+      active = search rules;
     }
 
 -- marks that a further call keeps
@@ -84,16 +77,7 @@ IsPageDone device page = (is_blank (page_at device page) ≡ true) ⊎ (is_marke
 
 -- one page more is done, and the others are as before
 pub done_more : (first page : ℕ) (mid new : Device) → first ≤ page → ((k : ℕ) → k < page - first → IsPageDone mid (first + k)) → IsSameBut page mid new → IsPageDone new page → (k : ℕ) → k < page + 1 - first → IsPageDone new (first + k)
-done_more first page _ new _ before same here k h = elim (cases_lt k _) [
-  | inl earlier ↦
-      let apart : first + k ≢ page = λ e. omega (arith, earlier) in
-      let words = same (first + k) apart in
-      elim (before k earlier) [
-        | inl blank ↦ inl (ap is_blank words ∙ blank)
-        | inr marked ↦ inr (ap (λ page. is_written (slice_index_or page 3 Erased)) words ∙ marked)
-      ]
-  | inr last ↦ let e : page ≡ first + k = omega arith in subst (λ n. IsPageDone new n) e here
-]
+done_more first page _ new _ before same here k h = search rules
 
 -- what marking a page of the other set leaves, if it was not done
 pub record MarksPage (mid new : Device) (side : Side) (generation page : ℕ) : Type 0 where
@@ -107,7 +91,7 @@ pub record MarksPage (mid new : Device) (side : Side) (generation page : ℕ) : 
   pub passed : is_blank (page_at mid page) ≡ true → new ≡ mid
 
 pub marks_none : (device : Device) (side : Side) (generation page : ℕ) → IsLive device side generation → is_blank (page_at device page) ≡ true → MarksPage device device side generation page
-marks_none _ _ _ _ live blank = record { stays = same_stays _ _ _ _ live refl; marks = λ p mark was. was; others = λ p apart. refl; done = inl blank; no_step = λ done. refl; power = goes_on_same _; waiting = λ written. absurd (true≢false (sym blank ∙ written)); passed = λ is. refl }
+marks_none _ _ _ _ live blank = record { stays = same_stays _ _ _ _ live refl; marks = λ p mark was. was; others = λ p apart. refl; done = inl blank; no_step = λ done. refl; power = goes_on_same _; waiting = search rules; passed = λ is. refl }
 
 -- a page that is not blank is done only by its mark
 pub marked_from : (device : Device) (page : ℕ) → is_blank (page_at device page) ≡ false → IsPageDone device page → is_marked device page Erasing ≡ true
@@ -116,14 +100,13 @@ marked_from _ _ _ (inr marked) = marked
 
 pub marks_one : (mid new : Device) (side : Side) (generation page : ℕ) → is_blank (page_at mid page) ≡ false → Stays mid new side generation → KeepsMarks mid new → IsSameBut page mid new → is_marked new page Erasing ≡ true → SetsMark page Erasing mid new → (is_marked mid page Erasing ≡ true → new ≡ mid) → GoesOn mid new → MarksPage mid new side generation page
 marks_one mid _ _ _ page written stays marks others marked sets no_step power =
-    record { stays = stays; marks = marks; others = others; done = inr marked; no_step = λ done. no_step (marked_from mid page written done); power = power; waiting = λ is. sets; passed = λ blank. absurd (true≢false (sym blank ∙ written)) }
+    record { stays = stays; marks = marks; others = others; done = inr marked; no_step = λ done. no_step (marked_from mid page written done); power = power; waiting = λ is. sets; passed = search rules }
 
 -- where the other set is marked, each page of it is done
 pub done_already : (device : Device) (side : Side) (page : ℕ) → IsOldMarked device side → first_page device.size side ≤ page → page < first_page device.size side + device.size.pages → IsPageDone device page
 done_already device side page marked from below =
-    let place : first_page device.size side + (page - first_page device.size side) ≡ page = omega arith in
-    subst (λ n. IsPageDone device n) place (marked (page - first_page device.size side) (omega arith))
+    subst (λ n. IsPageDone device n) (omega arith) (marked (page - first_page device.size side) (omega arith))
 
 -- in a device that is as before
 pub old_marks_kept : (side : Side) (old new : Device) → new ≡ old → IsOldMarked old side → IsOldMarked new side
-old_marks_kept side _ _ same marked = subst (λ device. IsOldMarked device side) (sym same) marked
+old_marks_kept side _ _ same marked = search rules

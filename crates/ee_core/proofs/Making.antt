@@ -1,6 +1,6 @@
 -- What an append or a transfer makes of a state, and when each is done.
-use Rattle.ee_core.proofs.Base.{rules, ◌≡◌, ◌≢◌, ◌⊎◌, inl, inr, ℕ, ◌+◌, ◌-◌, ◌<◌, ◌≤◌, ◌&&◌, Bool, true, false, cond, Option, Some, None, is_some, List, [], ◌∷◌, length, nat_lt, refl, sym, subst, ap, ◌∙◌, arith, Result, Ok, Err, OnErr, OnOk, not, cases_lt, common_steps, filter, Device, IsFormed, IsOff, IsOn, Ends, GoesOn, IsCut, Word, Erased, Held, Torn, IsAddress, IsGeneration, KeepsLiveSet, IsLive, Change, Map, Put, Forget, changed_by, map_after, live_in, meaning, is_blank, is_written, address_of, TakesSlot, fill_of, first_page, is_mark, other, pending_of, set_of, slots_of, word_of, Side, live_commits, change_counts, full_set_has_no_blank_page, live_within_fill, length-set_of, length-slots, Appends, HaveNoGeneration, IsAccepted, IsCutAppend, IsCutChange, IsCutMaking, IsCutMove, IsFull, Moves, NeedsTransfer, Proceeds, greatest_generation, pages_left, ErasesPartly, IsDrawnPartly, MovesPartly, IsDrawn, filled_set, is_used, moved_words, number_of_change, picture_of, retired_pages, with_change, AreApart, ForgetsHeld, HasMoved, IsSameSet, map_change, number_written, IsMarked, IsStore, Wears, appended_state, capacity, moved_state, next_live, not_blank_in, pending_pages, pending_pages_in, torn_state, state_of, used_pages_in}
-use Rattle.ee_codec.specs.Reading.{mark_of, receive_of}
+use Rattle.ee_core.proofs.Base.{rules, ◌≡◌, ◌≢◌, ◌⊎◌, inl, inr, ℕ, ◌+◌, ◌-◌, ◌<◌, ◌≤◌, ◌&&◌, Bool, true, false, cond, Option, Some, None, is_some, List, [], ◌∷◌, length, nat_lt, refl, sym, ap, ◌∙◌, arith, Result, Ok, Err, OnErr, OnOk, common_steps, filter, Device, IsFormed, IsOff, IsOn, Ends, GoesOn, IsCut, Word, Erased, Held, Torn, IsAddress, IsGeneration, KeepsLiveSet, IsLive, Change, Map, Put, Forget, changed_by, map_after, live_in, meaning, address_of, TakesSlot, fill_of, first_page, other, pending_of, set_of, slots_of, Side, live_commits, change_counts, full_set_has_no_blank_page, live_within_fill, length-set_of, length-slots, Appends, HaveNoGeneration, IsAccepted, IsCutAppend, IsCutChange, IsCutMaking, IsCutMove, IsFull, Moves, NeedsTransfer, Proceeds, greatest_generation, pages_left, ErasesPartly, IsDrawnPartly, MovesPartly, IsDrawn, filled_set, is_used, moved_words, number_of_change, picture_of, retired_pages, with_change, AreApart, ForgetsHeld, HasMoved, IsSameSet, map_change, number_written, IsMarked, IsStore, Wears, appended_state, capacity, moved_state, not_blank_in, pending_pages, pending_pages_in, torn_state, state_of, used_pages_in}
+use Rattle.ee_codec.specs.Reading.{receive_of}
 use Rattle.ee_core.specs.Appending.{MayTakeSlot}
 use Rattle.ee_core.specs.Shown.{ShowsAppended, ShowsCutAppend, ShowsCutMove, ShowsMoved, is_left}
 use Rattle.ee_core.specs.declared.change.Change as declared
@@ -22,9 +22,7 @@ filter_few p (x ∷ xs) = kept_few (p x) x (filter p xs) xs (filter_few p xs)
 
 -- no more pages wait than a set has
 pub few_pending : (device : Device) (side : Side) → IsFormed device → pending_of (set_of side device) ≤ device.size.pages
-few_pending device side formed =
-    let most = filter_few (λ page. not (is_blank page)) (set_of side device) in
-    omega (arith, length-set_of side _ formed)
+few_pending device side formed = search (rules, filter_few, length-set_of)
 
 module _ (old new : Device) (side : Side) (generation : ℕ) (live : IsLive old side generation) where
   pub fill_was : (state_of old).fill ≡ fill_of (slots_of (set_of side old))
@@ -73,19 +71,10 @@ module _ (old new : Device) (side : Side) (generation : ℕ) (live : IsLive old 
 
   pub shows_moved : (changes : List Change) → NeedsTransfer (capacity old) (state_of old) changes → new.size ≡ old.size
       → IsDrawn (other side) new (filled_set old.size (generation + 1) (moved_words changes (meaning (slots_of (set_of side old))))) → IsDrawn side new (retired_pages (is_used side old) (picture_of side old)) → ShowsMoved old changes new side generation
-  shows_moved changes needed sizes new_drawn old_drawn = record {
-    new_pages =
-        let map = ap (λ state. state.map) (state_is _ _ _ live) in
-        subst (λ said. IsDrawn (other side) new (filled_set old.size (generation + 1) (moved_words changes said))) (sym map) new_drawn;
-    old_pages =
-        drawn_as _ new _ _ old_drawn
-        (λ page at h within. ap (λ waits. retired_pages (λ p. waits) (picture_of side old) page at) (used_are_left changes page needed (omega (arith, ap (λ size. size.pages) sizes))));
-  }
+  shows_moved changes needed sizes new_drawn old_drawn = grind (arith, common_steps, state_is, drawn_as, used_are_left)
 
   pub shows_cut_move : (changes : List Change) → ErasesPartly (first_page old.size (other side)) (set_of (other side) old) old new ⊎ MovesPartly old new side generation (moved_words changes (meaning (slots_of (set_of side old)))) → ShowsCutMove old changes new side generation
-  shows_cut_move changes left =
-      let map = ap (λ state. state.map) (state_is _ _ _ live) in
-      subst (λ said. ErasesPartly (first_page old.size (other side)) (set_of (other side) old) old new ⊎ MovesPartly old new side generation (moved_words changes said)) (sym map) left
+  shows_cut_move changes left = search (rules, state_is)
 
   pub appends : (change : Change) → Proceeds old (change ∷ []) → GoesOn old new → fill_of (slots_of (set_of side old)) < capacity old → TakesSlot old new side generation (map_after change (meaning (slots_of (set_of side old)))) → IsSameSet (other side) old new → new.wear ≡ old.wear → ShowsAppended old change new side → Appends old change new
   appends _ proceeds goes_on free takes same wear shows = search (rules, fill_was, state_is, state_appended, pending_stays)
@@ -98,7 +87,7 @@ module _ (old new : Device) (side : Side) (generation : ℕ) (live : IsLive old 
   pub cut_in_append : (change : Change) → Proceeds old (change ∷ []) → IsCut old new → fill_of (slots_of (set_of side old)) < capacity old → IsSameSet (other side) old new
       → MayTakeSlot old new side generation change → new.wear ≡ old.wear → ShowsCutAppend old change new side → IsCutChange old change new
   cut_in_append change proceeds cut free same left wear shows = record {
-    free_words = λ _. (side, generation, live.live, shows);
+    free_words = search rules;
     used_words = λ all. absurd (omega (arith, fill_was));
     proceeds = proceeds;
     cut = cut;
@@ -113,16 +102,7 @@ module _ (old new : Device) (side : Side) (generation : ℕ) (live : IsLive old 
       state_moved _ _ _ _ live _ has ∙ ap (λ n. moved_state n changes (state_of old)) (pending_left changes needed)
 
   pub moves : (changes : List Change) → Proceeds old changes → GoesOn old new → NeedsTransfer (capacity old) (state_of old) changes → HasMoved old new side generation changes → Wears (not_blank_in (other side) old) old new → ShowsMoved old changes new side generation → Moves old changes new
-  moves changes proceeds goes_on needed has wear shows = record {
-    proceeds = proceeds;
-    goes_on = goes_on;
-    needed = needed;
-    few_left = subst (λ n. n ≤ old.size.pages) (pending_left changes needed) (few_pending old side live.formed);
-    state_is = state_left changes needed has;
-    live_is = has.live.live ∙ ap next_live (sym live.live);
-    image = (side, generation, live.live, shows);
-    wear = subst (λ pages. Wears pages old new) (sym pending_was) wear;
-  }
+  moves changes proceeds goes_on needed has wear shows = search (rules, pending_left, few_pending, state_is, state_left, pending_was)
 
   cut_move : (changes : List Change) → NeedsTransfer (capacity old) (state_of old) changes → pending_of (set_of (other side) new) ≤ old.size.pages → KeepsLiveSet old new side generation ⊎ HasMoved old new side generation changes
       → IsCutMove old.size.pages (pages_left changes old) (state_of old) changes (state_of new)
@@ -134,7 +114,7 @@ module _ (old new : Device) (side : Side) (generation : ℕ) (live : IsLive old 
         → KeepsLiveSet old new side generation ⊎ HasMoved old new side generation changes → ShowsCutMove old changes new side generation → IsCutMaking old changes new
     cut_in_move [] _ needed _ _ = absurd needed
     cut_in_move (change ∷ []) proceeds needed left shows = record {
-      used_words = λ _. (side, generation, live.live, shows);
+      used_words = search rules;
       free_words = λ less. absurd (omega arith);
       proceeds = proceeds;
       cut = cut;
@@ -143,7 +123,7 @@ module _ (old new : Device) (side : Side) (generation : ℕ) (live : IsLive old 
       all_used = λ _. cut_move (change ∷ []) needed few left;
       no_wear = λ less. absurd (omega arith);
     }
-    cut_in_move (first ∷ second ∷ more) proceeds needed left shows = record { proceeds = proceeds; cut = cut; state_is = cut_move (first ∷ second ∷ more) needed few left; words = (side, generation, live.live, shows) }
+    cut_in_move (first ∷ second ∷ more) proceeds needed left shows = record { proceeds = proceeds; cut = cut; state_is = search (rules, cut_move); words = search rules }
 
 -- the word of a change of a map, with the value that it forgets
 pub number_is : (change : declared.Change) (map : Map) → ForgetsHeld map change → number_written change ≡ number_of_change map (map_change change)
@@ -161,14 +141,14 @@ none_is (Some _) e = absurd (cc e)
 
 module _ (device : Device) (side : Side) (generation : ℕ) (live : IsLive device side generation) (within : fill_of (slots_of (set_of side device)) ≤ capacity device) where
   held : live_in (meaning (slots_of (set_of side device))) ≤ capacity device
-  held = let most = live_within_fill (slots_of (set_of side device)) in omega arith
+  held = search (rules, live_within_fill)
 
   -- a change that is accepted keeps the live addresses within the slots
   change_fits : (change : Change) → IsAddress (address_of change) → IsAccepted (capacity device) (state_of device) (change ∷ []) → live_in (map_after change (meaning (slots_of (set_of side device)))) ≤ capacity device
   change_fits (Put address value) proper accepted =
       let map = meaning (slots_of (set_of side device)) in
       put_count (live_in map) _ (capacity device) (is_some (map address)) (change_counts (Put address value) map proper) held
-      (λ none all. accepted.has_place (record { new_address = map_was device device side generation live address ∙ none_is (map address) none; all_live = ap (λ state. live_in state.map) (state_is _ _ _ live) ∙ all }))
+      (λ none all. accepted.has_place (record { new_address = search (rules, map_was, none_is); all_live = search (rules, state_is) }))
   change_fits (Forget address) proper _ =
       let counts = change_counts (Forget address) (meaning (slots_of (set_of side device))) proper in
       omega (arith, held)
@@ -178,13 +158,9 @@ module _ (device : Device) (side : Side) (generation : ℕ) (live : IsLive devic
   changes_fit [] _ _ = held
   changes_fit (change ∷ []) apart accepted = change_fits change apart.0 accepted
   changes_fit (first ∷ second ∷ more) _ accepted =
-      let changes = first ∷ second ∷ more in
       let same =
-      ap (λ state. live_in (changed_by changes state.map)) (state_is _ _ _ live) in
-      elim (cases_lt _ _) [
-        | inl more_than ↦ absurd (accepted.has_place more_than)
-        | inr fits ↦ omega arith
-      ]
+      ap (λ state. live_in (changed_by (first ∷ second ∷ more) state.map)) (state_is _ _ _ live) in
+      search rules
 
 -- a receive word's generation is proper
 receives : (number generation : ℕ) (above below : Bool) → nat_lt 0xAAAAAAAA00000000 number ≡ above → nat_lt number 0xAAAAAAAAFFFFFFFF ≡ below → cond (above && below) (Some (number - 0xAAAAAAAA00000000)) None ≡ Some generation → IsGeneration generation
@@ -201,14 +177,12 @@ commit_proper false _ _ e = cc
 
 -- the generation of a live set is proper
 pub generation_proper : (device : Device) (side : Side) (generation : ℕ) → IsLive device side generation → IsGeneration generation
-generation_proper device side generation live = commit_proper (is_mark (mark_of (word_of (set_of side device) 0 1))) (word_of (set_of side device) 0 0) generation (live_commits _ _ _ live.live)
+generation_proper device side generation live = search (rules, commit_proper, live_commits)
 
 -- where a transfer is accepted, a generation is left for it
 module _ (device : Device) (side : Side) (generation : ℕ) (live : IsLive device side generation) where
   not_greatest : ((state_of device).generation ≡ greatest_generation → ⊥) → IsGeneration (generation + 1)
-  not_greatest left =
-      let apart : generation ≢ greatest_generation = λ e. left (ap (λ state. state.generation) (state_is _ _ _ live) ∙ e) in
-      (omega arith, omega (arith, generation_proper device side generation live))
+  not_greatest left = search (rules, state_is, generation_proper)
 
   pub generation_left : (changes : List Change) → NeedsTransfer (capacity device) (state_of device) changes → ¬ HaveNoGeneration (capacity device) (state_of device) changes → IsGeneration (generation + 1)
   generation_left [] needed _ = absurd needed
@@ -247,23 +221,16 @@ not_full_yet _ _ _ address live free full = search (rules, live_within_fill, sta
 
 -- no more slots are written than a set has
 pub few_within : (device : Device) (side : Side) → IsFormed device → fill_of (slots_of (set_of side device)) ≤ capacity device
-few_within device side formed =
-    let most = filter_few is_written (slots_of (set_of side device)) in
-    omega (arith, length-slots side _ formed)
+few_within device side formed = search (rules, filter_few, length-slots)
 
 -- what is known of a store is known behind a clean step
 module _ {L : Type 0} (finds : L → List Word → Type 0) (known : Known L) (old new : Device) where
   clean_keeps : IsStore new → KeepsLiveSet old new known.layout.side known.layout.generation → IsOn old → Knows finds old known → Knows finds new known
-  clean_keeps store keeps on knows = record {
-    store = store;
-    layout = λ _. layout_kept _ _ _ (knows.layout on) keeps;
-    fits = λ _. subst (finds known.lookup) (sym keeps.same_slots) (knows.fits on);
-  }
+  clean_keeps store keeps on knows = search (rules, layout_kept)
 
   pub clean_known : {T E : Type 0} (result : Result T E) → IsOn old → Knows finds old known → KeepsLiveSet old new known.layout.side known.layout.generation
       → (IsMarked old known.layout.side → OnOk result (IsMarked new known.layout.side)) → Ends result old new → Knows finds new known
   clean_known (Ok _) on knows keeps marked _ =
-      let was = store_marked old known.layout.side known.layout.generation knows.store on (knows.layout on).live in
-      clean_keeps (marked_store new known.layout.side known.layout.generation keeps.live (marked was)) keeps on knows
+      clean_keeps (marked_store new known.layout.side known.layout.generation keeps.live (marked (store_marked old known.layout.side known.layout.generation knows.store on (knows.layout on).live))) keeps on knows
   clean_known (Err _) on knows keeps _ ends =
       clean_keeps (off_store new known.layout.side known.layout.generation keeps.live (ends.cut on).is_off) keeps on knows

@@ -83,13 +83,11 @@ module _ (old opened : Device) (layout : Layout) (opens : IsOpened old opened la
     pub fill_cut : FilledPartly opened new layout 0 (moved_words changes (map_in layout.side opened)) → MapMovedPartly old new layout changes (moved_words changes (map_in layout.side old)) MovesMapPartly
     fill_cut cut =
         let keeps = keeps_side_both _ _ _ _ opens.keeps cut.keeps in
-        let words = moved_words changes (map_in layout.side old) in
-        let adds = subst (λ map. AddsPartly opened new layout.side (layout.generation + 1) 0 (moved_words changes map)) same_map cut.begun in
         record {
           left = λ _. inr (record {
             wear = wears_still _ _ _ _ opens.wear cut.wear;
-            new_pages = subst (λ size. IsDrawnPartly (other layout.side) new blank_picture (filled_set size (layout.generation + 1) words)) keeps.same_size
-                (filled_partly _ new _ _ (adds.new_pages [] refl opens.holds));
+            new_pages = subst (λ size. IsDrawnPartly (other layout.side) new blank_picture (filled_set size (layout.generation + 1) (moved_words changes (map_in layout.side old)))) keeps.same_size
+                (filled_partly _ new _ _ ((subst (λ map. AddsPartly opened new layout.side (layout.generation + 1) 0 (moved_words changes map)) same_map cut.begun).new_pages [] refl opens.holds));
             live_pages = same_drawn _ _ _ keeps.same_size keeps.same_set;
           });
           cut = inl keeps;

@@ -14,28 +14,17 @@ module _ (side : Side) (old : Device) (first : ℕ) (first_is : first ≡ first_
 
   -- one page more is marked valid
   pub valid_next : (mid new : Device) (page : ℕ) → IsFormed mid → mid.size ≡ old.size → new.size ≡ mid.size → first ≤ page → page - first < mid.size.pages → SetsMark page Valid mid new → IsDrawn side mid (valid_to (page - first) (picture_of side old)) → IsDrawn side new (valid_to (page + 1 - first) (picture_of side old))
-  valid_next mid new page formed first_sizes second_sizes from h sets drawn =
-      let k = page - first in
-      let more : k + 1 ≡ page + 1 - first = omega arith in
-      let picture = picture_of side old in
-      let there = subst (λ n. SetsMark n Valid mid new) (place mid page first_sizes from) sets in
-      subst (λ n. IsDrawn side new (valid_to n picture)) more
-      (drawn_as _ new _ _ (mark_drawn _ _ _ k Valid _ formed second_sizes h drawn there) (λ p at _ _. valid_more k picture p at))
+  valid_next mid new page formed first_sizes second_sizes from h sets drawn = search (rules, drawn_as, mark_drawn, place, valid_more)
 
   -- and the last one active
   pub active_then : (mid new : Device) (page last : ℕ) → IsFormed mid → mid.size ≡ old.size → new.size ≡ mid.size → page ≡ first + last → last < mid.size.pages → SetsMark page Active mid new → IsDrawn side mid (valid_to last (picture_of side old)) → IsDrawn side new (marked_to last (picture_of side old))
-  active_then mid new page last formed first_sizes second_sizes is h sets drawn =
-      let picture = picture_of side old in
-      let e : page ≡ first_page mid.size side + last = omega (arith, ap (λ size. first_page size side) first_sizes) in
-      let there = subst (λ n. SetsMark n Active mid new) e sets in
-      drawn_as _ new _ _ (mark_drawn _ _ _ _ Active _ formed second_sizes h drawn there) (λ p at _ _. active_last _ picture p at)
+  active_then mid new page last formed first_sizes second_sizes is h sets drawn = search (rules, drawn_as, mark_drawn, active_last)
 
   -- the other set is as before
   pub other_stays : (mid new : Device) (page : ℕ) → IsFormed mid → IsFormed new → mid.size ≡ old.size → new.size ≡ mid.size → first ≤ page → page - first < mid.size.pages → IsSameBut page mid new → IsSameSet (other side) old mid → IsSameSet (other side) old new
   other_stays mid _ page formed new_formed first_sizes second_sizes from h others same =
       let is = place mid page first_sizes from in
-      let there : IsPageOf mid.size side page = record { from = omega arith; below = omega arith } in
-      same_other _ _ _ _ formed new_formed second_sizes there others ∙ same
+      same_other _ _ _ _ formed new_formed second_sizes (record { from = omega arith; below = omega arith }) others ∙ same
 
 -- the pages of the other set before this one are marked
 abbrev pub retired_to : Side → Device → ℕ → Picture
@@ -47,17 +36,14 @@ module _ (side : Side) (old : Device) (first : ℕ) (first_is : first ≡ first_
 
   pub retired_next : (live : Side) (generation : ℕ) (mid new : Device) (page : ℕ) → IsFormed mid → mid.size ≡ old.size → first ≤ page → page - first < mid.size.pages → page_at mid page ≡ page_at old page → MarksPage mid new live generation page → IsDrawn side mid (retired_to side old (page - first)) → IsDrawn side new (retired_to side old (page + 1 - first))
   retired_next _ _ mid new page formed sizes from h same step drawn =
-      let is : page ≡ first_page mid.size side + (page - first) = omega (arith, ap (λ size. first_page size side) sizes) in
-      let here : first_page old.size side + (page - first) ≡ page = omega arith in
-      let more : page - first + 1 ≡ page + 1 - first = omega arith in
-      let as_now = ap (λ n. not (is_blank (page_at old n))) here ∙ ap (λ words. not (is_blank words)) (sym same) in
-      subst (λ n. IsDrawn side new (retired_to side old n)) more (elim (cases_Bool _) [
+      let as_now = ap (λ n. not (is_blank (page_at old n))) (omega arith) ∙ ap (λ words. not (is_blank words)) (sym same) in
+      subst (λ n. IsDrawn side new (retired_to side old n)) (omega arith) (elim (cases_Bool _) [
         | inl blank ↦
             subst (λ device. IsDrawn side device (retired_to side old (page - first + 1))) (sym (step.passed blank))
             (drawn_as _ mid _ _ drawn
             (λ p at _ _. retired_past _ (is_used side old) (picture_of side old) p at (as_now ∙ ap not blank)))
         | inr written ↦
-            let there = subst (λ n. SetsMark n Erasing mid new) is (step.waiting written) in
+            let there = subst (λ n. SetsMark n Erasing mid new) (omega (arith, ap (λ size. first_page size side) sizes)) (step.waiting written) in
             drawn_as _ new _ _
             (mark_drawn _ _ _ _ Erasing _ formed step.stays.keeps.same_size h drawn there)
             (λ p at _ _. retired_more _ (is_used side old) (picture_of side old) p at (as_now ∙ ap not written))
@@ -86,15 +72,10 @@ opens_next side old mid new k formed mid_formed first_sizes second_sizes h befor
     drawn_as _ mid _ _
     (mark_drawn _ _ _ k Valid _ formed first_sizes (omega arith) (valid_drawn _ old k before) valid)
     (λ p at _ _. valid_more k picture p at) in
-    let there = subst (λ size. SetsMark (first_page size side + (k + 1)) Active mid new) (sym first_sizes) active in
-    drawn_as _ new _ _
-    (mark_drawn _ _ _ _ Active _ mid_formed second_sizes (omega (arith, ap (λ size. size.pages) first_sizes)) used there)
-    (λ p at _ _. active_last _ picture p at)
+    search (rules, drawn_as, mark_drawn, active_last)
 
 -- and a change in the first free slot
 pub appends_word : (side : Side) (old mid new : Device) (fill number : ℕ) → mid.size ≡ old.size → new.size ≡ mid.size → IsDrawn side mid (marked_to (page_of_slot old.size fill) (picture_of side old))
     → PutsWord (first_page mid.size side + page_of_slot mid.size fill) (place_of_slot mid.size fill) (Held number) mid new
     → IsDrawn side new (with_change old.size fill number (picture_of side old))
-appends_word side _ mid new fill number first_sizes second_sizes drawn puts =
-    let there = subst (λ size. PutsWord (first_page mid.size side + page_of_slot size fill) (place_of_slot size fill) (Held number) mid new) first_sizes puts in
-    put_drawn _ _ _ _ _ _ _ second_sizes drawn there
+appends_word side _ mid new fill number first_sizes second_sizes drawn puts = search (rules, put_drawn)

@@ -1,36 +1,15 @@
 -- What programming a mark leaves of its device, in every outcome.
-use Rattle.ee_core.proofs.Base.{rules, ◌≡◌, ◌⊎◌, inl, inr, ℕ, ◌+◌, ◌-◌, ◌<◌, ◌≤◌, true, false, List, [], length, get_or, set, Result, Ok, Err, OnOk, OnErr, refl, sym, subst, ap, ◌∙◌, arith, cases_Bool, cases_eq, get_or-set_other, get_or-set_same, All-get_or, IsGeneration, Device, IsFormed, IsOn, all_ones, page_at, IsStep, page_count, Step, Program, IsCutIn, IsUntouched, MayFollow, device_after, Word, Erased, Held, Torn, step_leaves_pages, IsPageOf, IsLive, is_blank, is_marked, is_written, marking, number_of_mark, place_of_mark, word_in, IsMarkBehind, first_page, other, set_of, Side, Mark, Receive, Active, Valid, Erasing, other_set_keeps_live, program_leaves_written, step_keeps_other_pages, mark_keeps_live, erased_word, first_below, KeepsMarks, Stays, not_blank_from}
+use Rattle.ee_core.proofs.Base.{rules, ◌≡◌, ◌⊎◌, inl, inr, ℕ, ◌-◌, ◌<◌, ◌≤◌, true, false, List, [], length, get_or, set, Result, Ok, Err, OnOk, OnErr, refl, sym, subst, ap, ◌∙◌, arith, get_or-set_same, All-get_or, IsGeneration, Device, IsFormed, IsOn, all_ones, page_at, IsStep, page_count, Step, Program, IsCutIn, IsUntouched, MayFollow, device_after, Word, step_leaves_pages, IsPageOf, IsLive, is_blank, is_marked, is_written, marking, number_of_mark, place_of_mark, word_in, IsMarkBehind, first_page, other, Side, Mark, Receive, Active, Valid, Erasing, other_set_keeps_live, program_leaves_written, step_keeps_other_pages, mark_keeps_live, erased_word, first_below, KeepsMarks, Stays}
 use Rattle.ee_flash.specs.declared.device.Cut.{Cut}
 use Rattle.ee_core.proofs.PendingPages.{same_not_blank}
 
 -- a written word stays one where a word of the pages gets written
 written_stays : (image : List (List Word)) (page at : ℕ) (word : Word) (p k : ℕ) → page < length image → at < length (get_or image page []) → is_written word ≡ true → is_written (word_in (get_or image p []) k) ≡ true → is_written (word_in (get_or (set image page (set (get_or image page []) at word)) p []) k) ≡ true
-written_stays image page at word p k h within written was =
-    let words = get_or image page [] in
-    elim (cases_eq p _) [
-      | inr apart ↦ ap (λ found. is_written (word_in found k)) (get_or-set_other image page p (set words at word) [] apart) ∙ was
-      | inl same ↦
-          let there : is_written (word_in (set words at word) k) ≡ true = elim (cases_eq k at) [
-            | inr elsewhere ↦ ap is_written (get_or-set_other words at k word Erased elsewhere) ∙ ap (λ n. is_written (word_in (get_or image n []) k)) (sym same) ∙ was
-            | inl here ↦ ap (λ n. is_written (word_in (set words at word) n)) here ∙ ap is_written (get_or-set_same words at word Erased within) ∙ written
-          ] in
-          ap (λ n. is_written (word_in (get_or (set image page (set words at word)) n []) k)) same
-          ∙ ap (λ found. is_written (word_in found k)) (get_or-set_same image page (set words at word) [] h)
-          ∙ there
-    ]
+written_stays image page at word p k h within written was = search rules
 
 -- no outcome of a program makes a written word erased
 pub program_keeps_marks : (page at value : ℕ) (old new : Device) → IsStep (Program page at value) old new → KeepsMarks old new
-program_keeps_marks page at value old _ taken p mark was =
-    let k = place_of_mark mark in
-    let in_range : page < length old.image = omega arith in
-    let long = All-get_or (λ words. length words ≡ old.size.words) _ _ [] in_range taken.formed.page_lengths in
-    let within : at < length (page_at old page) = omega arith in
-    elim (step_leaves_pages _ _ _ taken) [
-      | inl same ↦ ap (λ image. is_written (word_in (get_or image p []) k)) same ∙ was
-      | inr (inl held) ↦ ap (λ image. is_written (word_in (get_or image p []) k)) held ∙ written_stays old.image page at (Held value) p k in_range within refl was
-      | inr (inr torn) ↦ ap (λ image. is_written (word_in (get_or image p []) k)) torn ∙ written_stays old.image page at Torn p k in_range within refl was
-    ]
+program_keeps_marks page at value old _ taken p mark was = search (rules, All-get_or, step_leaves_pages, written_stays)
 
 -- nor wears a page
 pub program_keeps_wear : (page at value : ℕ) (old new : Device) → MayFollow (Program page at value) old new → new.wear ≡ old.wear
@@ -64,13 +43,10 @@ follows_by _ _ _ (Err _) _ _ cut = inr cut
 
 -- marking takes the mark's step, or none where the mark is set
 pub marks : (page : ℕ) (mark : Mark) (old new : Device) (result : Result Unit Cut) → IsFormed old → page < page_count old.size → IsProper mark → (is_marked old page mark ≡ true → (result ≡ Ok tt) × (new ≡ old)) → (is_marked old page mark ≡ false → OnOk result (IsOn old)) → (is_marked old page mark ≡ false → OnOk result (new ≡ device_after (marking page mark) old)) → OnErr result (IsCutIn (marking page mark) old new ⊎ IsUntouched old new) → (new ≡ old) ⊎ IsStep (marking page mark) old new
-marks page mark old new result formed h proper present on done cut = elim (cases_Bool _) [
-  | inl set ↦ inl ((present set).1)
-  | inr unset ↦ inr (mark_step page mark old new formed h proper unset (follows_by (marking page mark) old new result (on unset) (done unset) cut))
-]
+marks page mark old new result formed h proper present on done cut = search (rules, mark_step, follows_by)
 
 pub same_keeps_marks : (old new : Device) → new ≡ old → KeepsMarks old new
-same_keeps_marks _ _ same page mark was = ap (λ device. is_marked device page mark) same ∙ was
+same_keeps_marks _ _ same page mark was = search rules
 
 pub mark_keeps_marks : (page : ℕ) (mark : Mark) (old new : Device) → (new ≡ old) ⊎ IsStep (marking page mark) old new → KeepsMarks old new
 mark_keeps_marks _ _ old new (inl same) = same_keeps_marks old new same
@@ -84,28 +60,19 @@ same_stays _ _ _ _ live same = search rules
 pub live_mark_stays : (page : ℕ) (mark : Mark) (old new : Device) (side : Side) (generation : ℕ) → IsLive old side generation → first_page old.size side ≤ page → IsMarkBehind old side (page - first_page old.size side) mark → (new ≡ old) ⊎ IsStep (marking page mark) old new → Stays old new side generation
 live_mark_stays _ _ old new side generation live _ _ (inl same) = same_stays old new side generation live same
 live_mark_stays page mark old new side generation live from behind (inr taken) =
-    let place : page ≡ first_page old.size side + (page - first_page old.size side) = omega arith in
-    let step = subst (λ n. IsStep (marking n mark) old new) place taken in
+    let step = subst (λ n. IsStep (marking n mark) old new) (omega arith) taken in
     let kept = mark_keeps_live _ _ _ _ _ _ live behind step in
-    record {
-      keeps = kept.0;
-      same_pending = ap (λ size. not_blank_from (first_page size (other side)) (set_of (other side) new)) kept.0.same_size ∙ ap (not_blank_from (first_page old.size (other side))) kept.1;
-      same_wear = program_keeps_wear page (place_of_mark mark) (number_of_mark mark) old new taken.follows;
-    }
+    search (rules, program_keeps_wear)
 
 -- a mark, in the other set, of a page that may be erased
 pub old_mark_stays : (page : ℕ) (old new : Device) (side : Side) (generation : ℕ) → IsLive old side generation → IsPageOf old.size (other side) page → is_blank (page_at old page) ≡ false → (new ≡ old) ⊎ IsStep (marking page Erasing) old new → Stays old new side generation
 old_mark_stays _ old new side generation live _ _ (inl same) = same_stays old new side generation live same
 old_mark_stays page old new _ _ live of written (inr taken) =
     let kept = other_set_keeps_live _ _ _ _ _ live taken of ((λ first one. cc), (λ first zero. cc)) in
-    let still : is_blank (page_at new page) ≡ false = elim (program_leaves_written _ 3 _ _ _ taken) [
-      | inl same ↦ ap (λ image. is_blank (get_or image page [])) same ∙ written
-      | inr more ↦ more
-    ] in
     record {
       keeps = kept.0;
-      same_pending = same_not_blank _ _ _ _ live.formed kept.0.live.formed kept.0.same_size of (λ p apart. step_keeps_other_pages _ _ _ p taken apart) (still ∙ sym written);
-      same_wear = program_keeps_wear page 3 (number_of_mark Erasing) old new taken.follows;
+      same_pending = same_not_blank _ _ _ _ live.formed kept.0.live.formed kept.0.same_size of (λ p apart. step_keeps_other_pages _ _ _ p taken apart) ((elim (program_leaves_written _ 3 _ _ _ taken) [ | inl same ↦ ap (λ image. is_blank (get_or image page [])) same ∙ written | inr more ↦ more ]) ∙ sym written);
+      same_wear = search (rules, program_keeps_wear);
     }
 
 -- a page of a set is one of the device
@@ -128,10 +95,7 @@ marked_by _ _ _ _ taken whole = search (rules, All-get_or, get_or-set_same)
 
 -- it was before, or is now
 pub marked_after : (page : ℕ) (mark : Mark) (old new : Device) → IsFormed old → page < page_count old.size → IsProper mark → (is_marked old page mark ≡ true → new ≡ old) → (is_marked old page mark ≡ false → IsOn old) → (is_marked old page mark ≡ false → new ≡ device_after (marking page mark) old) → is_marked new page mark ≡ true
-marked_after page mark old new formed h proper same on done = elim (cases_Bool _) [
-  | inl set ↦ ap (λ device. is_marked device page mark) (same set) ∙ set
-  | inr unset ↦ marked_by page mark old new (mark_step page mark old new formed h proper unset (inl (record { was_on = on unset; done = done unset }))) (done unset)
-]
+marked_after page mark old new formed h proper same on done = search (rules, marked_by, mark_step)
 
 -- of the numbers that a receive word may have, this is the one
 pub one_receive : (number : ℕ) → IsGeneration number → (generation : ℕ) → Receive number ≡ Receive generation → IsGeneration generation

@@ -12,27 +12,23 @@ chosen false number _ _ _ e = ap (λ list. number ∷ list) e
 
 not_blank-append : (xs ys : List (List Word)) (number : ℕ) → not_blank_from number (xs ++ ys) ≡ not_blank_from number xs ++ not_blank_from (number + length xs) ys
 not_blank-append [] ys number =
-    let e : number ≡ number + 0 = omega arith in
-    ap (λ n. not_blank_from n ys) e
+    ap (λ n. not_blank_from n ys) (omega arith)
 not_blank-append (page ∷ xs) ys number =
-    let e : number + 1 + length xs ≡ number + length (page ∷ xs) = omega arith in
-    chosen (is_blank page) number _ _ _ (not_blank-append xs ys (number + 1) ∙ ap (λ n. not_blank_from (number + 1) xs ++ not_blank_from n ys) e)
+    chosen (is_blank page) number _ _ _ (not_blank-append xs ys (number + 1) ∙ ap (λ n. not_blank_from (number + 1) xs ++ not_blank_from n ys) (omega arith))
 
 -- one page more
 pub not_blank_more : (pages : List (List Word)) (number k : ℕ) → k < length pages → not_blank_from number (take (k + 1) pages) ≡ not_blank_from number (take k pages) ++ named (number + k) (get_or pages k [])
 not_blank_more pages number k h =
-    let e : number + length (take k pages) ≡ number + k = omega (arith, length-take-le k pages (omega arith)) in
     ap (not_blank_from number) (take_more _ k [] h)
     ∙ not_blank-append (take k pages) (get_or pages k [] ∷ []) number
-    ∙ ap (λ n. not_blank_from number (take k pages) ++ named n (get_or pages k [])) e
+    ∙ ap (λ n. not_blank_from number (take k pages) ++ named n (get_or pages k [])) (omega (arith, length-take-le k pages (omega arith)))
 
 -- those behind it
 pub not_blank_rest : (pages : List (List Word)) (number k : ℕ) → k < length pages → not_blank_from number pages ≡ (not_blank_from number (take k pages) ++ named (number + k) (get_or pages k [])) ++ not_blank_from (number + (k + 1)) (drop (k + 1) pages)
 not_blank_rest pages number k h =
-    let e : number + length (take (k + 1) pages) ≡ number + (k + 1) = omega (arith, length-take-le (k + 1) pages (omega arith)) in
     ap (not_blank_from number) (sym (take-append-drop (k + 1) pages))
     ∙ not_blank-append (take (k + 1) pages) (drop (k + 1) pages) number
-    ∙ ap (λ n. not_blank_from number (take (k + 1) pages) ++ not_blank_from n (drop (k + 1) pages)) e
+    ∙ ap (λ n. not_blank_from number (take (k + 1) pages) ++ not_blank_from n (drop (k + 1) pages)) (omega (arith, length-take-le (k + 1) pages (omega arith)))
     ∙ ap (λ list. list ++ not_blank_from (number + (k + 1)) (drop (k + 1) pages)) (not_blank_more pages number k h)
 
 -- they are as many as there are
@@ -72,8 +68,7 @@ times_here (words ∷ pages) number zero =
     let e : number + 0 ≡ number = omega arith in
     rw e (named_once (is_blank words) number _ (times_below pages (number + 1) number (omega arith)))
 times_here (words ∷ pages) number (suc k) =
-    let e : number + suc k ≡ number + 1 + k = omega arith in
-    named_before (is_blank words) number (number + suc k) _ (λ same. omega arith) ∙ ap (λ n. times n (not_blank_from (number + 1) pages)) e ∙ times_here pages (number + 1) k
+    named_before (is_blank words) number (number + suc k) _ (λ same. omega arith) ∙ ap (λ n. times n (not_blank_from (number + 1) pages)) (omega arith) ∙ times_here pages (number + 1) k
 
 -- ---- one page changed
 
@@ -91,9 +86,6 @@ pub first_blank : (pages : List (List Word)) (number k : ℕ) (words : List Word
     → not_blank_from number pages ≡ (number + k) ∷ not_blank_from number (set pages k words)
 first_blank [] _ k _ h _ _ _ = absurd (omega arith)
 first_blank (page ∷ pages) number zero _ h _ written blank =
-    let e : number ≡ number + 0 = omega arith in
-    rw (written, blank) (ap (λ n. n ∷ not_blank_from (number + 1) pages) e)
+    rw (written, blank) (ap (λ n. n ∷ not_blank_from (number + 1) pages) (omega arith))
 first_blank (page ∷ pages) number (suc k) words h lower written blank =
-    let here = lower zero (omega arith) in
-    let e : number + 1 + k ≡ number + suc k = omega arith in
-    rw here (first_blank pages (number + 1) k words (omega arith) (λ j below. lower (suc j) (omega arith)) written blank ∙ ap (λ n. n ∷ not_blank_from (number + 1) (set pages k words)) e)
+    rw (lower zero (omega arith)) (first_blank pages (number + 1) k words (omega arith) (λ j below. lower (suc j) (omega arith)) written blank ∙ ap (λ n. n ∷ not_blank_from (number + 1) (set pages k words)) (omega arith))

@@ -1,5 +1,5 @@
 -- Steps in the set that a transfer fills.
-use Rattle.ee_core.proofs.Base.{rules, ◌≡◌, ◌⊎◌, inl, inr, ℕ, ◌+◌, ◌-◌, ◌<◌, Bool, true, false, None, [], length, refl, sym, subst, ap, ◌∙◌, arith, All, Result, Ok, Err, slice_set, cases_Bool, All-get_or, div-mul-le_self, IsGeneration, Device, IsFormed, IsOn, all_ones, word_at, IsStep, page_count, slot_count, Program, IsCutIn, IsUntouched, MayFollow, device_after, Erased, Held, IsCommitted, IsFilling, IsPageOf, KeepsSide, IsOlder, Change, SpellsChange, map_after, meaning, is_blank, is_marked, is_written, marking, number_of_mark, slot_step, first_page, other, page_of_slot, place_of_slot, set_of, slots_of, Side, Mark, Active, Receive, blank_word, erased_word, fill-front, slots_behind, other_set_keeps_side, keeps_side_same, length-set_of, page_in_range, place_in_range, slot_at, commits_over, whole_commits_over, opens_page, opens_set, stages_change, first_word, word-in_set, first_in_set}
+use Rattle.ee_core.proofs.Base.{rules, ◌≡◌, ◌⊎◌, inl, inr, ℕ, ◌+◌, ◌-◌, ◌<◌, Bool, true, false, None, refl, sym, subst, ap, ◌∙◌, arith, All, Result, Ok, Err, slice_set, cases_Bool, All-get_or, div-mul-le_self, IsGeneration, Device, IsFormed, IsOn, all_ones, word_at, IsStep, page_count, slot_count, Program, IsCutIn, IsUntouched, MayFollow, device_after, Erased, Held, IsCommitted, IsFilling, IsPageOf, KeepsSide, IsOlder, Change, SpellsChange, map_after, meaning, is_blank, is_marked, marking, number_of_mark, slot_step, first_page, other, page_of_slot, place_of_slot, set_of, slots_of, Side, Mark, Active, Receive, blank_word, erased_word, fill-front, slots_behind, other_set_keeps_side, keeps_side_same, length-set_of, page_in_range, place_in_range, slot_at, commits_over, whole_commits_over, opens_page, opens_set, stages_change, first_word, word-in_set, first_in_set}
 use Rattle.ee_core.proofs.Marks.{place_below}
 use Rattle.ee_core.proofs.SetPages.{first_below, page_in_device}
 
@@ -13,10 +13,9 @@ first_in_device side device formed = omega (arith, first_below device.size side)
 pub free_slot : (device : Device) (side : Side) (generation count : ℕ) → IsFilling device side generation count → count < slot_count device.size → word_at device (first_page device.size side + page_of_slot device.size count) (place_of_slot device.size count) ≡ Erased
 free_slot device _ _ _ filling free =
     let reached = fill-front _ _ _ filling.formed filling.allowed ∙ filling.fill in
-    let erased = slots_behind _ _ _ filling.formed filling.allowed _ (omega arith) in
     sym (word-in_set _ _ _ _ (page_in_range device _ free))
     ∙ sym (slot_at _ _ _ filling.formed free)
-    ∙ erased_word _ erased
+    ∙ erased_word _ (slots_behind _ _ _ filling.formed filling.allowed _ (omega arith))
 
 module _ (old new : Device) (side : Side) (generation count number : ℕ) (filling : IsFilling old (other side) (generation + 1) count) (free : count < slot_count old.size) (below : number < all_ones) (follows : MayFollow (slot_step old.size (other side) count number) old new) where
   pub slot_taken : IsStep (slot_step old.size (other side) count number) old new
@@ -52,15 +51,14 @@ module _ (old new : Device) (side : Side) (generation count : ℕ) (filling : Is
   here = first_page old.size (other side) + page_of_slot old.size count
 
   receive_taken : is_marked old here word ≡ false → MayFollow (marking here word) old new → IsStep (marking here word) old new
-  receive_taken erased follows = mark_taken old new here word filling.formed (page_in_device old.size (other side) _ (page_in_range old _ free)) (receive_below (generation + 1) proper) erased follows
+  receive_taken erased follows = search (rules, mark_taken, page_in_device, page_in_range, receive_below)
 
   receive_keeps : is_marked old here word ≡ false → MayFollow (marking here word) old new → KeepsSide old new side
   receive_keeps erased follows =
-      let uncommitted = sym (first_word _ _ 1 filling.formed) ∙ filling.uncommitted in
-      (other_set_keeps_side _ _ _ _ (receive_taken erased follows) (in_set (other side) old _ (page_in_range old _ free)) ((λ at e. absurd (cc e)), (λ at e. uncommitted)))
+      (other_set_keeps_side _ _ _ _ (receive_taken erased follows) (in_set (other side) old _ (page_in_range old _ free)) ((λ at e. absurd (cc e)), (λ at e. (sym (first_word _ _ 1 filling.formed) ∙ filling.uncommitted))))
 
   pub receive_cut : {T E : Type 0} (result : Result T E) (x : T) (e : E) → result ≡ Err e → (page : ℕ) → page ≡ here → (is_marked old page word ≡ true → (result ≡ Ok x) × (new ≡ old)) → (IsCutIn (marking page word) old new ⊎ IsUntouched old new) → KeepsSide old new side
-  receive_cut result x e failed _ is = subst (λ n. (is_marked old n word ≡ true → (result ≡ Ok x) × (new ≡ old)) → (IsCutIn (marking n word) old new ⊎ IsUntouched old new) → KeepsSide old new side) (sym is) (λ present cut. receive_keeps (unmarked _ result x e failed present) (inr cut))
+  receive_cut result x e failed _ is = search (rules, receive_keeps, unmarked)
 
   abbrev Received : Type 0
   Received = KeepsSide old new side × IsFilling new (other side) (generation + 1) count × (slots_of (set_of (other side) new) ≡ slots_of (set_of (other side) old))
@@ -72,13 +70,12 @@ module _ (old new : Device) (side : Side) (generation count : ℕ) (filling : Is
         (same_kept old new side filling.formed same, rw same filling, ap (λ device. slots_of (set_of (other side) device)) same)
     | inr erased ↦
         let follows = inl (record { was_on = on erased; done = done erased }) in
-        let taken = receive_taken erased follows in
-        let opened = opens_page _ _ _ _ _ _ proper filling (page_in_range old _ free) (div-mul-le_self count (old.size.words - 4)) taken (done erased) in
+        let opened = opens_page _ _ _ _ _ _ proper filling (page_in_range old _ free) (div-mul-le_self count (old.size.words - 4)) (receive_taken erased follows) (done erased) in
         (receive_keeps erased follows, opened.0, opened.1)
   ]
 
   pub receive_done : (page : ℕ) → page ≡ here → (is_marked old page word ≡ true → new ≡ old) → (is_marked old page word ≡ false → IsOn old) → (is_marked old page word ≡ false → new ≡ device_after (marking page word) old) → Received
-  receive_done _ is = subst (λ n. (is_marked old n word ≡ true → new ≡ old) → (is_marked old n word ≡ false → IsOn old) → (is_marked old n word ≡ false → new ≡ device_after (marking n word) old) → Received) (sym is) received
+  receive_done _ is = search (rules, received)
 
 -- a change in the first free slot
 module _ (old new : Device) (side : Side) (generation count number : ℕ) (filling : IsFilling old (other side) (generation + 1) count) (free : count < slot_count old.size) (below : number < all_ones) where
@@ -87,8 +84,7 @@ module _ (old new : Device) (side : Side) (generation count number : ℕ) (filli
 
   pub put_cut : (page at : ℕ) → page ≡ slot_page → at ≡ place_of_slot old.size count → MayFollow (Program page at number) old new → KeepsSide old new side
   put_cut page _ page_is at_is follows =
-      let here = subst (λ n. MayFollow (Program n (place_of_slot old.size count) number) old new) page_is (subst (λ k. MayFollow (Program page k number) old new) at_is follows) in
-      slot_keeps old new side generation count number filling free below here
+      slot_keeps old new side generation count number filling free below (subst (λ n. MayFollow (Program n (place_of_slot old.size count) number) old new) page_is (subst (λ k. MayFollow (Program page k number) old new) at_is follows))
 
   abbrev Staged : Change → Type 0
   Staged change =
@@ -100,9 +96,7 @@ module _ (old new : Device) (side : Side) (generation count number : ℕ) (filli
   put_whole _ spells follows done = stages_change _ _ _ _ _ _ _ filling free spells (slot_taken old new side generation count number filling free below follows) done
 
   pub put_done : (change : Change) (page at : ℕ) → page ≡ slot_page → at ≡ place_of_slot old.size count → SpellsChange number change → IsOn old → new ≡ device_after (Program page at number) old → Staged change
-  put_done change _ at page_is at_is spells on done =
-      let here = done ∙ ap (λ n. device_after (Program n at number) old) page_is ∙ ap (λ k. device_after (Program slot_page k number) old) at_is in
-      put_whole change spells (inl (record { was_on = on; done = here })) here
+  put_done change _ at page_is at_is spells on done = search (rules, put_whole)
 
 -- the receive word that opens the set
 module _ (old new : Device) (side : Side) (generation : ℕ) (formed : IsFormed old) (proper : IsGeneration (generation + 1)) (blank : All (λ page. is_blank page ≡ true) (set_of (other side) old)) where
@@ -113,20 +107,17 @@ module _ (old new : Device) (side : Side) (generation : ℕ) (formed : IsFormed 
   first = first_page old.size (other side)
 
   first_erased : (at : ℕ) → word_at old first at ≡ Erased
-  first_erased at =
-      let some : 0 < length (set_of (other side) old) = omega (arith, length-set_of (other side) _ formed) in
-      sym (first_word _ _ at formed) ∙ blank_word _ at (All-get_or (λ page. is_blank page ≡ true) _ 0 [] some blank)
+  first_erased at = search (rules, first_word, blank_word, All-get_or, length-set_of)
 
   pub opening_unmarked : (page : ℕ) → page ≡ first → is_marked old page opening ≡ false
-  opening_unmarked _ is = ap (λ n. is_marked old n opening) is ∙ ap is_written (first_erased 0)
+  opening_unmarked _ is = search (rules, first_erased)
 
   opening_taken : MayFollow (marking first opening) old new → IsStep (marking first opening) old new
-  opening_taken follows = mark_taken old new first opening formed (first_in_device (other side) old formed) (receive_below (generation + 1) proper) (opening_unmarked first refl) follows
+  opening_taken follows = search (rules, mark_taken, first_in_device, receive_below, opening_unmarked)
 
   pub opening_keeps : (page : ℕ) → page ≡ first → MayFollow (marking page opening) old new → KeepsSide old new side
   opening_keeps _ is follows =
-      let here = subst (λ n. MayFollow (marking n opening) old new) is follows in
-      (other_set_keeps_side _ _ _ _ (opening_taken here) (first_in_set _ _ formed) ((λ at e. absurd (cc e)), (λ at e. first_erased 1)))
+      (other_set_keeps_side _ _ _ _ (opening_taken (subst (λ n. MayFollow (marking n opening) old new) is follows)) (first_in_set _ _ formed) ((λ at e. absurd (cc e)), (λ at e. first_erased 1)))
 
   pub opening_done : (page : ℕ) → page ≡ first → IsOn old → new ≡ device_after (marking page opening) old → IsFilling new (other side) (generation + 1) 0 × ((address : ℕ) → meaning (slots_of (set_of (other side) new)) address ≡ None)
   opening_done _ is on done =
@@ -139,10 +130,10 @@ module _ (old new : Device) (side : Side) (generation count : ℕ) (older : IsOl
   front_page = first_page old.size (other side)
 
   pub active_unmarked : (page : ℕ) → page ≡ front_page → is_marked old page Active ≡ false
-  active_unmarked _ is = ap (λ n. is_marked old n Active) is ∙ ap is_written (sym (first_word _ _ 1 filling.formed) ∙ filling.uncommitted)
+  active_unmarked _ is = search (rules, first_word)
 
   active_taken : MayFollow (marking front_page Active) old new → IsStep (marking front_page Active) old new
-  active_taken follows = mark_taken old new front_page Active filling.formed (first_in_device (other side) old filling.formed) active_below (active_unmarked front_page refl) follows
+  active_taken follows = search (rules, mark_taken, first_in_device, active_below, active_unmarked)
 
   pub active_commits : (page : ℕ) → page ≡ front_page → MayFollow (marking page Active) old new → (set_of side new ≡ set_of side old) × (KeepsSide old new side ⊎ IsCommitted old new (other side) (generation + 1))
   active_commits _ is follows =

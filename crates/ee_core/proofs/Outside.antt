@@ -1,5 +1,5 @@
 -- No slot says anything of a number that is no address.
-use Rattle.ee_core.proofs.Base.{rules, ◌≡◌, ℕ, ◌≤◌, Bool, false, cond, Some, None, List, [], ◌∷◌, refl, ap, arith, ◌&&◌, nat_lt, cases_eq, cases_lt, ne_eqb, IsAddress, Word, latest_in, meaning, says, slot_says, value_said}
+use Rattle.ee_core.proofs.Base.{rules, ◌≡◌, ℕ, ◌≤◌, Bool, false, cond, None, List, [], ◌∷◌, refl, ap, arith, ◌&&◌, nat_lt, cases_eq, cases_lt, IsAddress, Word, latest_in, meaning, says, slot_says, value_said}
 use Rattle.std.proofs.lemmas.Bool.Decides.{nat_tests}
 use Rattle.ee_codec.specs.declared.slot.Slot.{Slot}
 use Rattle.ee_codec.specs.declared.slot.Slot.TheVariants.{Element, Forgotten, Foreign}
@@ -12,10 +12,10 @@ not_proper : (address : ℕ) → ¬ IsAddress address → is_proper address ≡ 
 not_proper _ outside = search (rules, cases_lt, nat_tests)
 
 element_other : (named value address : ℕ) → (named ≡ address → ⊥) → slot_says (Element named value) address ≡ None
-element_other named value address other = ap (λ b. cond b (Some (Some value)) None) (ne_eqb named address other)
+element_other named value address other = search rules
 
 forgotten_other : (named value address : ℕ) → (named ≡ address → ⊥) → slot_says (Forgotten named value) address ≡ None
-forgotten_other named _ address other = ap (λ b. cond b (Some None) None) (ne_eqb named address other)
+forgotten_other named _ address other = search rules
 
 one_of : (first second : Bool) (element forgotten : Slot) (address : ℕ) → slot_says element address ≡ None → slot_says forgotten address ≡ None → slot_says (cond first element (cond second forgotten Foreign)) address ≡ None
 one_of _ _ _ _ _ h1 h2 = search rules

@@ -29,34 +29,26 @@ count_some (page ∷ pages) (suc k) h e = longer (not (is_blank page)) page (fil
 -- the pages of a set from its first one, by their numbers in the device
 module _ (side : Side) (device : Device) (formed : IsFormed device) (first : ℕ) (first_is : first ≡ first_page device.size side) where
   pub page_there : (page : ℕ) → first ≤ page → page < first + device.size.pages → get_or (set_of side device) (page - first) [] ≡ page_at device page
-  page_there page from below =
-      let e : first_page device.size side + (page - first) ≡ page = omega arith in
-      page_of_set _ device _ (omega arith) ∙ ap (page_at device) e
+  page_there page from below = search (rules, page_of_set)
 
   within : (page : ℕ) → first ≤ page → page < first + device.size.pages → page - first < length (set_of side device)
   within _ _ below = omega (arith, length-set_of side _ formed)
 
   pub none_yet : pending_of (take (first - first) (set_of side device)) ≡ 0
-  none_yet = let e : first - first ≡ 0 = omega arith in ap (λ n. pending_of (take n (set_of side device))) e
+  none_yet = search rules
 
   pub one_more : (page count : ℕ) → first ≤ page → page < first + device.size.pages → is_blank (page_at device page) ≡ false → count ≡ pending_of (take (page - first) (set_of side device)) → count + 1 ≡ pending_of (take (page + 1 - first) (set_of side device))
   one_more page _ from below here so_far =
-      let next : page - first + 1 ≡ page + 1 - first = omega arith in
       ap (λ n. n + 1) so_far
       ∙ sym (count_not_blank (set_of side device) (page - first) (within page from below) (ap is_blank (page_there page from below) ∙ here))
-      ∙ ap (λ n. pending_of (take n (set_of side device))) next
+      ∙ ap (λ n. pending_of (take n (set_of side device))) (omega arith)
 
   pub as_many : (page count : ℕ) → first ≤ page → page < first + device.size.pages → is_blank (page_at device page) ≡ true → count ≡ pending_of (take (page - first) (set_of side device)) → count ≡ pending_of (take (page + 1 - first) (set_of side device))
-  as_many page _ from below here so_far =
-      let next : page - first + 1 ≡ page + 1 - first = omega arith in
-      so_far
-      ∙ sym (count_blank (set_of side device) (page - first) (within page from below) (ap is_blank (page_there page from below) ∙ here))
-      ∙ ap (λ n. pending_of (take n (set_of side device))) next
+  as_many page _ from below here so_far = search (rules, count_blank, within, page_there)
 
   pub at_end : (page : ℕ) → page ≡ first + device.size.pages → pending_of (take (page - first) (set_of side device)) ≡ pending_of (set_of side device)
   at_end page e =
-      let all : page - first ≡ length (set_of side device) = omega (arith, length-set_of side _ formed) in
-      ap pending_of (ap (λ n. take n (set_of side device)) all ∙ take-length (set_of side device))
+      ap pending_of (ap (λ n. take n (set_of side device)) (omega (arith, length-set_of side _ formed)) ∙ take-length (set_of side device))
 
   -- all are blank
   pub none_pending : ((page : ℕ) → first ≤ page → page < first + device.size.pages → is_blank (page_at device page) ≡ true) → pending_of (set_of side device) ≡ 0
@@ -65,8 +57,7 @@ module _ (side : Side) (device : Device) (formed : IsFormed device) (first : ℕ
       sym (ap pending_of (take-length (set_of side device)))
       ∙ count_none (set_of side device) (length (set_of side device)) (omega arith) (λ k h.
       let in_set : k < device.size.pages = omega arith in
-      let e : first_page device.size side + k ≡ first + k = omega arith in
-      ap is_blank (page_of_set _ _ k in_set ∙ ap (page_at device) e) ∙ blank (first + k) (omega arith) (omega arith))
+      ap is_blank (page_of_set _ _ k in_set ∙ ap (page_at device) (omega arith)) ∙ blank (first + k) (omega arith) (omega arith))
 
   -- one is not
   pub some_pending : (page : ℕ) → first ≤ page → page < first + device.size.pages → is_blank (page_at device page) ≡ false → 0 < pending_of (set_of side device)

@@ -1,5 +1,5 @@
 -- The pages that wait to be erased: how many they are, and whether a page is one of them.
-use Rattle.ee_core.proofs.Base.{◌≡◌, ℕ, ◌+◌, ◌-◌, ◌<◌, ◌≤◌, true, false, cond, Option, Some, None, [], ◌∷◌, get_or, length, set, refl, sym, ap, ◌∙◌, arith, length-take, Device, IsFormed, page_at, IsPageOf, is_blank, first_page, live_of, other, pending_of, set_of, Side, First, Second, length-set_of, IsSameBut, not_blank_from, not_blank_in, pending_pages, pending_pages_in, state_in, state_of}
+use Rattle.ee_core.proofs.Base.{◌≡◌, ℕ, ◌+◌, ◌-◌, ◌<◌, ◌≤◌, true, false, cond, Option, Some, None, ◌∷◌, length, set, refl, sym, ap, ◌∙◌, arith, length-take, Device, IsFormed, page_at, IsPageOf, is_blank, first_page, live_of, other, pending_of, set_of, Side, First, Second, length-set_of, IsSameBut, not_blank_from, not_blank_in, pending_pages, pending_pages_in, state_in, state_of}
 use Rattle.ee_core.proofs.NotBlank.{first_blank, length-not_blank, not_blank_same, times_below, times_here, times_past}
 use Rattle.ee_core.proofs.SetPages.{one_changed, page_of_set}
 use Rattle.ee_core.proofs.Wears.{times}
@@ -46,10 +46,9 @@ same_not_blank side old new page old_formed new_formed sizes at same blank =
     let k = page - first_page old.size side in
     let is : first_page old.size side + k ≡ page = omega arith in
     let within : k < old.size.pages = omega arith in
-    let there = page_of_set _ _ k within ∙ ap (page_at old) is in
     ap (λ size. not_blank_from (first_page size side) (set_of side new)) sizes
     ∙ ap (not_blank_from (first_page old.size side)) (one_changed _ _ _ _ k old_formed new_formed sizes is within same)
-    ∙ not_blank_same _ _ k _ (blank ∙ ap is_blank (sym there))
+    ∙ not_blank_same _ _ k _ (blank ∙ ap is_blank (sym (page_of_set _ _ k within ∙ ap (page_at old) is)))
 
 -- the lowest that was not blank is blank
 pub lowest_blank : (side : Side) (old new : Device) (page : ℕ) → IsFormed old → IsFormed new → new.size ≡ old.size → IsPageOf old.size side page → IsSameBut page old new
@@ -59,11 +58,7 @@ lowest_blank side old new page old_formed new_formed sizes at same written lower
     let k = page - first_page old.size side in
     let is : first_page old.size side + k ≡ page = omega arith in
     let within : k < old.size.pages = omega arith in
-    let there = page_of_set _ _ k within ∙ ap (page_at old) is in
-    let in_list : k < length (set_of side old) = omega (arith, length-set_of side old old_formed) in
-    let below : (j : ℕ) → j < k → is_blank (get_or (set_of side old) j []) ≡ true = λ j h.
-    ap is_blank (page_of_set _ old j (omega arith)) ∙ lower (first_page old.size side + j) (omega arith) (omega arith) in
-    first_blank _ _ k _ in_list below (ap is_blank there ∙ written) blank
+    first_blank _ _ k _ (omega (arith, length-set_of side old old_formed)) (λ j h. ap is_blank (page_of_set _ old j (omega arith)) ∙ lower (first_page old.size side + j) (omega arith) (omega arith)) (ap is_blank (page_of_set _ _ k within ∙ ap (page_at old) is) ∙ written) blank
     ∙ ap (λ n. n ∷ not_blank_from (first_page old.size side) (set (set_of side old) k (page_at new page))) is
     ∙ ap (λ list. page ∷ not_blank_from (first_page old.size side) list) (sym (one_changed _ _ _ _ k old_formed new_formed sizes is within same))
     ∙ ap (λ size. page ∷ not_blank_from (first_page size side) (set_of side new)) (sym sizes)

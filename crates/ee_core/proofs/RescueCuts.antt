@@ -54,10 +54,8 @@ after_rescue : (old new : Device) (side : Side) (generation : ℕ) → IsHeld ol
 after_rescue old new side generation held cut = elim cut.left [
   | inr has ↦ legal_holds new old has.legal has.map_is
   | inl keeps ↦
-      let mine = held_is_rescued_side _ _ _ held.live held.not_left in
-      let same = ap side_of (sym cut.rescues.side_is ∙ mine) in
-      let here = subst (λ set. KeepsSide old new set) same keeps in
-      let left = held_is_rescued _ _ _ _ held here in
+      let same = ap side_of (sym cut.rescues.side_is ∙ (held_is_rescued_side _ _ _ held.live held.not_left)) in
+      let left = held_is_rescued _ _ _ _ held (subst (λ set. KeepsSide old new set) same keeps) in
       record { side = side; generation = generation; held = left.1; same_map = left.2 }
 ]
 
@@ -115,8 +113,7 @@ module _ (old changed : Device) (side : Side) (generation page at : ℕ) (word :
       → (address : ℕ) → ((state_of new).map address ≡ (state_of old).map address) ⊎ CostsNewest old new side page at address
   one_word_costs_no_more puts bad told address =
       let found = behind_cuts (bad_word_leaves_held old _ _ _ page at word live bad puts) (λ first low. (told first low).2) address in
-      let costs = one_word_costs_its_value _ _ _ generation _ at word live bad puts (λ first low. let all = told first low in (all.0, all.1)) in
-      elim (costs.1 address) [
+      elim ((one_word_costs_its_value _ _ _ generation _ at word live bad puts (λ first low. let all = told first low in (all.0, all.1))).1 address) [
         | inl same ↦ inl (found ∙ same ∙ had address)
         | inr loses ↦ inr (record { in_slot = loses.in_slot; newest = loses.newest; map_is = found ∙ loses.map_is })
       ]
@@ -124,6 +121,4 @@ module _ (old changed : Device) (side : Side) (generation page at : ℕ) (word :
   pub waiting_word_costs_no_more : PutsInSet old changed (other side) page at word → WentBad at word → (page ≡ 0 → at < 2 → IsToldApart old side × (cuts ≡ []))
       → (address : ℕ) → (state_of new).map address ≡ (state_of old).map address
   waiting_word_costs_no_more puts bad told address =
-      let found = behind_cuts (bad_waiting_word_leaves_held old _ _ _ page at word live bad puts) (λ first low. (told first low).1) address in
-      let costs = waiting_word_costs_nothing old _ _ generation page at word live bad puts (λ first low. (told first low).0) in
-      found ∙ costs.1 address ∙ had address
+      (behind_cuts (bad_waiting_word_leaves_held old _ _ _ page at word live bad puts) (λ first low. (told first low).1) address) ∙ (waiting_word_costs_nothing old _ _ generation page at word live bad puts (λ first low. (told first low).0)).1 address ∙ had address

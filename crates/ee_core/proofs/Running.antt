@@ -28,31 +28,22 @@ pub record Goes (transfer : Bool) (changes : List Change) (old new : Device) : T
 
 nothing : (old new : Device) → new ≡ old → Goes false [] old new
 nothing _ _ same = record {
-  power = record {
-    same_size = ap (λ device. device.size) same;
-    same_power = ap (λ device. device.on) same;
-    same_cuts = ap (λ device. device.cuts) same;
-    same_cuts_left = ap (λ device. device.cuts_left) same;
-    same_while_off = λ off. same;
-  };
+  power = search rules;
   more = 0;
-  adds = rw same (λ counts. (counts, omega arith));
+  adds = search rules;
   few = omega arith;
   whole = λ short. refl;
-  map_is = ap (λ device. (state_of device).map) same;
+  map_is = search rules;
 }
 
 appends : (old new : Device) (change : Change) → Appends old change new → Goes false (change ∷ []) old new
 appends old new _ done = record {
   power = done.goes_on;
   more = 0;
-  adds = λ counts.
-      let wear = total_rises 0 _ _ (no_wear old new done.no_wear) counts in
-      let pending = ap (λ state. state.pending) done.state_is in
-      (wear.0, omega arith);
+  adds = search (rules, total_rises, no_wear);
   few = omega arith;
   whole = λ short. refl;
-  map_is = ap (λ state. state.map) done.state_is;
+  map_is = search rules;
 }
 
 -- one change leaves all pages of a set
@@ -71,7 +62,7 @@ moves old new changes done = record {
       (wear.0, omega arith);
   few = done.few_left;
   whole = one_left changes old done.needed;
-  map_is = ap (λ state. state.map) done.state_is;
+  map_is = search rules;
 }
 
 erases : (old new : Device) → ErasesOne old new → Goes false [] old new
@@ -84,7 +75,7 @@ erases _ _ done = record {
       (wear.0, omega arith);
   few = omega arith;
   whole = λ short. refl;
-  map_is = ap (λ state. state.map) done.state_is;
+  map_is = search rules;
 }
 
 pub goes : (call : Call) (old new : Device) → is_cut call ≡ false → Follows call old new → Goes (is_transfer call) (changes_of_call call) old new

@@ -1,5 +1,5 @@
 -- The pages of a set by their numbers in the device.
-use Rattle.ee_core.proofs.Base.{rules, ◌≡◌, ◌≢◌, ℕ, ◌+◌, ◌<◌, ◌≤◌, inl, inr, [], get_or, set, sym, ap, ◌∙◌, arith, cases_eq, ext_get_or, get_or-set_other, get_or-set_same, length-set, Device, IsFormed, page_at, Size, page_count, IsPageOf, first_page, other, set_of, Side, First, Second, length-set_of, IsSameBut, IsSameSet, refl}
+use Rattle.ee_core.proofs.Base.{rules, ◌≡◌, ◌≢◌, ℕ, ◌+◌, ◌<◌, ◌≤◌, inl, inr, [], get_or, set, sym, ap, ◌∙◌, arith, cases_eq, ext_get_or, length-set, Device, IsFormed, page_at, Size, page_count, IsPageOf, first_page, other, set_of, Side, First, Second, length-set_of, IsSameBut, IsSameSet, refl}
 use Rattle.ee_pages.proofs.Public.{page_of_set as page_numbered}
 
 pub page_of_set : (side : Side) (device : Device) (k : ℕ) → k < device.size.pages → get_or (set_of side device) k [] ≡ page_at device (first_page device.size side + k)
@@ -18,9 +18,7 @@ page_in_device size side k h = omega (arith, first_below size side)
 
 -- a page that a loop over a set came to
 pub page_reached : (side : Side) (old mid : Device) (first pages page : ℕ) → first ≡ first_page old.size side → pages ≡ old.size.pages → mid.size ≡ old.size → first ≤ page → page < first + pages → IsPageOf mid.size side page
-page_reached side _ _ _ _ _ first_is pages_is sizes from below =
-    let start = ap (λ size. first_page size side) sizes in
-    record { from = omega arith; below = omega (arith, ap (λ size. size.pages) sizes) }
+page_reached side _ _ _ _ _ first_is pages_is sizes from below = search rules
 
 -- a page of one set is none of the other
 pub apart : (size : Size) (side : Side) (page k : ℕ) → IsPageOf size (other side) page → k < size.pages → first_page size side + k ≢ page
@@ -53,18 +51,12 @@ one_changed side old new page k old_formed new_formed sizes at _ same =
     let pages = ap (λ size. size.pages) sizes in
     let old_count = length-set_of _ _ old_formed in
     let new_count = length-set_of _ _ new_formed ∙ pages in
-    let long = length-set (set_of side old) k (page_at new page) in
-    ext_get_or [] (set_of side new) (set (set_of side old) k (page_at new page)) (new_count ∙ sym old_count ∙ sym long) (λ j h.
-    let below : j < old.size.pages = omega arith in
+    ext_get_or [] (set_of side new) (set (set_of side old) k (page_at new page)) (new_count ∙ sym old_count ∙ sym (length-set (set_of side old) k (page_at new page))) (λ j h.
     let there =
     page_of_set side new j (omega arith) ∙ ap (λ size. page_at new (first_page size side + j)) sizes in
     elim (cases_eq j k) [
       | inl here ↦
-          there ∙ ap (λ n. page_at new (first_page old.size side + n)) here ∙ ap (page_at new) at
-          ∙ sym (get_or-set_same (set_of side old) k (page_at new page) [] (omega arith))
-          ∙ ap (λ n. get_or (set (set_of side old) k (page_at new page)) n []) (sym here)
+          search rules
       | inr other ↦
-          let apart : first_page old.size side + j ≢ page = λ e. other (omega arith) in
-          there ∙ same (first_page old.size side + j) apart ∙ sym (page_of_set side old j below)
-          ∙ sym (get_or-set_other (set_of side old) k j (page_at new page) [] other)
+          search (rules, page_of_set)
     ])

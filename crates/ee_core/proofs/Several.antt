@@ -1,5 +1,5 @@
 -- Lists of two values or more: when one is refused, and how many addresses have a value with it.
-use Rattle.ee_core.proofs.Base.{rules, ◌≡◌, ℕ, ◌+◌, ◌<◌, ◌≤◌, true, false, Bool, cond, Some, is_some, List, [], ◌∷◌, length, get_or, take, refl, sym, subst, ap, ◌∙◌, arith, suc, zero, length-append, ◌==◌, slice_get, ne_eqb, slice_get_read, IsAddress, Device, IsOn, Map, Put, changed_by, live_in, live_to, change_counts, live_to-zero, live_to-suc, HaveNoGeneration, HaveNoPlace, NeedsTransfer, Proceeds, greatest_generation, elements_of, map_without, put_words, AreApart, names, puts_of, State, capacity, state_of, neither}
+use Rattle.ee_core.proofs.Base.{rules, ◌≡◌, ℕ, ◌+◌, ◌<◌, ◌≤◌, true, false, Bool, cond, Some, is_some, List, [], ◌∷◌, length, get_or, take, refl, sym, ap, arith, suc, zero, length-append, ◌==◌, slice_get, ne_eqb, slice_get_read, IsAddress, Device, IsOn, Map, Put, changed_by, live_in, live_to, change_counts, live_to-zero, live_to-suc, HaveNoGeneration, HaveNoPlace, NeedsTransfer, Proceeds, greatest_generation, elements_of, map_without, put_words, AreApart, names, puts_of, State, capacity, state_of, neither}
 use Rattle.ee_core.specs.declared.change.Put as listed
 use Rattle.ee_core.proofs.CopiedMaps.{apart, changed_by-other}
 use Rattle.ee_core.proofs.Fillings.{length-put_words, map_with_more}
@@ -59,7 +59,7 @@ not_named : (puts : List listed.Put) (place named : ℕ) (put : listed.Put) → 
 not_named [] _ _ _ _ is = absurd (cc is)
 not_named (first ∷ _) zero named put none is =
     let same : first ≡ put = cc is in
-    ap (λ found. found.address == named) (sym same) ∙ (neither _ _ none).0
+    search (rules, neither)
 not_named (first ∷ puts) (suc place) named put none is = not_named puts place named put (neither _ _ none).1 is
 
 -- the address of an entry is proper, and no earlier entry has it
@@ -67,7 +67,7 @@ pub new_before : (puts : List listed.Put) (place : ℕ) (put : listed.Put) → A
 new_before [] _ _ _ is = absurd (cc is)
 new_before (first ∷ _) zero put each is =
     let same : first ≡ put = cc is in
-    (subst (λ found. IsAddress found.address) same each.0, refl)
+    search rules
 new_before (first ∷ puts) (suc place) put each is =
     let later = new_before puts place put each.2 is in
     let away = not_named puts place first.address put each.1 is in
@@ -84,9 +84,7 @@ module _ (map : Map) (puts : List listed.Put) (each : AreApart (puts_of puts)) (
       let there = new_before puts place put each (slice_get_read _ _ _ _ refl within is) in
       let counts = change_counts (Put put.address put.value) so_far there.0 in
       let as_before = changed_by-other (puts_of (take place puts)) map put.address there.1 in
-      ap live_in (map_with_more _ _ _ _ within is)
-      ∙ counts
-      ∙ ap (λ held. live_in so_far + cond (is_some held) 0 1) as_before
+      search (rules, map_with_more)
 
 -- a list of one value
 pub one_listed : (puts : List listed.Put) (put : listed.Put) → length puts ≡ 1 → put ≡ get_or puts 0 put → puts ≡ put ∷ []

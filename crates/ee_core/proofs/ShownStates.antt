@@ -1,5 +1,5 @@
 -- What the pictures say of the states of the pages.
-use Rattle.ee_core.proofs.Base.{rules, ◌≡◌, inl, inr, ℕ, ◌+◌, ◌-◌, ◌<◌, Bool, true, false, cond, not, Option, Some, None, is_some, List, [], ◌∷◌, length, get_or, refl, sym, subst, ap, ◌∙◌, arith, suc, zero, length-append, ◌==◌, ◌&&◌, zero-div, cases_Bool, cases_eq, cases_lt, eq-eqb, le-ltb, lt-leb, lt-ltb, ne_eqb, ext_get_or, Device, page_at, word_at, Size, page_count, Word, Erased, Held, Torn, length-page_at, IsLegal, IsLive, Change, Forget, Map, Put, changed_by, map_after, live_in, live_to, is_blank, is_written, state_of_words, first_page, live_of, other, page_of_slot, Side, First, Second, Mark, live_to-zero, change_counts, blank_word, live_to-suc, IsLowestPending, last_used, ShowsMarks, IsDrawn, OfLive, Picture, element_at, elements_to, filled_set, is_used, marked_word, marked_to, moved_words, picture_of, retired_pages, state_of, side_in}
+use Rattle.ee_core.proofs.Base.{rules, ◌≡◌, inl, inr, ℕ, ◌+◌, ◌-◌, ◌<◌, Bool, true, false, cond, not, Option, Some, None, is_some, List, [], ◌∷◌, length, refl, sym, ap, ◌∙◌, arith, suc, zero, length-append, ◌==◌, ◌&&◌, zero-div, cases_Bool, cases_lt, ext_get_or, Device, page_at, word_at, Size, page_count, Word, Erased, Held, Torn, length-page_at, IsLegal, IsLive, Change, Forget, Map, Put, changed_by, map_after, live_in, live_to, is_blank, is_written, state_of_words, first_page, live_of, other, page_of_slot, Side, First, Second, Mark, live_to-zero, change_counts, blank_word, live_to-suc, IsLowestPending, last_used, ShowsMarks, IsDrawn, OfLive, Picture, element_at, elements_to, filled_set, is_used, marked_word, marked_to, moved_words, picture_of, retired_pages, state_of}
 use Rattle.ee_pages.specs.declared.state.Mark.TheVariants as marks
 use Rattle.ee_pages.specs.declared.state.State.TheVariants.{Erased as Unused, Erasing}
 use Rattle.ee_core.specs.Shown.{ShowsAppended, ShowsMoved, is_left}
@@ -15,14 +15,10 @@ generation_in (Some live) = live.1
 
 -- what holds of the live set, named
 of_live : (Shows : Side → ℕ → Type 0) (device : Device) (side : Side) (generation : ℕ) → OfLive device Shows → live_of device ≡ Some (side, generation) → Shows side generation
-of_live Shows _ _ generation found live =
-    let same = sym found.2 ∙ live in
-    subst (λ set. Shows set generation) (ap side_in same) (subst (λ n. Shows found.0 n) (ap generation_in same) found.3)
+of_live Shows _ _ generation found live = search rules
 
 live_here : (device : Device) (side : Side) (generation : ℕ) → IsLegal device → live_of device ≡ Some (side, generation) → IsLive device side generation
-live_here device _ generation legal live =
-    let same = sym legal.2.live ∙ live in
-    subst (λ set. IsLive device set generation) (ap side_in same) (subst (λ n. IsLive device legal.0 n) (ap generation_in same) legal.2)
+live_here device _ generation legal live = search rules
 
 unwritten : (written rest : Bool) → (not written && rest) ≡ true → written ≡ false
 unwritten true _ e = absurd (cc e)
@@ -30,9 +26,7 @@ unwritten false _ e = refl
 
 -- no page of a live set may be erased
 not_retired : (device : Device) (side : Side) (generation page : ℕ) → IsLive device side generation → page < device.size.pages → is_written (picture_of side device page 3) ≡ false
-not_retired _ _ _ page live h =
-    ap (λ words. is_written (get_or words 3 Erased)) (sym (page_of_set _ _ _ h))
-    ∙ unwritten _ _ (live.allowed page 3 h (omega arith))
+not_retired _ _ _ page live h = search (rules, page_of_set, unwritten)
 
 marked-is_written : (mark : Mark) (word : Word) → is_written (marked_word mark word) ≡ true
 marked-is_written _ Erased = refl
@@ -41,59 +35,11 @@ marked-is_written _ Torn = refl
 
 -- a page's state after the marks up to this one
 marked_shown : (side : Side) (old new : Device) (last page : ℕ) → ((at : ℕ) → at < 4 → picture_of side new page at ≡ marked_to last (picture_of side old) page at) → is_written (picture_of side old page 3) ≡ false → state_at side new page ≡ marked_state side old last page
-marked_shown side old new last page words free =
-    let third = ap is_written (words 3 (omega arith)) in
-    let second = ap is_written (words 2 (omega arith)) in
-    let first = ap is_written (words 1 (omega arith)) in
-    let zeroth = ap is_written (words 0 (omega arith)) in
-    elim (cases_lt _ _) [
-      | inl below ↦
-          let used : is_written (picture_of side new page 2) ≡ true = second ∙ rw (lt-ltb page last below) (marked-is_written marks.Valid (picture_of side old page 2)) in
-          rw (third, free, used, lt-ltb page last below) refl
-      | inr from ↦
-          let same : is_written (picture_of side new page 2) ≡ is_written (picture_of side old page 2) = second ∙ rw (le-ltb page last from) refl in
-          elim (cases_eq _ _) [
-            | inr away ↦
-                let as_before : is_written (picture_of side new page 1) ≡ is_written (picture_of side old page 1) = first ∙ rw (ne_eqb page last away) refl in
-                rw (third, same, as_before, zeroth, le-ltb page last from, ne_eqb page last away) refl
-            | inl here ↦
-                let active : is_written (picture_of side new page 1) ≡ true = first ∙ rw (eq-eqb page last here) (marked-is_written marks.Active (picture_of side old page 1)) in
-                elim (cases_Bool (is_written (picture_of side old page 2))) [
-                  | inl valid ↦ rw (third, free, same, valid, le-ltb page last from, eq-eqb page last here) refl
-                  | inr not_valid ↦ rw (third, free, same, not_valid, active, le-ltb page last from, eq-eqb page last here) refl
-                ]
-          ]
-    ]
+marked_shown side old new last page words free = search (rules, marked-is_written)
 
 -- of a set that was filled
 filled_shown : (side : Side) (device : Device) (size : Size) (generation : ℕ) (words : List Word) (page : ℕ) → ((at : ℕ) → at < 4 → picture_of side device page at ≡ filled_set size generation words page at) → state_at side device page ≡ filled_state (page_of_slot size (length words - 1)) page
-filled_shown side device size _ words page drawn =
-    let last = page_of_slot size (length words - 1) in
-    let third = ap is_written (drawn 3 (omega arith)) in
-    let second = ap is_written (drawn 2 (omega arith)) in
-    let first = ap is_written (drawn 1 (omega arith)) in
-    let zeroth = ap is_written (drawn 0 (omega arith)) in
-    elim (cases_lt _ _) [
-      | inl below ↦
-          let used : is_written (picture_of side device page 2) ≡ true = second ∙ rw (lt-ltb page (page_of_slot size (length words - 1)) below) refl in
-          rw (third, used, lt-ltb page (page_of_slot size (length words - 1)) below) refl
-      | inr from ↦
-          let not_used : is_written (picture_of side device page 2) ≡ false = second ∙ rw (le-ltb page (page_of_slot size (length words - 1)) from) refl in
-          elim (cases_eq _ _) [
-            | inl here ↦
-                let active : is_written (picture_of side device page 1) ≡ true = first ∙ elim (cases_Bool (page == 0)) [
-                  | inl start ↦ rw start refl
-                  | inr further ↦ rw (further, eq-eqb page (page_of_slot size (length words - 1)) here) refl
-                ] in
-                rw (third, not_used, active, le-ltb page (page_of_slot size (length words - 1)) from, eq-eqb page (page_of_slot size (length words - 1)) here) refl
-            | inr away ↦
-                let beyond : page_of_slot size (length words - 1) < page = omega arith in
-                let not_active : is_written (picture_of side device page 1) ≡ false =
-                first ∙ rw (ne_eqb page 0 (λ e. omega arith), ne_eqb page (page_of_slot size (length words - 1)) away) refl in
-                let closed : is_written (picture_of side device page 0) ≡ false = zeroth ∙ rw (lt-leb page (page_of_slot size (length words - 1)) beyond) refl in
-                rw (third, not_used, not_active, closed, le-ltb page (page_of_slot size (length words - 1)) from, ne_eqb page (page_of_slot size (length words - 1)) away) refl
-          ]
-    ]
+filled_shown side device size _ words page drawn = search rules
 
 -- of a page that is as before
 same_shown : (side : Side) (old new : Device) (page : ℕ) → ((at : ℕ) → at < 4 → picture_of side new page at ≡ picture_of side old page at) → state_at side new page ≡ state_at side old page
@@ -138,9 +84,7 @@ moved_words_are_live_lem (Put address value ∷ changes) map apart =
     let others = map_after (Forget address) map in
     let after = changed_by changes others in
     let rest = moved_words_are_live_lem changes others apart.2 in
-    let none = changed_by-other changes others address apart.1 ∙ forget-at map address _ refl in
-    let counts = change_counts (Put address value) after apart.0 in
-    let one = counts ∙ ap (λ held. live_in after + cond (is_some held) 0 1) none in
+    let one = (change_counts (Put address value) after apart.0) ∙ ap (λ held. live_in after + cond (is_some held) 0 1) (changed_by-other changes others address apart.1 ∙ forget-at map address _ refl) in
     let same = same_counts _ _ (put_last _ map address value apart.1) in
     omega arith
 moved_words_are_live_lem (Forget address ∷ changes) map apart = moved_words_are_live_lem changes (map_after (Forget address) map) apart.2
@@ -160,7 +104,7 @@ blank_state _ blank = search (rules, blank_word)
 
 -- where a page may not be erased, its words stay
 kept_word : (waits : ℕ → Bool) (picture : Picture) (page at : ℕ) → waits page ≡ false → retired_pages waits picture page at ≡ picture page at
-kept_word _ _ _ at e = elim (cases_Bool (at == 3)) [ inl three ↦ rw (three, e) refl | inr away ↦ rw away refl ]
+kept_word _ _ _ at e = search rules
 
 pub states_after_transfer_lem : StatesAfterTransfer
 states_after_transfer_lem old changes new side generation page store moves proper live h =
@@ -168,16 +112,14 @@ states_after_transfer_lem old changes new side generation page store moves prope
     let now : page < new.size.pages = omega (arith, ap (λ size. size.pages) moves.goes_on.same_size) in
     let is = live_here old side generation store.legal live in
     let inside : 4 < new.size.words = omega (arith, ap (λ (size : Size). size.words) moves.goes_on.same_size) in
-    let words = moved_words changes (state_of old).map in
     let fill = ap (λ state. state.fill) moves.state_is ∙ sym (moved_words_are_live_lem changes (state_of old).map proper) in (
-      filled_shown (other side) new old.size (generation + 1) words page (λ at low. shows.new_pages page at now (omega arith))
+      filled_shown (other side) new old.size (generation + 1) (moved_words changes (state_of old).map) page (λ at low. shows.new_pages page at now (omega arith))
           ∙ ap (λ n. filled_state (page_of_slot old.size (n - 1)) page) (sym fill),
       elim (cases_Bool (is_left changes side old page)) [
         | inl left ↦
-            rw left (retired_shown side new page (ap is_written (shows.old_pages page 3 now (omega arith)) ∙ rw left (marked-is_written marks.Erasing (picture_of side old page 3))))
+            search (rules, retired_shown, marked-is_written)
         | inr stays ↦
-            rw stays (same_shown side old new page (λ at low. shows.old_pages page at now (omega arith) ∙ kept_word (is_left changes side old) (picture_of side old) page at stays)
-            ∙ blank_state (page_at old (first_page old.size side + page)) (not_used (is_blank (page_at old (first_page old.size side + page))) (left_blank changes side old page stays)))
+            search (rules, same_shown, kept_word, blank_state, not_used, left_blank)
       ],
     )
 
@@ -194,10 +136,7 @@ lowest_is _ first second one two = elim (cases_lt _ _) [
 pub states_after_clean_lem : StatesAfterClean
 states_after_clean_lem old new lowest page erases is =
     let same = lowest_is old erases.lowest.page lowest erases.lowest.lowest is in
-    elim (cases_eq _ _) [
-      | inl here ↦ rw (eq-eqb page lowest here) (ap (λ n. state_of_words (page_at new n)) (here ∙ sym same) ∙ blank_state (page_at new erases.lowest.page) erases.lowest.blank)
-      | inr away ↦ rw (ne_eqb page lowest away) (ap state_of_words (erases.lowest.others page (λ e. away (e ∙ same))))
-    ]
+    search (rules, blank_state)
 
 -- where a page is blank, it is not marked
 not_waiting : (blank : Bool) → blank ≡ true → (picture : Picture) (page at : ℕ) → retired_pages (λ p. not blank) picture page at ≡ picture page at
@@ -216,8 +155,7 @@ states_after_opening_lem old new side generation page opens live h =
             rw blank (blank_shown (other side) new page (λ at low.
             shows.old_pages page at now (omega arith) ∙ not_waiting (is_blank words) blank (picture_of (other side) old) page at ∙ blank_word _ at blank))
         | inr written ↦
-            rw written (retired_shown (other side) new page
-            (ap is_written (shows.old_pages page 3 now (omega arith)) ∙ rw written (marked-is_written marks.Erasing (picture_of (other side) old page 3))))
+            search (rules, retired_shown, marked-is_written)
       ],
     )
 
@@ -235,8 +173,7 @@ page_of_either old new n at sizes h within drawn =
       | inr second ↦
           let k = n - old.size.pages in
           let now : n ≡ new.size.pages + (n - old.size.pages) = omega (arith, ap (λ size. size.pages) sizes) in
-          let before : old.size.pages + (n - old.size.pages) ≡ n = omega arith in
-          ap (λ p. word_at new p at) now ∙ drawn Second (n - old.size.pages) at (omega arith) inside ∙ ap (λ p. word_at old p at) before
+          ap (λ p. word_at new p at) now ∙ drawn Second (n - old.size.pages) at (omega arith) inside ∙ ap (λ p. word_at old p at) (omega arith)
     ]
 
 pub pictures_tell_images_lem : PicturesTellImages
@@ -244,9 +181,8 @@ pictures_tell_images_lem old new formed new_formed sizes drawn =
     let counts = ap page_count sizes in
     let widths = ap (λ size. size.words) sizes in
     ext_get_or [] new.image old.image (omega arith) (λ n h.
-    let in_range : n < page_count new.size = omega arith in
     let before : n < page_count old.size = omega arith in
-    let long = length-page_at _ n new_formed in_range in
+    let long = length-page_at _ n new_formed (omega arith) in
     let long_before = length-page_at _ n formed before in
     ext_get_or Erased (page_at new n) (page_at old n) (omega arith) (λ at within.
     page_of_either old new n at sizes before (omega arith) drawn))

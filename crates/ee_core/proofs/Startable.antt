@@ -1,6 +1,6 @@
 -- What steps leave of a device that can be started: from a first start on, until its set is
 -- committed.
-use Rattle.ee_core.proofs.Base.{rules, ◌≡◌, ◌≢◌, ◌⊎◌, inl, inr, ℕ, ◌+◌, ◌<◌, ◌≤◌, true, Some, None, Option, [], length, get_or, set, refl, sym, subst, ap, ◌∙◌, arith, suc, zero, All, cases_eq, same_Some, option_map, All-drop, All-take, get_or-set_same, get_or_past, Device, IsFormed, IsOn, page_at, word_at, DiffersInPage, IsStep, IsCut, page_count, Step, Program, Erase, MayFollow, device_after, with_word, Word, Erased, Held, Torn, step_changes_one_page, step_keeps_formed, step_leaves_pages, IsCommitted, IsScanFault, IsUnformatted, IsLegal, CannotCommit, IsPageOf, meaning, is_blank, marking, word_in, committed_generation, fill_of, first_page, live_of, other, set_of, Side, First, Second, Active, Receive, blank_set, commit_after, commits, commits_by, elsewhere, programmed_word, same_set, first_commits, other_set_stays, legal_is_good, as_it_was, none_live, with_power_on, IfOk, Result, Ok, Err, IsFormatted, OpenFails, formatted_state, state_of}
+use Rattle.ee_core.proofs.Base.{rules, ◌≡◌, ◌≢◌, ◌⊎◌, inl, inr, ℕ, ◌+◌, ◌<◌, ◌≤◌, true, Some, None, Option, [], get_or, set, refl, sym, subst, ap, ◌∙◌, arith, suc, zero, All, cases_eq, same_Some, option_map, All-drop, All-take, get_or-set_same, get_or_past, Device, IsFormed, IsOn, page_at, word_at, DiffersInPage, IsStep, IsCut, page_count, Step, Program, Erase, MayFollow, device_after, with_word, Word, Erased, Held, Torn, step_changes_one_page, step_keeps_formed, step_leaves_pages, IsCommitted, IsScanFault, IsUnformatted, IsLegal, CannotCommit, meaning, is_blank, marking, word_in, committed_generation, fill_of, first_page, live_of, set_of, Side, First, Second, Active, Receive, blank_set, commit_after, commits, commits_by, elsewhere, programmed_word, same_set, first_commits, other_set_stays, legal_is_good, as_it_was, none_live, with_power_on, IfOk, Result, Ok, Err, IsFormatted, OpenFails, formatted_state, state_of}
 use Rattle.ee_pages.specs.declared.find.ScanFault.TheVariants.{NoLiveSet, TwoLive, Foreign}
 use Rattle.ee_core.proofs.FirstSet.{alone, erased_commits, no_pending, opened, same_second}
 use Rattle.ee_core.proofs.Powered.{legal_on, state_in_on}
@@ -22,9 +22,8 @@ is_held _ _ (inr torn) held = let e = sym torn ∙ held in cc e
 -- it leaves no word held behind a header that wasn't
 held_before : (step : Step) (old new : Device) (page at number : ℕ) → IsStep step old new → IsInHeader step → 4 ≤ at → word_at new page at ≡ Held number → word_at old page at ≡ Held number
 held_before (Erase erased) old new _ at number taken _ _ held =
-    let differs = step_changes_one_page _ _ _ taken in
     elim (cases_eq _ _) [
-      | inr apart ↦ sym (elsewhere _ _ erased _ at differs apart) ∙ held
+      | inr apart ↦ search (rules, elsewhere, step_changes_one_page)
       | inl same ↦
           let there = subst (λ n. word_at new n at ≡ Held number) same held in
           elim ((step_leaves_pages _ _ _ taken).0.each at) [
@@ -33,14 +32,10 @@ held_before (Erase erased) old new _ at number taken _ _ held =
           ]
     ]
 held_before (Program programmed place value) old new _ at number taken header behind held =
-    let differs = step_changes_one_page _ _ _ taken in
-    let left = step_leaves_pages _ _ _ taken in
-    let h : programmed < length old.image = omega arith in
-    let other : at ≢ place = λ e. omega arith in
     elim (cases_eq _ _) [
-      | inr apart ↦ sym (elsewhere _ _ programmed _ at differs apart) ∙ held
+      | inr apart ↦ sym (elsewhere _ _ programmed _ at (step_changes_one_page _ _ _ taken) apart) ∙ held
       | inl same ↦
-          ap (λ n. word_at old n at) same ∙ sym (programmed_word old new _ place value at h other left) ∙ subst (λ n. word_at new n at ≡ Held number) same held
+          ap (λ n. word_at old n at) same ∙ sym (programmed_word old new _ place value at (omega arith) (λ e. omega arith) (step_leaves_pages _ _ _ taken)) ∙ subst (λ n. word_at new n at ≡ Held number) same held
     ]
 
 none_or_gone : {A : Type 0} (after before : Option A) → (after ≡ before) ⊎ (after ≡ None) → before ≡ None → after ≡ None
@@ -50,15 +45,13 @@ none_or_gone _ _ (inr gone) _ = gone
 -- a step that commits neither set, and is in no slot, leaves the device startable, in every outcome
 pub stays_startable : (step : Step) (old new : Device) → IsStep step old new → IsInHeader step → ((side : Side) → CannotCommit (first_page old.size side) step old) → IsStartable old → IsStartable new
 stays_startable step old new taken header cannot startable =
-    let differs = step_changes_one_page _ _ _ taken in
-    let formed = step_keeps_formed _ _ _ taken in
     record {
       uncommitted = λ side.
           let first = first_page old.size side in
           let now =
-          commits_by _ _ formed ∙ ap (λ size. commits (word_at new (first_page size side) 0) (word_at new (first_page size side) 1)) differs.same_size in
+          commits_by _ _ (step_keeps_formed _ _ _ taken) ∙ ap (λ size. commits (word_at new (first_page size side) 0) (word_at new (first_page size side) 1)) (step_changes_one_page _ _ _ taken).same_size in
           now ∙ none_or_gone _ _ (commit_after _ _ _ _ taken (cannot side)) (sym (commits_by _ _ taken.formed) ∙ startable.uncommitted side);
-      none_held = λ page at number behind held. startable.none_held page at number behind (held_before step old new page at number taken header behind held);
+      none_held = search (rules, held_before);
     }
 
 -- an erase, in every outcome
@@ -85,29 +78,24 @@ cannot_receive _ _ _ all = search (rules, blank_set)
 module _ (blank mid : Device) (formed : IsFormed blank) (all : All (λ page. is_blank page ≡ true) blank.image) where
   -- whatever the receive word's step leaves
   pub received_startable : IsStep (marking 0 (Receive 1)) blank mid → IsStartable mid
-  received_startable taken = stays_startable (marking 0 (Receive 1)) blank mid taken (omega arith) (λ side. cannot_receive side blank formed all) (blank_startable blank all)
+  received_startable taken = search (rules, stays_startable, cannot_receive, blank_startable)
 
 -- the mark that commits, torn
 torn_commits : (side : Side) (mid new : Device) → IsStep (marking 0 Active) mid new → DiffersInPage 0 mid new → IsFormed new → word_at new 0 1 ≡ Torn → IsStartable mid → committed_generation (set_of side new) ≡ None
 torn_commits First _ _ _ _ formed mark _ = commits_by First _ formed ∙ rw mark refl
 torn_commits Second mid _ taken differs formed mark startable =
-    let at : IsPageOf mid.size (other Second) 0 = record { from = omega arith; below = omega arith } in
-    ap committed_generation (same_set Second _ _ 0 differs at) ∙ startable.uncommitted Second
+    ap committed_generation (same_set Second _ _ 0 differs (record { from = omega arith; below = omega arith })) ∙ startable.uncommitted Second
 
 torn_startable : (mid new : Device) → IsStep (marking 0 Active) mid new → new.image ≡ (with_word 0 1 Torn mid).image → IsStartable mid → IsStartable new
 torn_startable mid new taken torn startable =
-    let differs = step_changes_one_page _ _ _ taken in
-    let formed = step_keeps_formed _ _ _ taken in
     let left = step_leaves_pages _ _ _ taken in
-    let some : 0 < length mid.image = omega arith in
-    let long : 1 < length (page_at mid 0) = omega arith in
     let mark =
     ap (λ image. word_in (get_or image 0 []) 1) torn
-    ∙ ap (λ words. word_in words 1) (get_or-set_same mid.image 0 (set (page_at mid 0) 1 Torn) [] some)
-    ∙ get_or-set_same (page_at mid 0) 1 Torn Erased long in
+    ∙ ap (λ words. word_in words 1) (get_or-set_same mid.image 0 (set (page_at mid 0) 1 Torn) [] (omega arith))
+    ∙ get_or-set_same (page_at mid 0) 1 Torn Erased (omega arith) in
     record {
-      uncommitted = λ side. torn_commits side mid new taken differs formed mark startable;
-      none_held = λ page at number behind held. startable.none_held page at number behind (held_before (marking 0 Active) mid new page at number taken (omega arith) behind held);
+      uncommitted = search (rules, torn_commits, step_changes_one_page, step_keeps_formed);
+      none_held = search (rules, held_before);
     }
 
 -- the mark that commits, programmed whole, also where power was cut in its step
@@ -131,7 +119,7 @@ module _ (blank mid new : Device) (formed : IsFormed blank) (all : All (λ page.
 pub active_starting : (blank mid new : Device) → IsFormed blank → All (λ page. is_blank page ≡ true) blank.image → IsOn blank → mid ≡ device_after (marking 0 (Receive 1)) blank → IsStep (marking 0 Active) mid new → IsStartable mid → IsStarting new
 active_starting blank mid new formed all on whole taken startable = elim (step_leaves_pages _ _ _ taken) [
   | inl same ↦ inl (same_image mid new (step_changes_one_page _ _ _ taken).same_size same startable)
-  | inr (inl held) ↦ inr (committed_new blank mid new formed all on whole taken held)
+  | inr (inl held) ↦ search (rules, committed_new)
   | inr (inr torn) ↦ inl (torn_startable mid new taken torn startable)
 ]
 
@@ -139,8 +127,7 @@ active_starting blank mid new formed all on whole taken startable = elim (step_l
 
 pub startable_not_live : (device : Device) (side : Side) (generation : ℕ) → IsStartable device → live_of device ≡ Some (side, generation) → ⊥
 startable_not_live _ _ _ startable live =
-    let none = none_live _ _ (startable.uncommitted First) (startable.uncommitted Second) in
-    let e = sym none ∙ live in cc e
+    let e = sym (none_live _ _ (startable.uncommitted First) (startable.uncommitted Second)) ∙ live in cc e
 
 pub none_committed : (device : Device) → IsScanFault device NoLiveSet → (side : Side) → committed_generation (set_of side device) ≡ None
 none_committed _ fault First = fault.1
@@ -166,7 +153,7 @@ starts_anew _ _ (Err _) _ _ _ = tt
 
 -- a word past the end of its page is erased
 pub past_end : (device : Device) (page at number : ℕ) → IsFormed device → page < page_count device.size → device.size.words ≤ at → word_at device page at ≢ Held number
-past_end device page at number formed within past = is_held (word_at device page at) number (inl (get_or_past _ at Erased (omega arith)))
+past_end device page at number formed within past = search (rules, is_held, get_or_past)
 
 -- ---- any number of starts
 
@@ -175,7 +162,7 @@ same_powered First _ = refl
 same_powered Second _ = refl
 
 powered_starting : (device : Device) → IsStarting device → IsStarting (with_power_on device)
-powered_starting device (inl startable) = inl (record { uncommitted = λ side. ap committed_generation (same_powered side device) ∙ startable.uncommitted side; none_held = startable.none_held })
+powered_starting device (inl startable) = inl (record { uncommitted = search (rules, same_powered); none_held = startable.none_held })
 powered_starting device (inr new) = inr (record { legal = legal_on _ new.legal; state_is = state_in_on device (live_of device) ∙ new.state_is })
 
 cut_starting : (old new : Device) → IsStarting old → StartFails old Cut new → IsStarting new × IsCut old new
@@ -194,7 +181,7 @@ only_cut _ _ (Scan _) (inl startable) fails = absurd (fails.0 startable)
 only_cut _ _ (Scan fault) (inr before) fails = absurd (legal_is_good _ fault before.legal fails.1)
 
 starts_empty : (device : Device) → IsStarting device → StartsEmpty device
-starts_empty device starting = record { store = λ new. empty_store device new starting; no_fault = λ fault new. only_cut device new fault starting }
+starts_empty device starting = search (rules, empty_store, only_cut)
 
 one_left_less : (more left : ℕ) (cuts_left : Option ℕ) → Some left ≡ option_map (λ n. n + 1) cuts_left → ((rest : ℕ) → cuts_left ≡ Some rest → more ≤ rest) → suc more ≤ left
 one_left_less _ _ None e _ = cc e
@@ -206,12 +193,11 @@ starts_end_from (suc more) old new starting run =
     let between = run.0 in
     let cut = cut_starting old between starting run.1 in
     let rest = starts_end_from more (with_power_on between) new (powered_starting between cut.0) run.2 in
-    (rest.0, λ left e. one_left_less more left between.cuts_left (sym e ∙ cut.1.one_less_left) rest.1)
+    search (rules, one_left_less)
 
 pub starts_end_lem : (starts : ℕ) (old new : Device) → IsUnformatted old → AreCutStarts starts old new → StartsEmpty new × ((left : ℕ) → old.cuts_left ≡ Some left → starts ≤ left)
 starts_end_lem starts old new blank run = starts_end_from starts old new (inl (blank_startable old blank)) run
 
 -- and so is one of a page past the last
 pub past_device : (device : Device) (page at number : ℕ) → IsFormed device → page_count device.size ≤ page → word_at device page at ≢ Held number
-past_device device page at number formed past =
-    is_held (word_at device page at) number (inl (ap (λ words. get_or words at Erased) (get_or_past _ page [] (omega arith))))
+past_device device page at number formed past = search (rules, is_held, get_or_past)

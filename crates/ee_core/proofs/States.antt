@@ -11,8 +11,7 @@ state_from map fill generation pending = record { map = map; fill = fill; genera
 
 pub same_states : (map new_map : Map) (fill new_fill generation new_generation pending new_pending : ℕ) → ((address : ℕ) → new_map address ≡ map address) → new_fill ≡ fill → new_generation ≡ generation → new_pending ≡ pending → state_from new_map new_fill new_generation new_pending ≡ state_from map fill generation pending
 same_states _ _ _ _ _ _ _ _ maps fills generations pendings =
-    let map_is = fun_ext maps in
-    rw (map_is, fills, generations, pendings) refl
+    rw ((fun_ext maps), fills, generations, pendings) refl
 
 module _ (old new : Device) (side : Side) (generation : ℕ) (live : IsLive old side generation) where
   -- the live set is as before, and so many pages of the other wait

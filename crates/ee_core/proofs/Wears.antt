@@ -1,5 +1,5 @@
 -- How wear rises over several steps, page by page and in all.
-use Rattle.ee_core.proofs.Base.{rules, ◌≡◌, ◌⊎◌, inl, inr, ℕ, ◌+◌, ◌<◌, ◌++◌, List, [], ◌∷◌, ◌≤◌, Bool, true, false, cond, eqb, length, get_or, set, min, refl, sym, subst, ap, ◌∙◌, arith, All, sum, cases_eq, cases_lt, eq-eqb, ne_eqb, true≢false, get_or-set_other, get_or-set_same, get_or_past, length-append, length-set, All-append, All-cons, All-from_get_or, All-get_or, All-head, All-nil, All-tail, sum_by-set, Device, IsOn, all_ones, Erase, IsCutIn, IsUntouched, with_page_erased, one_more, total_wear_of, CountsWear, WearRises, Wears, worn_by}
+use Rattle.ee_core.proofs.Base.{rules, ◌≡◌, ◌⊎◌, inl, inr, ℕ, ◌+◌, ◌<◌, ◌++◌, List, [], ◌∷◌, ◌≤◌, Bool, true, false, cond, eqb, length, get_or, set, min, refl, sym, subst, ap, ◌∙◌, arith, All, sum, cases_eq, true≢false, get_or-set_other, get_or-set_same, get_or_past, length-append, length-set, All-append, All-cons, All-from_get_or, All-get_or, All-head, All-nil, All-tail, sum_by-set, Device, IsOn, all_ones, Erase, IsCutIn, IsUntouched, with_page_erased, one_more, total_wear_of, CountsWear, WearRises, Wears, worn_by}
 
 -- ---- wears as lists
 
@@ -27,8 +27,7 @@ more_counts : (wear : List ℕ) (page : ℕ) → page < length wear → IsCounte
 more_counts wear page h counts =
     let more = one_more (get_or wear page 0) in
     let long = length-set wear page more in
-    let below = subst (λ count. count < all_ones) (get_or-set_same wear page more 0 h) (All-get_or (λ count. count < all_ones) _ _ 0 (omega arith) counts) in
-    let here = below_more (get_or wear page 0) all_ones below in
+    let here = below_more (get_or wear page 0) all_ones (subst (λ count. count < all_ones) (get_or-set_same wear page more 0 h) (All-get_or (λ count. count < all_ones) _ _ 0 (omega arith) counts)) in
     let each = All-from_get_or (λ count. count < all_ones) _ 0 (λ k in_range. elim (cases_eq k _) [
       | inl same ↦ subst (λ n. get_or wear n 0 < all_ones) (sym same) here.0
       | inr other ↦ subst (λ count. count < all_ones) (get_or-set_other wear page k more 0 other) (All-get_or (λ count. count < all_ones) _ k 0 (omega arith) counts)
@@ -38,10 +37,8 @@ more_counts wear page h counts =
 all_count : (pages wear : List ℕ) → AreThere pages wear → IsCounted (worn_by pages wear) → IsCounted wear × (sum (worn_by pages wear) ≡ sum wear + length pages)
 all_count [] _ _ counts = (counts, omega arith)
 all_count (page ∷ pages) wear there counts =
-    let next = set wear page (one_more (get_or wear page 0)) in
-    let long = length-set wear page (one_more (get_or wear page 0)) in
-    let rest = subst (λ n. All (λ page. page < n) pages) (sym long) (All-tail (λ page. page < length wear) _ _ there) in
-    let later = all_count pages next rest counts in
+    let rest = subst (λ n. All (λ page. page < n) pages) (sym (length-set wear page (one_more (get_or wear page 0)))) (All-tail (λ page. page < length wear) _ _ there) in
+    let later = all_count pages (set wear page (one_more (get_or wear page 0))) rest counts in
     let now = more_counts wear page (All-head (λ page. page < length wear) _ _ there) later.0 in
     (now.0, omega arith)
 
@@ -54,18 +51,10 @@ times page (here ∷ pages) = cond (eqb here page) 1 0 + times page pages
 
 -- one more, of a page that may be past the end
 worn_once : (wear : List ℕ) (page : ℕ) → get_or (set wear page (one_more (get_or wear page 0))) page 0 ≤ get_or wear page 0 + 1
-worn_once wear page = elim (cases_lt _ _) [
-  | inl within ↦ rw (get_or-set_same wear page (one_more (get_or wear page 0)) 0 within) (omega arith)
-  | inr past ↦
-      let long = length-set wear page (one_more (get_or wear page 0)) in
-      rw (get_or_past (set wear page (one_more (get_or wear page 0))) page 0 (omega arith)) (omega arith)
-]
+worn_once wear page = search (rules, get_or_past)
 
 worn_one : (wear : List ℕ) (here page : ℕ) → get_or (set wear here (one_more (get_or wear here 0))) page 0 ≤ get_or wear page 0 + cond (eqb here page) 1 0
-worn_one wear here page = elim (cases_eq page here) [
-  | inl same ↦ rw (same, eq-eqb here here refl) (worn_once wear here)
-  | inr other ↦ rw (get_or-set_other wear here page (one_more (get_or wear here 0)) 0 other, ne_eqb here page (λ same. other (sym same))) (omega arith)
-]
+worn_one wear here page = search (rules, worn_once)
 
 -- a page wears no more often than the list names it
 pub worn_at_most : (pages wear : List ℕ) (page : ℕ) → get_or (worn_by pages wear) page 0 ≤ get_or wear page 0 + times page pages
@@ -86,7 +75,7 @@ times_few (here ∷ pages) page = let rest = one_few (eqb here page) (times page
 -- ---- wears of devices
 
 pub wears_none : (old new : Device) → new.wear ≡ old.wear → Wears [] old new
-wears_none old _ same = record { there = All-nil (λ page. page < length old.wear); wear_is = same }
+wears_none old _ same = search (rules, All-nil)
 
 -- an erase of a page that was begun
 pub page_wears : (page : ℕ) (old new : Device) → page < length old.wear → new.wear ≡ (with_page_erased page old).wear → Wears (page ∷ []) old new
@@ -99,23 +88,22 @@ cut_page_wears _ _ _ h (inr untouched) on = absurd (true≢false (sym on ∙ unt
 
 pub wears_both : (pages more : List ℕ) (old mid new : Device) → Wears pages old mid → Wears more mid new → Wears (pages ++ more) old new
 wears_both pages more old _ _ first second =
-    let long = ap length first.wear_is ∙ length-worn_by pages old.wear in
-    record { there = All-append (λ page. page < length old.wear) _ _ first.there (subst (λ n. All (λ page. page < n) more) long second.there); wear_is = second.wear_is ∙ ap (worn_by more) first.wear_is ∙ sym (worn_by-append pages more old.wear) }
+    record { there = All-append (λ page. page < length old.wear) _ _ first.there (subst (λ n. All (λ page. page < n) more) (ap length first.wear_is ∙ length-worn_by pages old.wear) second.there); wear_is = search (rules, worn_by-append) }
 
 -- what wears nothing more
 pub wears_still : (pages : List ℕ) (old mid new : Device) → Wears pages old mid → new.wear ≡ mid.wear → Wears pages old new
-wears_still _ _ _ _ wears same = record { there = wears.there; wear_is = same ∙ wears.wear_is }
+wears_still _ _ _ _ wears same = search rules
 
 -- ---- so many erases
 
 pub wears_rise : (pages : List ℕ) (erases : ℕ) (old new : Device) → Wears pages old new → length pages ≡ erases → WearRises erases old new
-wears_rise pages _ _ _ wears count = record { pages = pages; count = count; wears = wears }
+wears_rise pages _ _ _ wears count = search rules
 
 pub no_wear : (old new : Device) → new.wear ≡ old.wear → WearRises 0 old new
 no_wear old new same = wears_rise [] 0 old new (wears_none old new same) refl
 
 pub wear_adds : (a b : ℕ) (old mid new : Device) → WearRises a old mid → WearRises b mid new → WearRises (a + b) old new
-wear_adds a b old mid new first second = record { pages = first.pages ++ second.pages; count = omega (arith, length-append first.pages second.pages); wears = wears_both first.pages second.pages old mid new first.wears second.wears }
+wear_adds a b old mid new first second = record { pages = first.pages ++ second.pages; count = omega (arith, length-append first.pages second.pages); wears = search (rules, wears_both) }
 
 -- In all, wear rose by as many as were erased, where no page of the device now was erased as
 -- often as can be counted.
