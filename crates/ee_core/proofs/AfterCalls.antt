@@ -1,8 +1,8 @@
 -- Steps that went on, one after another.
-use Rattle.ee_core.proofs.Base.{◌≡◌, ◌≢◌, ◌⊎◌, inl, inr, ℕ, Bool, ap, false, true, refl, sym, ◌∙◌, Result, Ok, Err, IsErr, OnOk, cases_Bool, true≢false, Device, IsOff, IsOn, page_at, Ends, GoesOn, IsCutIn, IsUntouched, Program, Step, device_after, is_marked, marking, IsStep, step_keeps_other_pages, Mark, calls_compose}
+use Rattle.ee_core.proofs.Base.{◌≡◌, ◌≢◌, ◌⊎◌, inl, inr, ℕ, Bool, ap, false, true, refl, sym, ◌∙◌, Result, Ok, Err, IsErr, OnOk, true≢false, Device, IsOff, IsOn, page_at, Ends, GoesOn, IsCutIn, IsUntouched, Program, Step, device_after, is_marked, marking, IsStep, step_keeps_other_pages, Mark, calls_compose, rules}
 
 pub goes_on_same : (device : Device) → GoesOn device device
-goes_on_same _ = record { same_size = refl; same_power = refl; same_cuts = refl; same_cuts_left = refl; same_while_off = λ off. refl }
+goes_on_same _ = search rules
 
 pub goes_on_both : (old mid new : Device) → GoesOn old mid → GoesOn mid new → GoesOn old new
 goes_on_both _ _ _ first second = (calls_compose _ _ _ first).0 second
@@ -36,17 +36,11 @@ goes_on_programmed _ _ _ old on done = rw done (record { same_size = refl; same_
 
 -- or was set before
 pub goes_on_mark : {new : Device} (page : ℕ) (mark : Mark) (old : Device) → (is_marked old page mark ≡ true → new ≡ old) → (is_marked old page mark ≡ false → IsOn old) → (is_marked old page mark ≡ false → new ≡ device_after (marking page mark) old) → GoesOn old new
-goes_on_mark _ _ old present on done = elim (cases_Bool _) [
-  | inl set ↦ rw (present set) (goes_on_same old)
-  | inr unset ↦ goes_on_programmed _ _ _ old (on unset) (done unset)
-]
+goes_on_mark _ _ old present on done = search (rules, goes_on_same, goes_on_programmed)
 
 -- a mark wears no page
 pub mark_keeps_wear : {new : Device} (page : ℕ) (mark : Mark) (old : Device) → (is_marked old page mark ≡ true → new ≡ old) → (is_marked old page mark ≡ false → new ≡ device_after (marking page mark) old) → new.wear ≡ old.wear
-mark_keeps_wear _ _ _ present done = elim (cases_Bool _) [
-  | inl set ↦ ap (λ device. device.wear) (present set)
-  | inr unset ↦ ap (λ device. device.wear) (done unset)
-]
+mark_keeps_wear _ _ _ present done = search rules
 
 -- the pages apart from that of a step
 pub same_but : (page : ℕ) (mark : Mark) (old new : Device) → (new ≡ old) ⊎ IsStep (marking page mark) old new → (other : ℕ) → other ≢ page → page_at new other ≡ page_at old other

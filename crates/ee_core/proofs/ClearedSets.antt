@@ -1,5 +1,5 @@
 -- The other set at the start of a transfer, whose pages are erased one after another.
-use Rattle.ee_core.proofs.Base.{◌≡◌, ◌⊎◌, inl, inr, ℕ, ◌+◌, ◌-◌, ◌<◌, ◌≤◌, true, false, [], ◌∷◌, length, take, get_or, sym, subst, ap, ◌∙◌, arith, All, cases_eq, Device, IsFormed, page_at, GoesOn, IsPartlyErased, KeepsSide, is_blank, first_page, other, set_of, Side, keeps_side_both, length-set_of, IsSameBut, ErasesPartly, Wears, not_blank_from, not_blank_in}
+use Rattle.ee_core.proofs.Base.{◌≡◌, ◌⊎◌, inl, inr, ℕ, ◌+◌, ◌-◌, ◌<◌, ◌≤◌, true, false, [], ◌∷◌, length, take, get_or, subst, ap, ◌∙◌, arith, All, cases_eq, Device, IsFormed, page_at, GoesOn, IsPartlyErased, KeepsSide, is_blank, first_page, other, set_of, Side, keeps_side_both, length-set_of, IsSameBut, ErasesPartly, Wears, not_blank_from, not_blank_in, rules}
 use Rattle.ee_core.proofs.AfterCalls.{goes_on_both}
 use Rattle.ee_core.proofs.Cuts.{erases_partly}
 use Rattle.ee_core.proofs.ErasedPages.{all_wear, wears_next, wears_to}
@@ -34,7 +34,7 @@ module _ (side : Side) (old : Device) (first pages : ℕ) (formed : IsFormed old
     within = omega (arith, length-set_of (other side) _ formed)
 
     there : get_or (set_of (other side) old) (page - first) [] ≡ page_at mid page
-    there = page_there _ _ formed _ first_is _ from (omega arith) ∙ sym (so_far.rest page (inr (omega arith)))
+    there = search (rules, page_there)
 
     -- one page more
     pub cleared_next : (new : Device) → KeepsSide mid new side → BlanksPage mid new page → ClearedTo old new side first (page + 1)
@@ -56,5 +56,4 @@ module _ (side : Side) (old : Device) (first pages : ℕ) (formed : IsFormed old
     -- or power was cut in erasing it
     pub cleared_cut : (new : Device) → is_blank (page_at mid page) ≡ false → Wears (page ∷ []) mid new → IsSameBut page mid new → IsPartlyErased (page_at mid page) (page_at new page)
         → ErasesPartly (first_page old.size (other side)) (set_of (other side) old) old new
-    cleared_cut new written now others partly =
-        subst (λ n. ErasesPartly n (set_of (other side) old) old new) first_is (erases_partly _ _ _ _ mid _ (wears_to _ _ (page - first) _ _ mid _ at within there so_far.wear written now) from so_far.blank so_far.rest others partly)
+    cleared_cut new written now others partly = search (rules, erases_partly, wears_to, at, within, there)

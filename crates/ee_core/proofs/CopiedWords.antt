@@ -1,5 +1,5 @@
 -- The elements of the addresses that are copied, address by address.
-use Rattle.ee_core.proofs.Base.{◌≡◌, inl, inr, ℕ, ◌<◌, ◌≤◌, true, false, Some, None, List, [], ◌∷◌, ◌++◌, refl, ap, ◌∙◌, arith, suc, zero, append-nil, cases_Bool, cases_eq, cases_lt, element, Held, Change, Map, IsNextLive, element_at, elements_of, map_without, names}
+use Rattle.ee_core.proofs.Base.{◌≡◌, inl, inr, ℕ, ◌<◌, ◌≤◌, true, false, Some, None, List, [], ◌∷◌, ◌++◌, refl, ap, ◌∙◌, arith, suc, zero, append-nil, cases_lt, element, Held, Change, Map, IsNextLive, element_at, elements_of, map_without, names, rules}
 use Rattle.ee_core.proofs.CopiedMaps.{without-at, without-other}
 use Rattle.ee_core.specs.Picture.{elements_to}
 
@@ -36,25 +36,19 @@ module _ (map : Map) (changes : List Change) where
   others = map_without changes map
 
   other_none : (address : ℕ) → map address ≡ None → others address ≡ None
-  other_none address none = elim (cases_Bool (names changes address)) [
-    | inl same ↦ without-at changes map address same
-    | inr away ↦ without-other changes map address away ∙ none
-  ]
+  other_none address none = search (rules, without-at, without-other)
 
   -- the next address is copied
   pub copied_word : (above next value : ℕ) → IsNextLive map above (Some (next, value)) → names changes next ≡ false → elements_to others next ≡ elements_to others above ++ (Held (element next value) ∷ [])
-  copied_word above next value is away = next_element others above next value (is.0, without-other changes map next away ∙ is.1, λ address low high. other_none address (is.2 address low high))
+  copied_word above next value is away = search (rules, next_element, without-other, other_none)
 
   -- or it is one that is not
   pub passed_word : (above next value : ℕ) → IsNextLive map above (Some (next, value)) → names changes next ≡ true → elements_to others next ≡ elements_to others above
-  passed_word above next _ is here = none_between others above next (omega arith) (λ address low high. elim (cases_eq _ _) [
-    | inl last ↦ without-at _ _ address (ap (names changes) last ∙ here)
-    | inr earlier ↦ other_none address (is.2 address low (omega arith))
-  ])
+  passed_word above next _ is here = search (rules, none_between, without-at, other_none)
 
   -- where none has a value behind it, they are all there
   pub all_words : (above : ℕ) → above < 65535 → IsNextLive map above None → elements_of others ≡ elements_to others above
-  all_words above h none = none_between others above 65534 (omega arith) (λ address low high. other_none address (none address low))
+  all_words above h none = search (rules, none_between, other_none)
 
   pub no_words : elements_to others 0 ≡ []
   no_words = no_elements others

@@ -1,5 +1,5 @@
 -- What a cut in a change leaves of the map.
-use Rattle.ee_core.proofs.Base.{◌⊎◌, inl, inr, ◌≤◌, length, filter, ◌≡◌, ℕ, Option, Some, None, List, [], ◌∷◌, ap, arith, cases_lt, count_by-le-length, length-filter, Device, IsFormed, IsCut, length-slots, Change, changed_by, map_after, is_written, live_of, set_of, slots_of, Side, IsCutAppend, IsCutChange, IsCutMaking, IsCutMove, State, capacity, state_in, state_of}
+use Rattle.ee_core.proofs.Base.{◌⊎◌, inl, inr, ◌≤◌, length, filter, ◌≡◌, ℕ, Option, Some, None, List, [], ◌∷◌, ap, arith, count_by-le-length, length-filter, Device, IsFormed, IsCut, length-slots, Change, changed_by, map_after, is_written, live_of, set_of, slots_of, Side, IsCutAppend, IsCutChange, IsCutMaking, IsCutMove, State, capacity, state_in, state_of, rules}
 
 fill_in : (device : Device) (live : Option (Side × ℕ)) → IsFormed device → (state_in device live).fill ≤ capacity device
 fill_in _ None _ = omega arith
@@ -15,11 +15,7 @@ fill_within device formed = fill_in device (live_of device) formed
 
 cut_cases : (old new : Device) (change : Change) → IsCutChange old change new
     → IsCutAppend (state_of old) change (state_of new) ⊎ IsCutMove old.size.pages old.size.pages (state_of old) (change ∷ []) (state_of new)
-cut_cases old _ _ cut =
-    elim (cases_lt (state_of old).fill (capacity old)) [
-      | inl h ↦ inl (cut.free h)
-      | inr h ↦ (inr (cut.all_used (omega arith)))
-    ]
+cut_cases old _ _ cut = search rules
 
 cut_state : (old new : State) (pages : ℕ) (change : Change) → IsCutAppend old change new ⊎ IsCutMove pages pages old (change ∷ []) new → (new.map ≡ old.map) ⊎ (new.map ≡ map_after change old.map)
 cut_state _ _ _ _ (inl (inl e)) = inl (ap (λ s. s.map) e)
@@ -31,7 +27,7 @@ cut_state _ _ _ _ (inr (inr e)) = inr (ap (λ s. s.map) e)
 -- after a cut the map is as it was or has the change
 pub cut_map : (old new : Device) (change : Change) → IsCutChange old change new
     → ((state_of new).map ≡ (state_of old).map) ⊎ ((state_of new).map ≡ map_after change (state_of old).map)
-cut_map old new change cut = cut_state (state_of old) (state_of new) old.size.pages change (cut_cases old new change cut)
+cut_map old new change cut = search (rules, cut_state, cut_cases)
 
 moved_or_not : (old new : State) (pages left : ℕ) (changes : List Change) → IsCutMove pages left old changes new → (new.map ≡ old.map) ⊎ (new.map ≡ changed_by changes old.map)
 moved_or_not _ _ _ _ _ (inl e) = inl (ap (λ s. s.map) e.2)

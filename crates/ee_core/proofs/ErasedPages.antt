@@ -1,5 +1,5 @@
 -- What a look over pages erases, which erases those that are not blank.
-use Rattle.ee_core.proofs.Base.{◌≡◌, ℕ, ◌+◌, ◌<◌, ◌++◌, true, false, List, [], ◌∷◌, length, take, drop, get_or, refl, sym, subst, ap, ◌∙◌, take-length, append_assoc, Device, page_at, Word, is_blank, Wears, WearsTo, not_blank_from}
+use Rattle.ee_core.proofs.Base.{◌≡◌, ℕ, ◌+◌, ◌<◌, ◌++◌, true, false, List, [], ◌∷◌, length, take, drop, get_or, refl, subst, ap, ◌∙◌, take-length, append_assoc, Device, page_at, Word, is_blank, Wears, WearsTo, not_blank_from, rules}
 use Rattle.ee_core.proofs.NotBlank.{named, not_blank_more, not_blank_rest}
 use Rattle.ee_core.proofs.Wears.{wears_both, wears_none}
 
@@ -16,11 +16,10 @@ written_wears _ _ _ _ written wears = rw written wears
 -- at the page that stands behind the first of a list, with the pages before it looked at
 module _ (pages : List (List Word)) (first k page : ℕ) (old mid new : Device) (at : first + k ≡ page) (within : k < length pages) (same : get_or pages k [] ≡ page_at mid page) (sooner : Wears (not_blank_from first (take k pages)) old mid) where
   here : named (first + k) (get_or pages k []) ≡ named page (page_at mid page)
-  here = ap (λ n. named n (get_or pages k [])) at ∙ ap (named page) same
+  here = search rules
 
   pub wears_next : Wears (named page (page_at mid page)) mid new → Wears (not_blank_from first (take (k + 1) pages)) old new
-  wears_next now =
-      subst (λ list. Wears list old new) (sym (not_blank_more _ _ k within ∙ ap (λ list. not_blank_from first (take k pages) ++ list) here)) (wears_both _ _ _ _ _ sooner now)
+  wears_next now = search (rules, not_blank_more, here, wears_both)
 
   -- power was cut in erasing it
   pub wears_to : is_blank (page_at mid page) ≡ false → Wears (page ∷ []) mid new → WearsTo page (not_blank_from first pages) old new

@@ -1,12 +1,12 @@
 -- What erasing a page of the set that is not live leaves.
-use Rattle.ee_core.proofs.Base.{◌≡◌, ◌⊎◌, inl, inr, ℕ, ◌<◌, false, length, ap, arith, Device, IsFormed, IsOn, page_at, IsStep, Erase, IsCutIn, IsUntouched, MayFollow, with_page_erased, IsPageOf, KeepsSide, is_blank, other, Side, other_set_keeps_side, erase_lowers_pending, step_keeps_other_pages, whole_erase_lowers_pending, IsSameBut, PageErased, PageErasedPartly}
+use Rattle.ee_core.proofs.Base.{◌≡◌, ◌⊎◌, inl, ℕ, ◌<◌, false, length, ap, arith, Device, IsFormed, IsOn, page_at, IsStep, Erase, IsCutIn, IsUntouched, MayFollow, with_page_erased, IsPageOf, KeepsSide, is_blank, other, Side, other_set_keeps_side, erase_lowers_pending, step_keeps_other_pages, whole_erase_lowers_pending, IsSameBut, PageErased, PageErasedPartly, rules}
 use Rattle.ee_core.proofs.Cuts.{erase_partly}
 use Rattle.ee_core.proofs.SetPages.{page_of_device}
 use Rattle.ee_core.proofs.Wears.{cut_page_wears, page_wears}
 
 module _ (page : ℕ) (old new : Device) (side : Side) (formed : IsFormed old) (at : IsPageOf old.size (other side) page) where
   erasing : MayFollow (Erase page) old new → IsStep (Erase page) old new
-  erasing follows = record { formed = formed; may = page_of_device _ (other side) _ at; follows = follows }
+  erasing follows = search (rules, page_of_device)
 
   keeps : MayFollow (Erase page) old new → KeepsSide old new side
   keeps follows = other_set_keeps_side _ _ _ _ (erasing follows) at tt
@@ -30,10 +30,4 @@ module _ (page : ℕ) (old new : Device) (side : Side) (formed : IsFormed old) (
       }
 
   pub page_erased_partly : is_blank (page_at old page) ≡ false → IsCutIn (Erase page) old new ⊎ IsUntouched old new → PageErasedPartly old new side page
-  page_erased_partly not_blank cut = record {
-    keeps = keeps (inr cut);
-    others = others_stay (inr cut);
-    partly = erase_partly _ _ _ cut;
-    cut = erase_lowers_pending page _ _ _ at not_blank (erasing (inr cut));
-    wear = cut_page_wears _ _ _ has_wear cut;
-  }
+  page_erased_partly not_blank cut = search (rules, keeps, others_stay, erase_partly, erase_lowers_pending, erasing, cut_page_wears, has_wear)

@@ -1,5 +1,5 @@
 -- What formatting does: it erases what is not blank, and then commits the first set.
-use Rattle.ee_core.proofs.Base.{◌≡◌, ◌≢◌, inl, inr, ℕ, ◌+◌, ◌<◌, ◌≤◌, true, false, [], length, replicate, refl, sym, ap, ◌∙◌, arith, All, cases_lt, true≢false, get_or-replicate, get_or-set_other, get_or-set_same, length-replicate, All-from_get_or, Device, IsFormed, IsOn, page_at, GoesOn, page_count, with_page_erased, Erased, is_blank, is_written, blank_page, IsSameBut, Wears}
+use Rattle.ee_core.proofs.Base.{◌≡◌, ◌≢◌, ℕ, ◌+◌, ◌<◌, ◌≤◌, true, false, [], length, replicate, refl, sym, ap, ◌∙◌, arith, All, true≢false, get_or-replicate, get_or-set_other, get_or-set_same, length-replicate, All-from_get_or, Device, IsFormed, IsOn, page_at, GoesOn, page_count, with_page_erased, Erased, is_blank, is_written, blank_page, IsSameBut, Wears, rules}
 use Rattle.ee_core.proofs.AfterCalls.{goes_on_same}
 use Rattle.ee_core.proofs.ErasedPages.{blank_wears, written_wears}
 use Rattle.ee_core.proofs.NotBlank.{named}
@@ -32,11 +32,7 @@ blanks_page page mid new formed h written on done =
 
 -- one page more is blank
 pub blank_more : (page : ℕ) (mid new : Device) → ((k : ℕ) → k < page → is_blank (page_at mid k) ≡ true) → BlanksPage mid new page → (k : ℕ) → k < page + 1 → is_blank (page_at new k) ≡ true
-blank_more page _ new before blanks k h = elim (cases_lt k _) [
-  | inl earlier ↦
-      ap is_blank (blanks.others k (λ e. omega (arith, earlier))) ∙ before k earlier
-  | inr last ↦ ap (λ n. is_blank (page_at new n)) (omega arith) ∙ blanks.blank
-]
+blank_more page _ new before blanks k h = search rules
 
 pub all_blank : (device : Device) (pages : ℕ) → length device.image ≤ pages → ((k : ℕ) → k < pages → is_blank (page_at device k) ≡ true) → All (λ page. is_blank page ≡ true) device.image
 all_blank _ _ h each = All-from_get_or (λ page. is_blank page ≡ true) _ [] (λ k in_range. each k (omega arith))

@@ -1,5 +1,5 @@
 -- What a transfer leaves, from what its steps leave.
-use Rattle.ee_core.proofs.Base.{◌≡◌, inl, inr, ℕ, ◌+◌, ◌-◌, List, [], length, refl, sym, subst, ap, ◌∙◌, arith, fun_ext, Device, IsFormed, Word, IsCommitted, IsFilling, KeepsSide, IsLayout, Change, changed_by, live_in, meaning, fill_of, other, page_of_slot, pending_of, set_of, slots_of, Layout, Side, keeps_side_both, other_twice, HasMoved, Holds, IsSameSet, Stays, map_in, AddsPartly, IsDrawnPartly, MovesMapPartly, MovesPartly, IsMarked, ShowsCutMarks, ShowsMarks, IsDrawn, blank_picture, filled_set, is_used, moved_words, picture_of, retired_pages, each_forgotten, Wears, not_blank_in}
+use Rattle.ee_core.proofs.Base.{◌≡◌, inl, inr, ℕ, ◌+◌, ◌-◌, List, [], length, refl, sym, subst, ap, ◌∙◌, arith, fun_ext, Device, IsFormed, Word, IsCommitted, IsFilling, KeepsSide, IsLayout, Change, changed_by, live_in, meaning, fill_of, other, page_of_slot, pending_of, set_of, slots_of, Layout, Side, keeps_side_both, other_twice, HasMoved, Holds, IsSameSet, Stays, map_in, AddsPartly, IsDrawnPartly, MovesMapPartly, MovesPartly, IsMarked, ShowsCutMarks, ShowsMarks, IsDrawn, blank_picture, filled_set, is_used, moved_words, picture_of, retired_pages, each_forgotten, Wears, not_blank_in, rules}
 use Rattle.ee_core.specs.Transfers.{Filled, FilledPartly, IsNewlyOpened, MapMoved, MapMovedPartly, OtherCleared, OtherCommitted, OtherCommittedPartly, OtherOpened, OtherOpenedPartly, SetMoved}
 use Rattle.ee_core.proofs.CutMoves.{filled_partly, marked_partly, retires_partly}
 use Rattle.ee_core.proofs.Cuts.{drawn_before}
@@ -143,10 +143,10 @@ map_cut _ new _ _ _ partly = record {
 -- the marks behind that
 module _ (old mid new : Device) (layout : Layout) (side : Side) (changes : List Change) (words : List Word) (count : ℕ) (formed : IsFormed old) (moves : MapMoved old mid layout changes words count) (to : side ≡ other layout.side) (stays : Stays mid new side (layout.generation + 1)) where
   stays_there : Stays mid new (other layout.side) (layout.generation + 1)
-  stays_there = subst (λ set. Stays mid new set (layout.generation + 1)) to stays
+  stays_there = search rules
 
   fill : fill_of (slots_of (set_of (other layout.side) mid)) ≡ length words
-  fill = moves.moved.fill_is ∙ sym moves.each_once ∙ moves.as_many
+  fill = search rules
 
   still : HasMoved old new layout.side layout.generation changes
   still = moved_stays _ _ _ _ _ _ moves.moved stays_there

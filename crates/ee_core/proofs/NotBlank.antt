@@ -1,5 +1,5 @@
 -- The pages of a list that are not blank, by their numbers.
-use Rattle.ee_core.proofs.Base.{◌≡◌, ℕ, ◌+◌, ◌<◌, ◌≤◌, ◌++◌, ◌≢◌, Bool, true, false, cond, not, List, [], ◌∷◌, length, take, drop, get_or, set, refl, sym, ap, ◌∙◌, arith, zero, suc, eq-eqb, ne_eqb, length-take-le, take-append-drop, take_more, Word, is_blank, pending_of, not_blank_from}
+use Rattle.ee_core.proofs.Base.{◌≡◌, ℕ, ◌+◌, ◌<◌, ◌≤◌, ◌++◌, ◌≢◌, Bool, true, false, cond, not, List, [], ◌∷◌, length, take, drop, get_or, set, refl, sym, ap, ◌∙◌, arith, zero, suc, eq-eqb, ne_eqb, length-take-le, take-append-drop, take_more, Word, is_blank, pending_of, not_blank_from, rules}
 use Rattle.ee_core.proofs.Wears.{times}
 
 -- the number of a page, if it is not blank
@@ -73,7 +73,7 @@ times_here (words ∷ pages) number (suc k) =
 -- ---- one page changed
 
 shown : (blank was : Bool) (number : ℕ) (numbers old : List ℕ) → blank ≡ was → numbers ≡ old → cond blank numbers (number ∷ numbers) ≡ cond was old (number ∷ old)
-shown _ was number numbers _ e same = ap (λ b. cond b numbers (number ∷ numbers)) e ∙ ap (λ list. cond was list (number ∷ list)) same
+shown _ was number numbers _ e same = search rules
 
 -- from blank to blank, or between others
 pub not_blank_same : (pages : List (List Word)) (number k : ℕ) (words : List Word) → is_blank words ≡ is_blank (get_or pages k []) → not_blank_from number (set pages k words) ≡ not_blank_from number pages

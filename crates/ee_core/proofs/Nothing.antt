@@ -1,6 +1,6 @@
 -- A map of which every address is forgotten: nothing has a value in it, and no word is copied of
 -- it.
-use Rattle.ee_core.proofs.Base.{◌≡◌, inl, inr, ℕ, ◌+◌, ◌<◌, ◌≤◌, Bool, true, false, cond, Option, None, List, [], refl, ap, ◌∙◌, arith, subst, length, suc, zero, ◌==◌, slice_index_or, Contains, cases_eq, cases_lt, Word, Change, Forget, Map, changed_by, live_in, map_after, meaning, HasChange, elements_of, map_without, moved_words, put_words, each_forgotten}
+use Rattle.ee_core.proofs.Base.{◌≡◌, inl, inr, ℕ, ◌+◌, ◌<◌, ◌≤◌, Bool, true, false, cond, Option, None, List, [], refl, ap, ◌∙◌, arith, subst, length, suc, zero, ◌==◌, slice_index_or, Contains, cases_eq, cases_lt, Word, Change, Forget, Map, changed_by, live_in, map_after, meaning, HasChange, map_without, moved_words, put_words, each_forgotten, rules}
 use Rattle.ee_core.specs.Picture.{elements_to}
 use Rattle.ee_core.specs.Puts.{forgets_from}
 use Rattle.ee_core.proofs.CopiedMaps.{forget-at, live_in-nothing}
@@ -46,7 +46,7 @@ forgotten_at first (suc more) change map zero within is none = subst (λ one. Ha
 forgotten_at first (suc more) change map (suc place) within is none = forgotten_at (first + 1) more change map place (omega arith) is none
 
 pub forgotten_has : (first count : ℕ) (change : Change) (map : Map) → Contains (forgets_from first count) change → ((address : ℕ) → map address ≡ None) → HasChange change map
-forgotten_has first count change map kept none = forgotten_at first count change map kept.0 kept.1 kept.2 none
+forgotten_has first count change map kept none = search (rules, forgotten_at)
 
 -- ---- the words
 
@@ -66,7 +66,4 @@ no_elements _ zero _ = refl
 no_elements map (suc count) none = rw (no_elements map count none, none (suc count)) refl
 
 pub none_moved : (slots : List Word) → moved_words each_forgotten (meaning slots) ≡ []
-none_moved slots =
-    let left =
-    ap elements_of (without_is 1 65534 (meaning slots)) ∙ no_elements (changed_by each_forgotten (meaning slots)) 65534 (all_forgotten slots) in
-    rw (none_put 1 65534, left) refl
+none_moved slots = search (rules, without_is, no_elements, all_forgotten, none_put)

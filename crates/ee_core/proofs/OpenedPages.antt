@@ -1,12 +1,10 @@
 -- The page of the first free slot, and what marks it.
-use Rattle.ee_core.proofs.Base.{◌≡◌, ◌≢◌, ◌⊎◌, inl, inr, ℕ, ◌+◌, ◌-◌, ◌*◌, ◌<◌, ◌≤◌, ◌/◌, ◌%◌, true, refl, sym, subst, ap, ◌∙◌, arith, div-mul-le_self, cases_eq, cases_lt, div-mul-add, mod-mul-add, Device, IsFormed, slot_count, IsPageOf, IsLayout, is_marked, IsMarkBehind, first_page, other, page_of_slot, place_of_slot, Layout, Active, Valid, page_in_range, slot_below, IsReady, IsSameBut, IsSameSet, KeepsMarks, Stays, IsLiveMarked, last_used}
+use Rattle.ee_core.proofs.Base.{◌≡◌, ◌≢◌, ◌⊎◌, inl, inr, ℕ, ◌+◌, ◌-◌, ◌*◌, ◌<◌, ◌≤◌, ◌/◌, ◌%◌, true, sym, subst, ap, ◌∙◌, arith, cases_lt, div-mul-add, mod-mul-add, Device, IsFormed, slot_count, IsPageOf, IsLayout, is_marked, IsMarkBehind, first_page, other, page_of_slot, place_of_slot, Layout, Active, Valid, page_in_range, slot_below, IsReady, IsSameBut, IsSameSet, KeepsMarks, Stays, IsLiveMarked, last_used, rules}
 use Rattle.ee_core.proofs.SetPages.{same_other}
 
 -- within a page the slot before stands in the same page
 same_row : (n m q r : ℕ) → n ≡ q * m + r → 0 < r → r < m → (n - 1) / m ≡ q
-same_row n m q r e some below =
-    let split : n - 1 ≡ q * m + (r - 1) = omega arith in
-    ap (λ k. k / m) split ∙ div-mul-add q m _ (omega arith)
+same_row n m q r e some below = search (rules, div-mul-add)
 
 pub same_place : (n m : ℕ) → 0 < m → (n ≡ 0) ⊎ (n % m ≢ 0) → n / m ≡ (n - 1) / m
 same_place n m _ (inl none) = let e : n ≡ n - 1 = omega arith in ap (λ k. k / m) e
@@ -17,9 +15,7 @@ same_place n m some (inr inside) =
 
 -- the first slot of a page stands one page behind the slot before
 after_row : (n m p : ℕ) → n ≡ p * m + m → 0 < m → (n - 1) / m ≡ p
-after_row n m p e some =
-    let split : n - 1 ≡ p * m + (m - 1) = omega arith in
-    ap (λ k. k / m) split ∙ div-mul-add p m _ (omega arith)
+after_row n m p e some = search (rules, div-mul-add)
 
 one_row_more : (n m p : ℕ) → n ≡ (p + 1) * m → n ≡ p * m + m
 one_row_more n m p e = omega arith
@@ -44,50 +40,27 @@ module _ (old : Device) (layout : Layout) (found : IsLayout old layout) (free : 
   some_slots = omega arith
 
   pub last_is : page_of_slot old.size (layout.fill - 1) ≡ last_used old layout.side
-  last_is = ap (λ n. page_of_slot old.size (n - 1)) found.fill
+  last_is = search rules
 
   -- the first free slot stands in the page in use, unless this is full
   pub stays_in : (page : ℕ) → page ≡ first_page old.size layout.side + page_of_slot old.size layout.fill → page ≡ layout.current → (layout.fill ≡ 0) ⊎ (layout.fill % (words - 4) ≢ 0)
-  stays_in _ page_is same = elim (cases_lt 0 _) [
-    | inr none ↦ inl (omega arith)
-    | inl some ↦ elim (cases_eq _ 0) [
-      | inr inside ↦ inr inside
-      | inl whole ↦
-          let next = next_place layout.fill (old.size.words - 4) some_slots some (subst (λ n. layout.fill % (n - 4) ≡ 0) words_is whole) in
-          absurd (omega arith)
-    ]
-  ]
+  stays_in _ page_is same = search (rules, next_place, some_slots)
 
   pub turns : (page : ℕ) → page ≡ first_page old.size layout.side + page_of_slot old.size layout.fill → page ≢ layout.current → (0 < layout.fill) × (layout.fill % (words - 4) ≡ 0)
-  turns _ page_is other = elim (cases_lt 0 _) [
-    | inr none ↦
-        let same = same_place layout.fill (old.size.words - 4) some_slots (inl (omega arith)) in
-        absurd (other (omega arith))
-    | inl some ↦ elim (cases_eq _ 0) [
-      | inl whole ↦ (some, whole)
-      | inr inside ↦
-          let same = same_place layout.fill (old.size.words - 4) some_slots (inr (subst (λ n. layout.fill % (n - 4) ≢ 0) words_is inside)) in
-          absurd (other (omega arith))
-    ]
-  ]
+  turns _ page_is other = search (rules, same_place, some_slots)
 
   -- the first free slot, by the slots of the page in use that are used
   used_slots : layout.fill - (layout.current - first_page old.size layout.side) * (words - 4) ≡ layout.fill - page_of_slot old.size (layout.fill - 1) * (old.size.words - 4)
-  used_slots =
-      let back : layout.current - first_page old.size layout.side ≡ page_of_slot old.size (layout.fill - 1) = omega arith in
-      rw (back, words_is) refl
+  used_slots = search rules
 
   row_of : (p used : ℕ) → layout.fill ≡ p * (old.size.words - 4) + used → used < old.size.words - 4 → (page_of_slot old.size layout.fill ≡ p) × (place_of_slot old.size layout.fill ≡ 4 + used)
-  row_of p _ e below = (
-    ap (λ n. n / (old.size.words - 4)) e ∙ div-mul-add p _ _ below,
-    ap (λ n. 4 + n % (old.size.words - 4)) e ∙ ap (λ n. 4 + n) (mod-mul-add p _ _ below),
-  )
+  row_of p _ e below = search (rules, div-mul-add, mod-mul-add)
 
   full_row : (p row : ℕ) → p * row + row ≡ (p + 1) * row + 0
   full_row p _ = omega arith
 
   rows : page_of_slot old.size (layout.fill - 1) * (old.size.words - 4) ≤ layout.fill - 1
-  rows = div-mul-le_self (layout.fill - 1) (old.size.words - 4)
+  rows = search rules
 
   pub free_within : (used : ℕ) → used ≡ layout.fill - (layout.current - first_page old.size layout.side) * (words - 4) → used ≢ words - 4 → (layout.current ≡ first_page old.size layout.side + page_of_slot old.size layout.fill) × (4 + used ≡ place_of_slot old.size layout.fill)
   free_within used used_is other =
@@ -119,33 +92,21 @@ module _ (old : Device) (layout : Layout) (found : IsLayout old layout) (free : 
       record { valid = λ page below. was.valid page (subst (λ n. page < n) e below); active = ap (λ n. is_marked old (first_page old.size layout.side + n) Active) e ∙ was.active }
 
   pub current_of : IsPageOf old.size layout.side layout.current
-  current_of =
-      let within = page_in_range old _ (slot_below _ layout.fill found.live.formed (omega arith)) in
-      record { from = omega arith; below = omega arith }
+  current_of = search (rules, page_in_range, slot_below)
 
   module _ (some : 0 < layout.fill) (whole : layout.fill % (words - 4) ≡ 0) where
     pub further : page_of_slot old.size layout.fill ≡ page_of_slot old.size (layout.fill - 1) + 1
-    further = next_place layout.fill (old.size.words - 4) some_slots some (subst (λ n. layout.fill % (n - 4) ≡ 0) words_is whole)
+    further = search (rules, next_place, some_slots)
 
     next_is : layout.current + 1 ≡ first_page old.size layout.side + page_of_slot old.size layout.fill
     next_is = omega (arith, further)
 
     pub next_of : IsPageOf old.size layout.side (layout.current + 1)
-    next_of =
-        let within = page_in_range old _ free in
-        record { from = omega arith; below = omega (arith, next_is) }
+    next_of = search (rules, page_in_range, next_is)
 
     -- the further page may be marked
     pub next_behind : (mid : Device) → Stays old mid layout.side layout.generation → IsMarkBehind mid layout.side (layout.current + 1 - first_page mid.size layout.side) Active
-    next_behind mid stays =
-        let size = stays.keeps.same_size in
-        let page : layout.current + 1 - first_page mid.size layout.side ≡ page_of_slot mid.size layout.fill =
-        omega (arith, next_is, ap (λ size. first_page size layout.side) size, ap (λ size. page_of_slot size layout.fill) size) in
-        subst (λ n. IsMarkBehind mid layout.side n Active) (sym page) (record {
-          in_range = page_in_range mid _ (rw size free);
-          behind = omega arith;
-          active_or_valid = inl refl;
-        })
+    next_behind mid stays = search (rules, next_is, page_in_range)
 
     -- both marks are set
     pub ready_now : (mid new : Device) → new.size ≡ old.size → IsLiveMarked old layout.side → KeepsMarks old mid → KeepsMarks mid new → is_marked mid layout.current Valid ≡ true → is_marked new (layout.current + 1) Active ≡ true → IsReady new layout.side layout.fill
@@ -174,4 +135,4 @@ module _ (old : Device) (layout : Layout) (found : IsLayout old layout) (free : 
         same_other _ _ _ _ stays.keeps.live.formed formed sizes there others ∙ same
 
   pub first_other : (mid : Device) → Stays old mid layout.side layout.generation → IsSameBut layout.current old mid → IsSameSet (other layout.side) old mid
-  first_other _ stays others = same_other _ _ _ _ found.live.formed stays.keeps.live.formed stays.keeps.same_size current_of others
+  first_other _ stays others = search (rules, same_other, current_of)

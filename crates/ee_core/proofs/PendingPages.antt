@@ -1,5 +1,5 @@
 -- The pages that wait to be erased: how many they are, and whether a page is one of them.
-use Rattle.ee_core.proofs.Base.{◌≡◌, ℕ, ◌+◌, ◌-◌, ◌<◌, ◌≤◌, true, false, cond, Option, Some, None, ◌∷◌, length, set, refl, sym, ap, ◌∙◌, arith, length-take, Device, IsFormed, page_at, IsPageOf, is_blank, first_page, live_of, other, pending_of, set_of, Side, First, Second, length-set_of, IsSameBut, not_blank_from, not_blank_in, pending_pages, pending_pages_in, state_in, state_of}
+use Rattle.ee_core.proofs.Base.{◌≡◌, ℕ, ◌+◌, ◌-◌, ◌<◌, ◌≤◌, true, false, cond, Option, Some, None, ◌∷◌, length, set, refl, sym, ap, ◌∙◌, arith, length-take, Device, IsFormed, page_at, IsPageOf, is_blank, first_page, live_of, other, pending_of, set_of, Side, First, Second, length-set_of, IsSameBut, not_blank_from, not_blank_in, pending_pages, pending_pages_in, state_in, state_of, rules}
 use Rattle.ee_core.proofs.NotBlank.{first_blank, length-not_blank, not_blank_same, times_below, times_here, times_past}
 use Rattle.ee_core.proofs.SetPages.{one_changed, page_of_set}
 use Rattle.ee_core.proofs.Wears.{times}
@@ -14,7 +14,7 @@ length-pending_pages device = as_many device (live_of device)
 
 -- as many of a set, where they are the same
 pub as_many_not_blank : (side : Side) (old new : Device) → not_blank_in side new ≡ not_blank_in side old → pending_of (set_of side new) ≡ pending_of (set_of side old)
-as_many_not_blank side old new same = sym (length-not_blank (set_of side new) (first_page new.size side)) ∙ ap length same ∙ length-not_blank (set_of side old) (first_page old.size side)
+as_many_not_blank side old new same = search (rules, length-not_blank)
 
 -- 1 for a page that is not blank
 abbrev pub waits : Device → ℕ → ℕ

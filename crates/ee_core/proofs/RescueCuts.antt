@@ -1,5 +1,5 @@
 -- Openings and rescues that are cut, one after another.
-use Rattle.ee_core.proofs.Base.{◌≡◌, ◌⊎◌, inl, inr, ℕ, ◌<◌, true, Option, None, Some, List, [], ◌∷◌, refl, sym, subst, ap, ◌∙◌, arith, cases_eq, cases_lt, Device, Word, KeepsSide, IsLegal, IsLive, meaning, is_written, other, set_of, slots_of, Side, First, Second, held_is_rescued, held_is_rescued_side, live_is_held, live_is_rescued, one_word_costs_its_value, bad_word_leaves_held, bad_waiting_word_leaves_held, waiting_word_costs_nothing, IsCutOpening, with_power_on, state_of}
+use Rattle.ee_core.proofs.Base.{◌≡◌, ◌⊎◌, inl, inr, ℕ, ◌<◌, true, Option, None, Some, List, [], ◌∷◌, refl, sym, subst, ap, ◌∙◌, arith, cases_eq, cases_lt, Device, Word, KeepsSide, IsLegal, IsLive, meaning, is_written, other, set_of, slots_of, Side, First, Second, held_is_rescued, held_is_rescued_side, live_is_held, live_is_rescued, one_word_costs_its_value, bad_word_leaves_held, bad_waiting_word_leaves_held, waiting_word_costs_nothing, IsCutOpening, with_power_on, state_of, rules}
 use Rattle.ee_pages.specs.Rescue.{map_of_side, rescued_map, rescued_side}
 use Rattle.ee_pages.specs.RescueLaws.{IsHeld, WentBad, IsToldApart, PutsInSet}
 use Rattle.ee_core.specs.Rescues.{AreCutTries, CostsNewest, IsCutRescue, IsCutTry, IsMadeStore, last_on}
@@ -60,8 +60,7 @@ after_rescue old new side generation held cut = elim cut.left [
 ]
 
 after_opening : (old new : Device) → IsCutOpening old new → Holds new old
-after_opening old new cut =
-    legal_holds new old cut.legal (λ address. ap (λ state. state.map address) cut.state_is ∙ legal_map old cut.was_legal address)
+after_opening old new cut = search (rules, legal_holds, legal_map)
 
 holds_later : (device mid old : Device) → Holds device mid → Holds mid old → Holds device old
 holds_later _ _ _ second first = record {
@@ -107,7 +106,7 @@ module _ (old changed : Device) (side : Side) (generation page at : ℕ) (word :
       ]
 
   had : (address : ℕ) → meaning (slots_of (set_of side old)) address ≡ (state_of old).map address
-  had address = sym (ap (λ state. state.map address) (state_is _ _ _ live))
+  had address = search (rules, state_is)
 
   pub one_word_costs_no_more : PutsInSet old changed side page at word → WentBad at word → (page ≡ 0 → at < 2 → (is_written word ≡ true) × IsToldApart old side × (cuts ≡ []))
       → (address : ℕ) → ((state_of new).map address ≡ (state_of old).map address) ⊎ CostsNewest old new side page at address
