@@ -1,5 +1,5 @@
 -- What is left of a map's entries while they are gone over by rising address.
-use Rattle.std.proofs.Common.{◌≡◌, ◌∙◌, ◌<◌, ◌≤◌, ◌+◌, ℕ, Option, Some, None, List, [], ◌∷◌, sym, ap, arith, nat_cmp, rules}
+use Rattle.std.proofs.Common.{◌≡◌, ◌∙◌, ◌<◌, ◌≤◌, ◌+◌, ℕ, Option, Some, None, List, [], ◌∷◌, length, sym, ap, arith, nat_cmp, rules}
 use Rattle.std.proofs.lemmas.Bool.{cases_eq, cases_lt}
 use Rattle.std.proofs.lemmas.Grind.{common_steps}
 use Rattle.std.proofs.lemmas.List.Elements.{All-head, All-weaker}
@@ -61,7 +61,11 @@ module _ {T : Type 0} (map : ℕ → Option T) where
 
 -- the address is the lower of the first of each
 pub record IsLowest {S T : Type 0} (address : ℕ) (one : List (ℕ × S)) (other : List (ℕ × T)) : Type 0 where
+  pub one_from : BeginFrom address one
+  pub other_from : BeginFrom address other
   pub above : (from : ℕ) → BeginFrom from one → BeginFrom from other → from ≤ address
+  pub shorter : length (behind_at address one) + length (behind_at address other) < length one + length other
+
 pub lower_lowest : {S T : Type 0} (address : ℕ) (one : List (ℕ × S)) (other : List (ℕ × T)) → lower_of (first_address one) (first_address other) ≡ Some address → IsLowest address one other
 lower_lowest address one other h1 = search (rules, cases_lt)
 
