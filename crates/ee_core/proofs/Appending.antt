@@ -1,26 +1,7 @@
 -- What programming a change into the first free slot of the live set leaves.
-use Rattle.std.proofs.Common.{rules, ◌≡◌, ◌≢◌, ◌⊎◌, inl, inr, ℕ, ◌+◌, ◌-◌, ◌<◌, ◌%◌, false, List, length, get_or, refl, sym, subst, ap, ◌∙◌, arith}
-use Rattle.std.proofs.lemmas.Bool.{cases_eq}
-use Rattle.ee_flash.specs.Device.{Device, IsOn, all_ones, word_at}
-use Rattle.ee_flash.specs.Laws.{CanTake, IsStep}
-use Rattle.ee_flash.specs.Size.{slot_count}
-use Rattle.ee_flash.specs.Step.{Step, Program, IsCutIn, IsUntouched, MayFollow, device_after}
-use Rattle.ee_flash.specs.declared.word.Word.{Word}
-use Rattle.ee_flash.specs.declared.word.Word.TheVariants.{Erased}
-use Rattle.ee_flash.proofs.Public.{step_leaves_pages}
-use Rattle.ee_pages.specs.Laws.{KeepsLiveSet}
-use Rattle.ee_pages.specs.Layout.{IsLayout}
-use Rattle.ee_pages.specs.declared.find.Layout.{Layout}
-use Rattle.ee_pages.specs.Legal.{IsLive}
-use Rattle.ee_pages.specs.Meaning.{Change, Map, SpellsChange, map_after}
-use Rattle.ee_pages.specs.Page.{is_written}
-use Rattle.ee_pages.specs.Pushing.{TakesSlot, slot_step}
-use Rattle.ee_pages.specs.Sets.{fill_of, first_page, other, page_of_slot, place_of_slot, set_of, slots_of}
-use Rattle.ee_pages.specs.declared.side.Side.{Side}
-use Rattle.ee_pages.proofs.Public.{erased_word, fill-front, slots_behind, step_keeps_other_pages, page_in_range, place_in_range, slot_at, push_takes, whole_push_takes, programmed_word}
+use Rattle.ee_core.proofs.Base.{rules, ◌≡◌, ◌≢◌, ◌⊎◌, inl, inr, ℕ, ◌+◌, ◌-◌, ◌<◌, get_or, sym, ap, ◌∙◌, arith, Device, IsOn, all_ones, word_at, CanTake, IsStep, slot_count, Step, Program, IsCutIn, IsUntouched, MayFollow, device_after, Erased, step_leaves_pages, KeepsLiveSet, IsLayout, Layout, IsLive, Change, Map, SpellsChange, map_after, TakesSlot, slot_step, fill_of, first_page, other, page_of_slot, place_of_slot, set_of, slots_of, Side, erased_word, fill-front, slots_behind, step_keeps_other_pages, page_in_range, place_in_range, slot_at, push_takes, whole_push_takes, programmed_word, IsSameSet, KeepsMarks, map_change, map_in, number_written}
 use Rattle.ee_core.proofs.Cuts.{program_partly}
 use Rattle.ee_core.specs.Appending.{MayTakeSlot, Pushed, PushedPartly}
-use Rattle.ee_core.specs.CallSteps.{IsSameSet, KeepsMarks, map_change, map_in, number_written}
 use Rattle.ee_core.specs.declared.change.Change as declared
 use Rattle.ee_core.proofs.MovingFacts.{keeps_both}
 use Rattle.ee_core.proofs.SetPages.{page_in_device, page_of_set}
@@ -28,28 +9,20 @@ use Rattle.ee_core.proofs.Drawings.{put_there}
 use Rattle.ee_core.proofs.Marks.{place_below, program_keeps_wear}
 
 program_keeps_words : (page at value : ℕ) (old new : Device) → IsStep (Program page at value) old new → (there k : ℕ) → k ≢ at → word_at new there k ≡ word_at old there k
-program_keeps_words page at value old new taken there k other = elim (cases_eq there page) [
-  | inr apart ↦ ap (λ (words : List Word). get_or words k Erased) (step_keeps_other_pages (Program page at value) old new there taken apart)
-  | inl same ↦
-      let h : page < length old.image = omega (arith, taken.formed.image_length, taken.may.0) in
-      let here = programmed_word old new page at value k h other (step_leaves_pages (Program page at value) old new taken) in
-      subst (λ n. word_at new n k ≡ word_at old n k) (sym same) here
-]
+program_keeps_words page at value old new taken _ k other = search (rules, step_keeps_other_pages, taken, programmed_word, step_leaves_pages)
 
 -- so a program behind the header keeps all marks
 slot_keeps_marks : (page place value : ℕ) (old new : Device) → IsStep (Program page (4 + place) value) old new → KeepsMarks old new
-slot_keeps_marks page place value old new taken there mark was = search (rules, place_below, program_keeps_words)
+slot_keeps_marks _ _ _ _ new taken there mark was = search (rules, place_below, program_keeps_words)
 
 -- the first free slot is erased
 pub slot_erased : (side : Side) (generation fill : ℕ) (old : Device) → IsLive old side generation → fill ≡ fill_of (slots_of (set_of side old)) → fill < slot_count old.size → word_at old (first_page old.size side + page_of_slot old.size fill) (place_of_slot old.size fill) ≡ Erased
-slot_erased side generation fill old live fill_is free =
+slot_erased side _ fill old live fill_is free =
     let slots = slots_of (set_of side old) in
-    let front = fill-front side old generation live.formed live.allowed in
-    let unwritten : is_written (get_or slots fill Erased) ≡ false = slots_behind side old generation live.formed live.allowed fill (omega (arith, front, fill_is)) in
-    let there = page_of_set side old (page_of_slot old.size fill) (page_in_range old fill free) in
-    ap (λ (words : List Word). get_or words (place_of_slot old.size fill) Erased) (sym there)
-    ∙ sym (slot_at side old fill live.formed free)
-    ∙ erased_word (get_or slots fill Erased) unwritten
+    let front = fill-front _ _ _ live.formed live.allowed in
+    ap (λ words. get_or words (place_of_slot old.size fill) Erased) (sym (page_of_set _ _ _ (page_in_range old _ free)))
+    ∙ sym (slot_at _ _ _ live.formed free)
+    ∙ erased_word _ (slots_behind _ _ _ live.formed live.allowed _ (omega arith))
 
 -- a change in it
 module _ (old new : Device) (layout : Layout) (found : IsLayout old layout) (free : layout.fill < slot_count old.size) (change : declared.Change) (spells : SpellsChange (number_written change) (map_change change)) (below : number_written change < all_ones) where
@@ -57,56 +30,56 @@ module _ (old new : Device) (layout : Layout) (found : IsLayout old layout) (fre
   step slot = slot_step old.size layout.side slot (number_written change)
 
   can_take : CanTake (step layout.fill) old
-  can_take = (page_in_device old.size layout.side (page_of_slot old.size layout.fill) (page_in_range old layout.fill free), place_in_range old layout.fill found.live.formed, slot_erased layout.side layout.generation layout.fill old found.live found.fill free, below)
+  can_take = search (rules, page_in_device, page_in_range, place_in_range, slot_erased)
 
   taken : MayFollow (step layout.fill) old new → IsStep (step layout.fill) old new
-  taken follows = record { formed = found.live.formed; may = can_take; follows = follows }
+  taken follows = search (rules, can_take)
 
   at_fill : MayFollow (step layout.fill) old new → IsStep (step (fill_of (slots_of (set_of layout.side old)))) old new
-  at_fill follows = subst (λ n. IsStep (step n) old new) found.fill (taken follows)
+  at_fill follows = search (rules, taken)
 
   free_there : fill_of (slots_of (set_of layout.side old)) < slot_count old.size
-  free_there = omega (arith, found.fill)
+  free_there = omega arith
 
   outcome : MayFollow (step layout.fill) old new → IsSameSet (other layout.side) old new × MayTakeSlot old new layout.side layout.generation (map_change change)
-  outcome follows = push_takes (map_change change) (number_written change) old new layout.side layout.generation found.live free_there spells (at_fill follows)
+  outcome follows = push_takes _ _ _ _ _ _ found.live free_there spells (at_fill follows)
 
   keeps_marks : MayFollow (step layout.fill) old new → KeepsMarks old new
-  keeps_marks follows = slot_keeps_marks (first_page old.size layout.side + page_of_slot old.size layout.fill) (layout.fill % (old.size.words - 4)) (number_written change) old new (taken follows)
+  keeps_marks follows = search (rules, slot_keeps_marks, taken)
 
   pub pushed : IsOn old → new ≡ device_after (step layout.fill) old → Pushed old new layout change
   pushed on done =
-      let whole : MayFollow (step layout.fill) old new = inl (record { was_on = on; done = done }) in
+      let whole = inl (record { was_on = on; done = done }) in
       record {
-        takes = (whole_push_takes (map_change change) (number_written change) old new layout.side layout.generation found.live free_there spells (at_fill whole)
+        takes = (whole_push_takes _ _ _ _ _ _ found.live free_there spells (at_fill whole)
             (done ∙ ap (λ n. device_after (step n) old) found.fill)).0;
         spells = spells;
-        puts = put_there _ _ _ old new (first_page old.size layout.side + page_of_slot old.size layout.fill) (place_of_slot old.size layout.fill) _ found.live.formed can_take.0 can_take.1 refl refl refl done;
+        puts = search (rules, put_there, can_take);
         marks = keeps_marks whole;
         other = (outcome whole).0;
-        wear = ap (λ (device : Device). device.wear) done;
+        wear = ap (λ device. device.wear) done;
       }
 
   pub pushed_partly : IsCutIn (step layout.fill) old new ⊎ IsUntouched old new → PushedPartly old new layout change
   pushed_partly cut = record {
     cut = (outcome (inr cut)).1;
-    begun = program_partly (first_page old.size layout.side + page_of_slot old.size layout.fill) (place_of_slot old.size layout.fill) (number_written change) old new found.live.formed can_take.0 can_take.1 can_take.2 cut;
+    begun = search (rules, program_partly, can_take);
     marks = keeps_marks (inr cut);
     other = (outcome (inr cut)).0;
-    wear = program_keeps_wear _ _ _ old new (inr cut);
+    wear = program_keeps_wear _ _ _ _ _ (inr cut);
   }
 
 -- a change behind what keeps the live set
 pub taken_after : (old mid new : Device) (side : Side) (generation : ℕ) (now map : Map) → KeepsLiveSet old mid side generation → now ≡ map → TakesSlot mid new side generation now → TakesSlot old new side generation map
-taken_after old mid new side generation now map keeps same takes = search rules
+taken_after _ _ _ _ _ _ _ keeps same takes = search rules
 
 -- or behind that, where power was cut
 pub cut_after : (old mid new : Device) (side : Side) (generation : ℕ) (change : Change) → KeepsLiveSet old mid side generation → map_in side mid ≡ map_in side old → MayTakeSlot mid new side generation change → MayTakeSlot old new side generation change
-cut_after old mid new side generation change keeps same (inl kept) = inl (keeps_both old mid new side generation keeps kept)
-cut_after old mid new side generation change keeps same (inr (inl torn)) = inr (inl (taken_after old mid new side generation (map_in side mid) (map_in side old) keeps same torn))
+cut_after _ _ _ _ _ _ keeps _ (inl kept) = inl (keeps_both _ _ _ _ _ keeps kept)
+cut_after old mid new side generation _ keeps same (inr (inl torn)) = inr (inl (taken_after old mid new side generation (map_in side mid) (map_in side old) keeps same torn))
 cut_after old mid new side generation change keeps same (inr (inr whole)) = inr (inr (taken_after old mid new side generation (map_after change (map_in side mid)) (map_after change (map_in side old)) keeps (ap (map_after change) same) whole))
 
 pub cut_size : {mid new : Device} {side : Side} {generation : ℕ} (change : Change) → MayTakeSlot mid new side generation change → new.size ≡ mid.size
-cut_size change (inl keeps) = keeps.same_size
-cut_size change (inr (inl torn)) = torn.same_size
-cut_size change (inr (inr whole)) = whole.same_size
+cut_size _ (inl keeps) = keeps.same_size
+cut_size _ (inr (inl torn)) = torn.same_size
+cut_size _ (inr (inr whole)) = whole.same_size

@@ -1,59 +1,36 @@
 -- Maps that are copied address by address, and how many addresses have a value in them.
-use Rattle.std.proofs.Common.{◌≡◌, inl, inr, ℕ, ◌<◌, ◌≤◌, Bool, true, false, cond, Some, None, nat_lt, List, [], ◌∷◌, ◌++◌, refl, sym, ap, ◌∙◌, arith, suc, zero}
-use Rattle.std.specs.Prelude.{◌&&◌, ◌||◌, ◌==◌, ◌/◌, ◌%◌, ◌^◌}
-use Rattle.std.proofs.Math.Path.{fun_ext}
-use Rattle.std.proofs.lemmas.Bool.{cases_Bool, cases_lt, cases_eq, eq-eqb, eqb-true, ne_eqb, le-leb, lt-leb}
-use Rattle.ee_codec.specs.declared.slot.Slot.{Slot}
-use Rattle.ee_codec.specs.declared.slot.Slot.TheVariants.{Element, Forgotten, Foreign}
-use Rattle.ee_flash.specs.declared.word.Word.{Word}
-use Rattle.ee_flash.specs.declared.word.Word.TheVariants.{Erased, Held, Torn}
-use Rattle.ee_pages.specs.Meaning.{Change, Forget, Map, Put, changed_by, map_after, latest_in, live_in, live_to, meaning, says, slot_says, value_said}
-use Rattle.ee_pages.specs.LiveOrder.{IsNextLive}
-use Rattle.ee_pages.proofs.Public.{live_to-zero, live_to-suc}
-use Rattle.ee_pages.specs.Pending.{address_of}
-use Rattle.ee_core.specs.CallSteps.{map_to, replaced_map}
-use Rattle.ee_core.specs.Changes.{HasChange}
-use Rattle.ee_core.specs.Picture.{map_without}
-use Rattle.ee_core.specs.Puts.{names}
+use Rattle.ee_core.proofs.Base.{◌≡◌, inl, inr, ℕ, ◌<◌, ◌≤◌, Bool, true, false, Some, None, List, [], ◌∷◌, ◌++◌, refl, sym, ap, ◌∙◌, arith, suc, zero, ◌||◌, ◌==◌, fun_ext, cases_Bool, eqb-true, Change, Forget, Map, Put, changed_by, map_after, live_in, live_to, IsNextLive, live_to-zero, live_to-suc, address_of, map_to, replaced_map, HasChange, map_without, names, neither, rules}
 
 -- maps that say the same have as many addresses with a value
 pub same_counts : (first second : Map) → ((address : ℕ) → first address ≡ second address) → live_in first ≡ live_in second
-same_counts first second same = ap live_in (fun_ext same)
+same_counts _ _ same = ap live_in (fun_ext same)
 
 -- two maps at an address
 pub replaced-at : (start map : Map) (named : ℕ → Bool) (address : ℕ) → named address ≡ true → replaced_map start named map address ≡ start address
-replaced-at start map named address e = ap (λ (b : Bool). cond b (start address) (map address)) e
+replaced-at start map _ address e = search rules
 
 pub replaced-other : (start map : Map) (named : ℕ → Bool) (address : ℕ) → named address ≡ false → replaced_map start named map address ≡ map address
-replaced-other start map named address e = ap (λ (b : Bool). cond b (start address) (map address)) e
+replaced-other start map _ address e = search rules
 
 -- an address that is named is not one that isn't
 told_apart : (named : ℕ → Bool) (address next : ℕ) → named next ≡ true → named address ≡ false → address ≡ next → ⊥
-told_apart named address next here other e = let wrong : true ≡ false = sym here ∙ ap named (sym e) ∙ other in cc wrong
+told_apart named _ _ here other e = search rules
 
 pub map_to-below : (map : Map) (last address : ℕ) → address ≤ last → map_to map last address ≡ map address
-map_to-below map last address h = ap (λ (b : Bool). cond b (map address) None) (le-leb address last h)
+map_to-below map last address h = search rules
 
 pub map_to-above : (map : Map) (last address : ℕ) → last < address → map_to map last address ≡ None
-map_to-above map last address h = ap (λ (b : Bool). cond b (map address) None) (lt-leb address last h)
+map_to-above map last address h = search rules
 
 pub put-at : (map : Map) (named value address : ℕ) → address ≡ named → map_after (Put named value) map address ≡ Some value
-put-at map named value address e = ap (λ (b : Bool). cond b (Some value) (map address)) (eq-eqb named address (sym e))
+put-at map named value address e = search rules
 
 pub put-other : (map : Map) (named value address : ℕ) → (address ≡ named → ⊥) → map_after (Put named value) map address ≡ map address
-put-other map named value address other = ap (λ (b : Bool). cond b (Some value) (map address)) (ne_eqb named address (λ e. other (sym e)))
+put-other map named value address other = search rules
 
 -- up to the next live address no other has a value
 up_to_next : (map : Map) (above next value address : ℕ) → IsNextLive map above (Some (next, value)) → (address ≡ next → ⊥) → map_to map next address ≡ map_to map above address
-up_to_next map above next value address is other = elim (cases_lt above address) [
-  | inr low ↦ map_to-below map next address (omega (arith, is.0)) ∙ sym (map_to-below map above address low)
-  | inl more ↦ elim (cases_lt next address) [
-    | inl high ↦ map_to-above map next address high ∙ sym (map_to-above map above address more)
-    | inr within ↦
-        let below : address < next = omega (arith, other) in
-        map_to-below map next address within ∙ is.2 address more below ∙ sym (map_to-above map above address more)
-  ]
-]
+up_to_next map above next _ address is other = search (rules, map_to-below, map_to-above)
 
 module _ (start map : Map) (named : ℕ → Bool) where
   -- the first map, with the addresses copied so far
@@ -61,108 +38,39 @@ module _ (start map : Map) (named : ℕ → Bool) where
   so_far above = replaced_map start named (map_to map above)
 
   pub at_first : map 0 ≡ None → ((address : ℕ) → named address ≡ false → start address ≡ None) → (address : ℕ) → start address ≡ so_far 0 address
-  at_first zeroth only address = elim (cases_Bool (named address)) [
-    | inl same ↦ sym (replaced-at start (map_to map 0) named address same)
-    | inr other ↦
-        let none : map_to map 0 address ≡ None = elim (cases_lt 0 address) [
-          | inl more ↦ map_to-above map 0 address more
-          | inr low ↦ map_to-below map 0 address low ∙ (let e : address ≡ 0 = omega arith in ap map e ∙ zeroth)
-        ] in
-        only address other ∙ sym none ∙ sym (replaced-other start (map_to map 0) named address other)
-  ]
+  at_first zeroth only address = search (rules, replaced-at, map_to-above, map_to-below, replaced-other)
 
   pub at_last : (above : ℕ) → IsNextLive map above None → (address : ℕ) → so_far above address ≡ replaced_map start named map address
-  at_last above none address =
-      let all : map_to map above address ≡ map address = elim (cases_lt above address) [
-        | inl more ↦ map_to-above map above address more ∙ sym (none address more)
-        | inr low ↦ map_to-below map above address low
-      ] in
-      elim (cases_Bool (named address)) [
-        | inl same ↦ replaced-at start (map_to map above) named address same ∙ sym (replaced-at start map named address same)
-        | inr other ↦ replaced-other start (map_to map above) named address other ∙ all ∙ sym (replaced-other start map named address other)
-      ]
+  at_last above none address = search (rules, map_to-above, map_to-below, replaced-at, replaced-other)
 
   -- the next live address is one that is not copied
   pub passed : (above next value : ℕ) → IsNextLive map above (Some (next, value)) → named next ≡ true → (address : ℕ) → so_far above address ≡ so_far next address
-  passed above next value is here address = elim (cases_Bool (named address)) [
-    | inl same ↦ replaced-at start (map_to map above) named address same ∙ sym (replaced-at start (map_to map next) named address same)
-    | inr other ↦
-        replaced-other start (map_to map above) named address other
-        ∙ sym (up_to_next map above next value address is (told_apart named address next here other))
-        ∙ sym (replaced-other start (map_to map next) named address other)
-  ]
+  passed above next value is here address = search (rules, replaced-at, replaced-other, up_to_next, told_apart)
 
   -- it is copied
   copied : (above next value : ℕ) → IsNextLive map above (Some (next, value)) → named next ≡ false → (address : ℕ) → map_after (Put next value) (so_far above) address ≡ so_far next address
-  copied above next value is apart address = elim (cases_eq address next) [
-    | inl same ↦
-        let other : named address ≡ false = ap named same ∙ apart in
-        put-at (so_far above) next value address same
-        ∙ sym (ap map same ∙ is.1)
-        ∙ sym (map_to-below map next address (omega arith))
-        ∙ sym (replaced-other start (map_to map next) named address other)
-    | inr new ↦
-        put-other (so_far above) next value address new
-        ∙ elim (cases_Bool (named address)) [
-          | inl same ↦ replaced-at start (map_to map above) named address same ∙ sym (replaced-at start (map_to map next) named address same)
-          | inr other ↦
-              replaced-other start (map_to map above) named address other
-              ∙ sym (up_to_next map above next value address is new)
-              ∙ sym (replaced-other start (map_to map next) named address other)
-        ]
-  ]
+  copied above next value is apart address = search (rules, apart, put-at, map_to-below, replaced-other, put-other, replaced-at, up_to_next)
 
   -- so it is where the map before says the same as those copied so far
   pub copied_to : (held : Map) (above next value : ℕ) → ((address : ℕ) → held address ≡ so_far above address) → IsNextLive map above (Some (next, value)) → named next ≡ false → (address : ℕ) → map_after (Put next value) held address ≡ so_far next address
-  copied_to held above next value same is apart address =
-      ap (λ (said : Map). map_after (Put next value) said address) (fun_ext same) ∙ copied above next value is apart address
-
--- no slot says anything of address 0
-element-zero : (address value : ℕ) → (address ≡ 0 → ⊥) → slot_says (Element address value) 0 ≡ None
-element-zero address value some = ap (λ (b : Bool). cond b (Some (Some value)) None) (ne_eqb address 0 some)
-
-forgotten-zero : (address value : ℕ) → (address ≡ 0 → ⊥) → slot_says (Forgotten address value) 0 ≡ None
-forgotten-zero address value some = ap (λ (b : Bool). cond b (Some None) None) (ne_eqb address 0 some)
-
-one_of : (first second : Bool) (element forgotten : Slot) → slot_says element 0 ≡ None → slot_says forgotten 0 ≡ None → slot_says (cond first element (cond second forgotten Foreign)) 0 ≡ None
-one_of true second element forgotten e f = e
-one_of false true element forgotten e f = f
-one_of false false element forgotten e f = refl
-
-parts-zero : (address value : ℕ) (low first second : Bool) → slot_says (cond ((nat_lt 0 address && low) && first) (Element address value) (cond ((nat_lt 0 address && low) && second) (Forgotten address value) Foreign)) 0 ≡ None
-parts-zero address value low first second = elim (cases_eq address 0) [
-  | inl none ↦ rw none refl
-  | inr some ↦ one_of (nat_lt 0 address && low && first) (nat_lt 0 address && low && second) (Element address value) (Forgotten address value) (element-zero address value some) (forgotten-zero address value some)
-]
-
-says-zero : (word : Word) → says word 0 ≡ None
-says-zero Erased = refl
-says-zero Torn = refl
-says-zero (Held number) = parts-zero (number % 2 ^ 16) (number / 2 ^ 32) (nat_lt (number % 2 ^ 16) 65535) (number / 2 ^ 16 % 2 ^ 16 == 0) (number / 2 ^ 16 % 2 ^ 16 == 1)
-
-latest_in-zero : (slots : List Word) → latest_in slots 0 ≡ None
-latest_in-zero [] = refl
-latest_in-zero (slot ∷ slots) = rw (says-zero slot, latest_in-zero slots) refl
-
-pub meaning-zero : (slots : List Word) → meaning slots 0 ≡ None
-meaning-zero slots = ap value_said (latest_in-zero slots)
+  copied_to _ above next value same is apart address = search (rules, copied, apart)
 
 -- a map in which nothing has a value
 abbrev pub nothing : Map
 nothing = λ address. None
 
 gap_at_start : (n : ℕ) → live_to nothing n ≡ 0
-gap_at_start zero = live_to-zero nothing
+gap_at_start zero = live_to-zero _
 gap_at_start (suc n) = omega (arith, live_to-suc nothing n, gap_at_start n)
 
 pub live_in-nothing : (map : Map) → ((address : ℕ) → map address ≡ None) → 0 ≡ live_in map
 live_in-nothing map none = sym (gap_at_start 65534) ∙ same_counts nothing map (λ address. sym (none address))
 
 pub forget-at : (map : Map) (named address : ℕ) → address ≡ named → map_after (Forget named) map address ≡ None
-forget-at map named address e = ap (λ (b : Bool). cond b None (map address)) (eq-eqb named address (sym e))
+forget-at map named address e = search rules
 
 pub forget-other : (map : Map) (named address : ℕ) → (address ≡ named → ⊥) → map_after (Forget named) map address ≡ map address
-forget-other map named address other = ap (λ (b : Bool). cond b None (map address)) (ne_eqb named address (λ e. other (sym e)))
+forget-other map named address other = search rules
 
 changed-other : (change : Change) (map : Map) (address : ℕ) → (address ≡ address_of change → ⊥) → map_after change map address ≡ map address
 changed-other (Put named value) map address other = put-other map named value address other
@@ -175,84 +83,58 @@ changed-at (Forget named) first second address e = forget-at first named address
 -- ---- several changes
 
 pub changed_by-append : (changes more : List Change) (map : Map) → changed_by (changes ++ more) map ≡ changed_by more (changed_by changes map)
-changed_by-append [] more map = refl
+changed_by-append [] _ _ = refl
 changed_by-append (change ∷ changes) more map = changed_by-append changes more (map_after change map)
 
 pub apart : (named address : ℕ) → (named == address) ≡ false → address ≡ named → ⊥
-apart named address other same = let wrong : true ≡ false = sym (eq-eqb named address (sym same)) ∙ other in cc wrong
-
-pub neither : (x y : Bool) → (x || y) ≡ false → (x ≡ false) × (y ≡ false)
-neither true y e = absurd (cc e)
-neither false y e = (refl, e)
+apart named address other same = search rules
 
 the_first : (x y : Bool) → (x || y) ≡ true → y ≡ false → x ≡ true
-the_first true y e none = refl
+the_first true y e _ = refl
 the_first false y e none = absurd (cc (e, none))
 
 -- what they don't name stays
 pub changed_by-other : (changes : List Change) (map : Map) (address : ℕ) → names changes address ≡ false → changed_by changes map address ≡ map address
-changed_by-other [] map address e = refl
+changed_by-other [] _ _ e = refl
 changed_by-other (change ∷ changes) map address e =
     let parts = neither (address_of change == address) (names changes address) e in
     changed_by-other changes (map_after change map) address parts.1 ∙ changed-other change map address (apart (address_of change) address parts.0)
 
 -- and what they name is theirs
 pub changed_by-at : (changes : List Change) (first second : Map) (address : ℕ) → names changes address ≡ true → changed_by changes first address ≡ changed_by changes second address
-changed_by-at [] first second address e = absurd (cc e)
-changed_by-at (change ∷ changes) first second address e = elim (cases_Bool (names changes address)) [
+changed_by-at [] _ _ _ e = absurd (cc e)
+changed_by-at (change ∷ changes) first second address e = elim (cases_Bool _) [
   | inl later ↦ changed_by-at changes (map_after change first) (map_after change second) address later
   | inr none ↦
-      let here = eqb-true (address_of change) address (the_first (address_of change == address) (names changes address) e none) in
       changed_by-other changes (map_after change first) address none
-      ∙ changed-at change first second address (sym here)
+      ∙ changed-at change first second address (sym (eqb-true (address_of change) address (the_first (address_of change == address) (names changes address) e none)))
       ∙ sym (changed_by-other changes (map_after change second) address none)
 ]
 
 pub without-other : (changes : List Change) (map : Map) (address : ℕ) → names changes address ≡ false → map_without changes map address ≡ map address
-without-other [] map address e = refl
+without-other [] _ _ e = refl
 without-other (change ∷ changes) map address e =
     let parts = neither (address_of change == address) (names changes address) e in
     without-other changes (map_after (Forget (address_of change)) map) address parts.1 ∙ forget-other map (address_of change) address (apart (address_of change) address parts.0)
 
 pub without-at : (changes : List Change) (map : Map) (address : ℕ) → names changes address ≡ true → map_without changes map address ≡ None
-without-at [] map address e = absurd (cc e)
-without-at (change ∷ changes) map address e = elim (cases_Bool (names changes address)) [
+without-at [] _ _ e = absurd (cc e)
+without-at (change ∷ changes) map address e = elim (cases_Bool _) [
   | inl later ↦ without-at changes (map_after (Forget (address_of change)) map) address later
   | inr none ↦
-      let here = eqb-true (address_of change) address (the_first (address_of change == address) (names changes address) e none) in
-      without-other changes (map_after (Forget (address_of change)) map) address none ∙ forget-at map (address_of change) address (sym here)
+      without-other changes (map_after (Forget (address_of change)) map) address none ∙ forget-at map (address_of change) address (sym (eqb-true (address_of change) address (the_first (address_of change == address) (names changes address) e none)))
 ]
 
 -- the changes, and then each other address, are the map after the changes
 pub then_all : (start map : Map) (changes : List Change) → ((address : ℕ) → start address ≡ changed_by changes nothing address) → (address : ℕ) → replaced_map start (names changes) map address ≡ changed_by changes map address
-then_all start map changes same address = elim (cases_Bool (names changes address)) [
-  | inl here ↦ replaced-at start map (names changes) address here ∙ same address ∙ changed_by-at changes nothing map address here
-  | inr other ↦ replaced-other start map (names changes) address other ∙ sym (changed_by-other changes map address other)
-]
+then_all start map changes same address = search (rules, replaced-at, changed_by-at, replaced-other, changed_by-other)
 
 -- what is put at an address that no later change names might as well be put last
 pub put_last : (changes : List Change) (map : Map) (named value : ℕ) → names changes named ≡ false
     → (address : ℕ) → map_after (Put named value) (changed_by changes (map_after (Forget named) map)) address ≡ changed_by changes (map_after (Put named value) map) address
-put_last changes map named value once address =
-    let without = map_after (Forget named) map in
-    let after = changed_by changes without in
-    elim (cases_Bool (names changes address)) [
-      | inl here ↦
-          put-other after named value address (λ e. told_apart (names changes) named address here once (sym e))
-          ∙ changed_by-at changes without (map_after (Put named value) map) address here
-      | inr away ↦ elim (cases_eq address named) [
-        | inl same ↦
-            put-at after named value address same
-            ∙ sym (changed_by-other changes (map_after (Put named value) map) address away ∙ put-at map named value address same)
-        | inr other ↦
-            put-other after named value address other
-            ∙ changed_by-other changes without address away
-            ∙ forget-other map named address other
-            ∙ sym (changed_by-other changes (map_after (Put named value) map) address away ∙ put-other map named value address other)
-      ]
-    ]
+put_last changes map named value once address = search (rules, put-other, told_apart, changed_by-at, put-at, changed_by-other, forget-other)
 
 -- what the map has after a change it has been made
 pub made : (change : Change) (map after : Map) → after (address_of change) ≡ map_after change map (address_of change) → HasChange change after
-made (Put address value) map after same = same ∙ put-at map address value address refl
-made (Forget address) map after same = same ∙ forget-at map address address refl
+made (Put address value) map _ same = same ∙ put-at map address value address refl
+made (Forget address) map _ same = same ∙ forget-at map address address refl

@@ -1,88 +1,55 @@
 -- What is drawn where power was cut in setting marks, and in an append.
-use Rattle.std.proofs.Common.{rules, ◌≡◌, inl, inr, ℕ, ◌+◌, ◌-◌, ◌<◌, ◌≤◌, Bool, false, true, List, refl, sym, subst, ap, ◌∙◌, arith}
-use Rattle.std.specs.Prelude.{◌&&◌, nat_lt, not}
-use Rattle.std.proofs.lemmas.Bool.{cases_eq, cases_lt, eq-eqb, le-ltb, lt-ltb, ne_eqb}
-use Rattle.ee_flash.specs.Device.{Device, IsFormed, page_at}
-use Rattle.ee_flash.specs.Power.{GoesOn}
-use Rattle.ee_flash.specs.Size.{Size}
-use Rattle.ee_flash.specs.declared.word.Word.{Word}
-use Rattle.ee_flash.specs.declared.word.Word.TheVariants.{Held}
-use Rattle.ee_pages.specs.Laws.{IsPageOf}
-use Rattle.ee_pages.specs.Legal.{IsLive}
-use Rattle.ee_pages.specs.Page.{is_blank, is_marked}
-use Rattle.ee_pages.specs.Sets.{first_page, other, page_of_slot, place_of_slot}
-use Rattle.ee_pages.specs.declared.side.Side.{Side}
-use Rattle.ee_pages.specs.declared.state.Mark.TheVariants.{Active, Erasing, Valid}
+use Rattle.ee_core.proofs.Base.{rules, ◌≡◌, inr, ℕ, ◌+◌, ◌-◌, ◌<◌, ◌≤◌, Bool, false, true, refl, sym, subst, ap, ◌∙◌, arith, ◌&&◌, nat_lt, not, Device, IsFormed, page_at, GoesOn, Size, Held, IsPageOf, IsLive, is_blank, is_marked, first_page, other, page_of_slot, place_of_slot, Side, Active, Erasing, Valid, IsSameBut, IsSameSet, KeepsMarks, SetsMark, Stays, IsDrawnPartly, PutsPartly, SetsPartly, IsOldMarked, last_used, ShowsCutMarks, IsDrawn, Picture, is_used, marked_to, picture_of, retired_pages, with_change}
 use Rattle.ee_core.proofs.Cuts.{IsOnTheWay, drawn_before, drawn_between, drawn_whole, mark_drawn_partly, put_partly}
-use Rattle.ee_core.proofs.Drawings.{active_last, mark_drawn, drawn_as, retired_more, same_drawn, valid_drawn, valid_more, valid_to, with_mark, with_word-elsewhere}
+use Rattle.ee_core.proofs.Drawings.{active_last, mark_drawn, drawn_as, retired_more, same_drawn, valid_drawn, valid_more, valid_to, with_word-elsewhere}
 use Rattle.ee_core.proofs.AfterCalls.{goes_on_both, goes_on_same}
 use Rattle.ee_core.proofs.LiveMarks.{IsPageDone, MarksPage, done_already, done_more, stays_both}
 use Rattle.ee_core.proofs.MarkedSets.{live_stays, retired_next, retired_start, retired_to}
 use Rattle.ee_core.proofs.Marks.{same_stays}
 use Rattle.ee_core.proofs.SetPages.{page_reached, same_page}
-use Rattle.ee_core.specs.CallSteps.{IsSameBut, IsSameSet, KeepsMarks, SetsMark, Stays}
-use Rattle.ee_core.specs.Cuts.{IsDrawnPartly, PutsPartly, SetsPartly}
-use Rattle.ee_core.specs.Finished.{IsOldMarked, last_used}
-use Rattle.ee_core.specs.Openings.{ShowsCutMarks}
-use Rattle.ee_core.specs.Picture.{IsDrawn, Picture, is_used, marked_to, picture_of, retired_pages, with_change}
 
 -- ---- the marks that are set so far are on the way
 
 valid_way : (k last : ℕ) (picture : Picture) (page at : ℕ) → k ≤ last → IsOnTheWay (picture page at) (marked_to last picture page at) (valid_to k picture page at)
-valid_way k last picture page at h = elim (cases_eq at 2) [
-  | inr away ↦ inl (rw (ne_eqb at 2 away) refl)
-  | inl two ↦ elim (cases_lt page k) [
-    | inl below ↦ inr (rw (eq-eqb at 2 two, lt-ltb page k below, lt-ltb page last (omega arith)) refl)
-    | inr above ↦ inl (rw (eq-eqb at 2 two, le-ltb page k above) refl)
-  ]
-]
+valid_way k last _ page at h = search rules
 
 retired_way : (k : ℕ) (waiting : ℕ → Bool) (picture : Picture) (page at : ℕ) → IsOnTheWay (picture page at) (retired_pages waiting picture page at) (retired_pages (λ p. nat_lt p k && waiting p) picture page at)
-retired_way k waiting picture page at = elim (cases_eq at 3) [
-  | inr away ↦ inl (rw (ne_eqb at 3 away) refl)
-  | inl three ↦ elim (cases_lt page k) [
-    | inl below ↦ inr (rw (lt-ltb page k below) refl)
-    | inr above ↦ inl (rw (eq-eqb at 3 three, le-ltb page k above) refl)
-  ]
-]
+retired_way k _ _ page at = search rules
 
 -- ---- a mark that was cut, in the set that is drawn with the marks before it
 
 pub valid_partly : (side : Side) (mid new : Device) (k last : ℕ) (picture : Picture) → IsFormed mid → new.size ≡ mid.size → k < mid.size.pages → k < last → SetsPartly (first_page mid.size side + k) Valid mid new → IsDrawn side mid (valid_to k picture) → IsDrawnPartly side new picture (marked_to last picture)
-valid_partly side mid new k last picture formed sizes h before sets drawn =
-    drawn_between side new picture (marked_to last picture) (valid_to k picture) (with_mark k Valid (valid_to k picture))
+valid_partly _ _ new k last picture formed sizes h before sets drawn =
+    drawn_between _ new _ _ _ _
     (λ page at _ _. (
       valid_way k last picture page at (omega arith),
-      subst (λ (word : Word). IsOnTheWay (picture page at) (marked_to last picture page at) word) (sym (valid_more k picture page at)) (valid_way (k + 1) last picture page at (omega arith)),
+      subst (λ word. IsOnTheWay (picture page at) (marked_to last picture page at) word) (sym (valid_more k picture _ at)) (valid_way (k + 1) last picture page at (omega arith)),
     ))
-    (mark_drawn_partly side mid new k Valid (valid_to k picture) formed sizes h drawn sets)
+    (mark_drawn_partly _ _ _ k Valid _ formed sizes h drawn sets)
 
 pub active_partly : (side : Side) (mid new : Device) (last : ℕ) (picture : Picture) → IsFormed mid → new.size ≡ mid.size → last < mid.size.pages → SetsPartly (first_page mid.size side + last) Active mid new → IsDrawn side mid (valid_to last picture) → IsDrawnPartly side new picture (marked_to last picture)
-active_partly side mid new last picture formed sizes h sets drawn =
-    drawn_between side new picture (marked_to last picture) (valid_to last picture) (with_mark last Active (valid_to last picture))
-    (λ page at _ _. (valid_way last last picture page at (omega arith), inr (active_last last picture page at)))
-    (mark_drawn_partly side mid new last Active (valid_to last picture) formed sizes h drawn sets)
+active_partly _ _ new last picture formed sizes h sets drawn = search (rules, drawn_between, valid_way, active_last, mark_drawn_partly, drawn)
 
 pub retired_partly : (side : Side) (old mid new : Device) (k : ℕ) → IsFormed mid → new.size ≡ mid.size → k < mid.size.pages → is_used side old k ≡ true → SetsPartly (first_page mid.size side + k) Erasing mid new → IsDrawn side mid (retired_to side old k) → IsDrawnPartly side new (picture_of side old) (retired_pages (is_used side old) (picture_of side old))
-retired_partly side old mid new k formed sizes h waiting sets drawn =
+retired_partly side old _ new k formed sizes h waiting sets drawn =
     let picture = picture_of side old in
-    drawn_between side new picture (retired_pages (is_used side old) picture) (retired_to side old k) (with_mark k Erasing (retired_to side old k))
+    drawn_between _ new _ _ _ _
     (λ page at _ _. (
       retired_way k (is_used side old) picture page at,
-      subst (λ (word : Word). IsOnTheWay (picture page at) (retired_pages (is_used side old) picture page at) word) (sym (retired_more k (is_used side old) picture page at waiting)) (retired_way (k + 1) (is_used side old) picture page at),
+      subst (λ word. IsOnTheWay (picture page at) (retired_pages (is_used side old) picture page at) word) (sym (retired_more k (is_used side old) picture _ at waiting)) (retired_way (k + 1) (is_used side old) picture page at),
     ))
-    (mark_drawn_partly side mid new k Erasing (retired_to side old k) formed sizes h drawn sets)
+    (mark_drawn_partly _ _ _ k Erasing _ formed sizes h drawn sets)
 
 -- ---- an opening
 
 -- cut in the marks of the live set
 pub cut_live : (side : Side) (old new : Device) → new.size ≡ old.size → IsDrawnPartly side new (picture_of side old) (marked_to (last_used old side) (picture_of side old)) → IsSameSet (other side) old new → ShowsCutMarks old new side
-cut_live side old new sizes live same = search (rules, drawn_before, same_drawn)
+cut_live _ _ _ sizes live same = search (rules, drawn_before, same_drawn)
 
 -- or of the other one
 pub cut_old : (side : Side) (old mid new : Device) → mid.size ≡ old.size → new.size ≡ mid.size → IsDrawn side mid (marked_to (last_used old side) (picture_of side old)) → IsSameSet (other side) old mid → IsSameSet side mid new
     → IsDrawnPartly (other side) new (picture_of (other side) mid) (retired_pages (is_used (other side) mid) (picture_of (other side) mid)) → ShowsCutMarks old new side
-cut_old side old mid new first_sizes second_sizes live_first old_first live_then old_then = search (rules, drawn_whole, same_drawn, same_page)
+cut_old _ _ mid new first_sizes second_sizes live_first old_first live_then old_then = search (rules, drawn_whole, same_drawn, same_page)
 
 -- ---- an append
 
@@ -90,29 +57,25 @@ cut_old side old mid new first_sizes second_sizes live_first old_first live_then
 pub opens_partly : (side : Side) (old new : Device) (k : ℕ) → IsFormed old → new.size ≡ old.size → k + 1 < old.size.pages → ((page : ℕ) → page < k → is_marked old (first_page old.size side + page) Valid ≡ true)
     → SetsPartly (first_page old.size side + k) Valid old new → IsDrawnPartly side new (picture_of side old) (marked_to (k + 1) (picture_of side old))
 opens_partly side old new k formed sizes h before valid =
-    valid_partly side old new k (k + 1) (picture_of side old) formed sizes (omega arith) (omega arith) valid (valid_drawn side old k before)
+    valid_partly side old new k (k + 1) (picture_of side old) formed sizes (omega arith) (omega arith) valid (valid_drawn _ old k before)
 
 -- or in its active mark
 pub opens_partly_then : (side : Side) (old mid new : Device) (k : ℕ) → IsFormed old → IsFormed mid → mid.size ≡ old.size → new.size ≡ mid.size → k + 1 < old.size.pages → ((page : ℕ) → page < k → is_marked old (first_page old.size side + page) Valid ≡ true)
     → SetsMark (first_page old.size side + k) Valid old mid → SetsPartly (first_page old.size side + (k + 1)) Active mid new → IsDrawnPartly side new (picture_of side old) (marked_to (k + 1) (picture_of side old))
 opens_partly_then side old mid new k formed mid_formed first_sizes second_sizes h before valid active =
     let picture = picture_of side old in
-    let used : IsDrawn side mid (valid_to (k + 1) picture) =
-    drawn_as side mid (with_mark k Valid (valid_to k picture)) (valid_to (k + 1) picture)
-    (mark_drawn side old mid k Valid (valid_to k picture) formed first_sizes (omega arith) (valid_drawn side old k before) valid)
+    let used =
+    drawn_as _ mid _ _
+    (mark_drawn _ _ _ k Valid _ formed first_sizes (omega arith) (valid_drawn _ old k before) valid)
     (λ p at _ _. valid_more k picture p at) in
-    let there = subst (λ (size : Size). SetsPartly (first_page size side + (k + 1)) Active mid new) (sym first_sizes) active in
-    active_partly side mid new (k + 1) picture mid_formed second_sizes (omega (arith, ap (λ (size : Size). size.pages) first_sizes)) there used
+    search (rules, active_partly)
 
 -- the marks are on the way to the change
 marks_way : (size : Size) (fill number : ℕ) (picture : Picture) (page at : ℕ) → IsOnTheWay (picture page at) (with_change size fill number picture page at) (marked_to (page_of_slot size fill) picture page at)
-marks_way size fill number picture page at = elim (cases_eq at (place_of_slot size fill)) [
-  | inr away ↦ inr (sym (with_word-elsewhere (page_of_slot size fill) (place_of_slot size fill) (Held number) (marked_to (page_of_slot size fill) picture) page at (inr away)))
-  | inl there ↦ inl (rw (ne_eqb at 2 (λ e. omega (arith, e, there)), ne_eqb at 1 (λ e. omega (arith, e, there))) refl)
-]
+marks_way size fill number picture page at = search (rules, with_word-elsewhere)
 
 pub cut_marks : (side : Side) (old new : Device) (fill number : ℕ) → IsDrawnPartly side new (picture_of side old) (marked_to (page_of_slot old.size fill) (picture_of side old)) → IsDrawnPartly side new (picture_of side old) (with_change old.size fill number (picture_of side old))
-cut_marks side old new fill number drawn = search (rules, drawn_between, marks_way)
+cut_marks _ _ _ _ number drawn = search (rules, drawn_between, marks_way)
 
 pub cut_word : (side : Side) (old mid new : Device) (fill number : ℕ) → mid.size ≡ old.size → new.size ≡ mid.size → page_of_slot old.size fill < old.size.pages → place_of_slot old.size fill < old.size.words → IsDrawn side mid (marked_to (page_of_slot old.size fill) (picture_of side old))
     → PutsPartly (first_page mid.size side + page_of_slot mid.size fill) (place_of_slot mid.size fill) (Held number) mid new
@@ -121,10 +84,10 @@ cut_word side old mid new fill number first_sizes second_sizes h inside drawn pu
     let picture = picture_of side old in
     let at = place_of_slot old.size fill in
     let k = page_of_slot old.size fill in
-    let there = subst (λ (size : Size). PutsPartly (first_page mid.size side + page_of_slot size fill) (place_of_slot size fill) (Held number) mid new) first_sizes puts in
-    drawn_between side new picture (with_change old.size fill number picture) (marked_to k picture) (with_change old.size fill number picture)
+    let there = subst (λ size. PutsPartly (first_page mid.size side + page_of_slot size fill) (place_of_slot size fill) (Held number) mid new) first_sizes puts in
+    drawn_between _ new _ _ _ _
     (λ page place _ _. (marks_way old.size fill number picture page place, inr refl))
-    (put_partly side mid new k at (Held number) (marked_to k picture) second_sizes drawn (omega (arith, ap (λ (size : Size). size.pages) first_sizes)) (omega (arith, ap (λ (size : Size). size.words) first_sizes)) there)
+    (put_partly _ mid _ k at (Held number) (marked_to k picture) second_sizes drawn (omega (arith, ap (λ size. size.pages) first_sizes)) (omega (arith, ap (λ size. size.words) first_sizes)) there)
 
 -- ---- the other set, whose pages are marked one after another
 
@@ -142,43 +105,43 @@ pub record MarkedTo (old now : Device) (side : Side) (generation first page : �
 module _ (side : Side) (generation : ℕ) (old : Device) (first pages : ℕ) (first_is : first ≡ first_page old.size (other side)) (pages_is : pages ≡ old.size.pages) where
   pub marked_start : IsLive old side generation → MarkedTo old old side generation first first
   marked_start live = record {
-    stays = same_stays old old side generation live refl;
+    stays = same_stays _ _ _ _ live refl;
     marks = λ page mark was. was;
-    done = λ k below. absurd (omega (arith, below));
+    done = λ k below. absurd (omega arith);
     no_step = λ marked. refl;
-    drawn = retired_start (other side) old first first_is first refl;
+    drawn = retired_start _ old _ first_is _ refl;
     live = refl;
     rest = λ k h. refl;
-    power = goes_on_same old;
+    power = goes_on_same _;
   }
 
   -- the whole set
   pub marked_all : (new : Device) (page : ℕ) → first + pages ≤ page → MarkedTo old new side generation first page → IsOldMarked new (other side)
-  marked_all new page past all k below =
+  marked_all new _ past all k below =
       let sizes = all.stays.keeps.same_size in
-      subst (λ n. IsPageDone new (n + k)) (first_is ∙ sym (ap (λ (size : Size). first_page size (other side)) sizes)) (all.done k (omega (arith, past, pages_is, ap (λ (size : Size). size.pages) sizes, below)))
+      subst (λ n. IsPageDone new (n + k)) (first_is ∙ sym (ap (λ size. first_page size (other side)) sizes)) (all.done k (omega (arith, ap (λ size. size.pages) sizes)))
 
   module _ (mid : Device) (page : ℕ) (formed : IsFormed mid) (from : first ≤ page) (below : page < first + pages) (so_far : MarkedTo old mid side generation first page) where
     in_set : IsPageOf mid.size (other side) page
-    in_set = page_reached (other side) old mid first pages page first_is pages_is so_far.stays.keeps.same_size from below
+    in_set = search (rules, page_reached)
 
     within : page - first < mid.size.pages
-    within = omega (arith, pages_is, ap (λ (size : Size). size.pages) so_far.stays.keeps.same_size, from, below)
+    within = omega (arith, ap (λ size. size.pages) so_far.stays.keeps.same_size)
 
     pub was_done : IsOldMarked old (other side) → IsPageDone mid page
-    was_done marked = subst (λ (device : Device). IsPageDone device page) (sym (so_far.no_step marked)) (done_already old (other side) page marked (omega (arith, first_is, from)) (omega (arith, first_is, pages_is, below)))
+    was_done marked = search (rules, done_already)
 
     -- one page more
     pub marked_next : (new : Device) → IsFormed new → MarksPage mid new side generation page → MarkedTo old new side generation first (page + 1)
     marked_next new new_formed step = record {
-      stays = stays_both old mid new side generation so_far.stays step.stays;
+      stays = stays_both _ _ _ _ _ so_far.stays step.stays;
       marks = λ p mark was. step.marks p mark (so_far.marks p mark was);
-      done = done_more first page mid new from so_far.done step.others step.done;
-      no_step = λ marked. step.no_step (was_done marked) ∙ so_far.no_step marked;
-      drawn = retired_next (other side) old first first_is side generation mid new page formed so_far.stays.keeps.same_size from within (so_far.rest page (omega arith)) step so_far.drawn;
-      live = live_stays side old mid new page formed new_formed step.stays.keeps.same_size in_set step.others so_far.live;
-      rest = λ k h. step.others k (λ e. omega (arith, e, h)) ∙ so_far.rest k (omega (arith, h));
-      power = goes_on_both old mid new so_far.power step.power;
+      done = search (rules, done_more);
+      no_step = search (rules, was_done);
+      drawn = retired_next _ old _ first_is _ _ _ _ _ formed so_far.stays.keeps.same_size from within (so_far.rest page (omega arith)) step so_far.drawn;
+      live = search (rules, live_stays, in_set);
+      rest = λ k h. step.others k (λ e. omega arith) ∙ so_far.rest k (omega arith);
+      power = goes_on_both _ _ _ so_far.power step.power;
     }
 
     -- or power was cut in marking it
@@ -186,9 +149,7 @@ module _ (side : Side) (generation : ℕ) (old : Device) (first pages : ℕ) (fi
         → IsDrawnPartly (other side) new (picture_of (other side) old) (retired_pages (is_used (other side) old) (picture_of (other side) old)) × IsSameSet side old new
     marked_cut new new_formed written stays others begun =
         let k = page - first in
-        let at : page ≡ first_page mid.size (other side) + k = omega (arith, first_is, ap (λ (size : Size). first_page size (other side)) so_far.stays.keeps.same_size, from) in
-        let there : first_page old.size (other side) + k ≡ page = omega (arith, first_is, from) in
-        let was : is_used (other side) old k ≡ true = ap (λ n. not (is_blank (page_at old n))) there ∙ ap (λ (words : List Word). not (is_blank words)) (sym (so_far.rest page (omega arith))) ∙ ap not written in (
-          retired_partly (other side) old mid new k formed stays.keeps.same_size within was (subst (λ n. SetsPartly n Erasing mid new) at begun) so_far.drawn,
-          live_stays side old mid new page formed new_formed stays.keeps.same_size in_set others so_far.live,
+        let was = ap (λ n. not (is_blank (page_at old n))) (omega arith) ∙ ap (λ words. not (is_blank words)) (sym (so_far.rest page (omega arith))) ∙ ap not written in (
+          retired_partly (other side) old mid new k formed stays.keeps.same_size within was (subst (λ n. SetsPartly n Erasing mid new) (omega (arith, ap (λ size. first_page size (other side)) so_far.stays.keeps.same_size)) begun) so_far.drawn,
+          live_stays _ _ _ _ _ formed new_formed stays.keeps.same_size in_set others so_far.live,
         )

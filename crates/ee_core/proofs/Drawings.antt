@@ -1,254 +1,109 @@
 -- Pictures of sets: what a word that is put into a page, or a mark that is set, leaves of them.
-use Rattle.std.proofs.Common.{rules, ◌≡◌, ◌≢◌, ◌⊎◌, inl, inr, ℕ, ◌+◌, ◌<◌, Bool, true, false, List, [], length, get_or, set, refl, sym, subst, ap, ◌∙◌, arith}
-use Rattle.std.specs.Prelude.{◌==◌, ◌&&◌, nat_lt, if◌then◌else◌}
-use Rattle.std.proofs.lemmas.Bool.{cases_Bool, cases_eq, cases_lt, eq-eqb, le-ltb, lt-ltb, ne_eqb}
-use Rattle.std.proofs.lemmas.List.{get_or-set_other, get_or-set_same}
-use Rattle.ee_flash.specs.Device.{Device, IsFormed, page_at, word_at}
-use Rattle.ee_flash.specs.Size.{Size, page_count}
-use Rattle.ee_flash.specs.Step.{device_after, with_word_programmed}
-use Rattle.ee_flash.specs.declared.word.Word.{Word}
-use Rattle.ee_flash.specs.declared.word.Word.TheVariants.{Erased, Held, Torn}
-use Rattle.ee_flash.proofs.Public.{length-page_at}
-use Rattle.ee_pages.specs.Laws.{IsPageOf}
-use Rattle.ee_pages.specs.Page.{is_marked, is_written, marking, number_of_mark, place_of_mark}
-use Rattle.ee_pages.specs.Sets.{first_page, other}
-use Rattle.ee_pages.specs.declared.side.Side.{Side}
-use Rattle.ee_pages.specs.declared.state.Mark.{Mark}
-use Rattle.ee_pages.specs.declared.state.Mark.TheVariants.{Active, Erasing, Valid}
-use Rattle.ee_core.specs.CallSteps.{IsSameSet, PutsWord, SetsMark}
-use Rattle.ee_core.specs.Picture.{IsDrawn, Picture, marked_word, marked_to, picture_of, retired_pages, picture_with_word}
+use Rattle.ee_core.proofs.Base.{rules, ◌≡◌, ◌≢◌, ◌⊎◌, inl, inr, ℕ, ◌+◌, ◌<◌, Bool, true, false, refl, ap, ◌∙◌, ◌==◌, ◌&&◌, nat_lt, if◌then◌else◌, cases_Bool, eq-eqb, lt-ltb, ne_eqb, Device, IsFormed, page_count, device_after, with_word_programmed, Word, Erased, Held, Torn, IsPageOf, is_marked, is_written, marking, number_of_mark, place_of_mark, first_page, other, Side, Mark, Active, Erasing, Valid, IsSameSet, PutsWord, SetsMark, IsDrawn, Picture, marked_word, marked_to, picture_of, retired_pages, picture_with_word}
 use Rattle.ee_core.proofs.SetPages.{apart, same_page}
 use Rattle.ee_core.proofs.Marks.{place_below}
 
 -- a set that stands as it was, through two calls
 pub drawn_both : (side : Side) (old mid new : Device) → mid.size ≡ old.size → new.size ≡ mid.size → IsDrawn side mid (picture_of side old) → IsDrawn side new (picture_of side mid) → IsDrawn side new (picture_of side old)
-drawn_both side old mid new first_sizes second_sizes first second page at h within =
-    second page at h within
-    ∙ first page at (omega (arith, ap (λ (size : Size). size.pages) second_sizes)) (omega (arith, ap (λ (size : Size). size.words) second_sizes))
+drawn_both _ _ _ _ _ second_sizes first second page at h within = search rules
 
 pub drawn_same : (side : Side) (device : Device) → IsDrawn side device (picture_of side device)
-drawn_same side device page at h within = refl
+drawn_same _ _ _ _ h _ = refl
 
 -- the same pages are drawn alike
 pub same_drawn : (side : Side) (old new : Device) → new.size ≡ old.size → IsSameSet side old new → IsDrawn side new (picture_of side old)
-same_drawn side old new sizes same page at h within =
-    ap (λ (words : List Word). get_or words at Erased)
-    (same_page side old new page sizes same (omega (arith, ap (λ (size : Size). size.pages) sizes)))
+same_drawn _ _ _ sizes same _ at h _ = search (rules, same_page)
 
 -- as another picture shows it
 pub drawn_as : (side : Side) (device : Device) (first second : Picture) → IsDrawn side device first → ((page at : ℕ) → page < device.size.pages → at < device.size.words → first page at ≡ second page at) → IsDrawn side device second
-drawn_as side device first second drawn same page at h within = drawn page at h within ∙ same page at h within
+drawn_as _ _ _ _ drawn same page at h within = drawn page at h within ∙ same page at h within
 
 pub with_word-there : (k at : ℕ) (word : Word) (picture : Picture) (page place : ℕ) → page ≡ k → place ≡ at → picture_with_word k at word picture page place ≡ word
-with_word-there k at word picture page place here there = rw (eq-eqb page k here, eq-eqb place at there) refl
+with_word-there k at _ _ page place here there = rw (eq-eqb page k here, eq-eqb place at there) refl
 
 pub with_word-elsewhere : (k at : ℕ) (word : Word) (picture : Picture) (page place : ℕ) → (page ≢ k) ⊎ (place ≢ at) → picture_with_word k at word picture page place ≡ picture page place
-with_word-elsewhere k at word picture page place (inl apart) = rw (ne_eqb page k apart) refl
-with_word-elsewhere k at word picture page place (inr apart) = elim (cases_Bool (page == k)) [
+with_word-elsewhere k _ _ _ page _ (inl apart) = rw (ne_eqb page k apart) refl
+with_word-elsewhere k at _ _ page place (inr apart) = elim (cases_Bool (page == k)) [
   | inl here ↦ rw (here, ne_eqb place at apart) refl
   | inr away ↦ rw away refl
 ]
 
 -- a word is put into a page of the set
 pub put_drawn : (side : Side) (old new : Device) (k at : ℕ) (word : Word) (picture : Picture) → new.size ≡ old.size → IsDrawn side old picture → PutsWord (first_page old.size side + k) at word old new → IsDrawn side new (picture_with_word k at word picture)
-put_drawn side old new k at word picture sizes drawn puts page place h within =
-    let first : first_page new.size side ≡ first_page old.size side = ap (λ (size : Size). first_page size side) sizes in
-    let same : picture_of side new page place ≡ word_at new (first_page old.size side + page) place = ap (λ n. word_at new (n + page) place) first in
-    let before : picture_of side old page place ≡ picture page place =
-    drawn page place (omega (arith, ap (λ (size : Size). size.pages) sizes)) (omega (arith, ap (λ (size : Size). size.words) sizes)) in
-    elim (cases_eq page k) [
-      | inr away ↦
-          let other_page : first_page old.size side + page ≢ first_page old.size side + k = λ e. away (omega arith) in
-          same ∙ puts.elsewhere (first_page old.size side + page) place (inl other_page) ∙ before ∙ sym (with_word-elsewhere k at word picture page place (inl away))
-      | inl here ↦ elim (cases_eq place at) [
-        | inr away ↦ same ∙ puts.elsewhere (first_page old.size side + page) place (inr away) ∙ before ∙ sym (with_word-elsewhere k at word picture page place (inr away))
-        | inl there ↦
-            same ∙ ap (λ n. word_at new (first_page old.size side + n) place) here ∙ ap (λ n. word_at new (first_page old.size side + k) n) there
-            ∙ puts.there ∙ sym (with_word-there k at word picture page place here there)
-      ]
-    ]
+put_drawn side old new k at word picture sizes drawn puts page place h within = search (rules, with_word-elsewhere, with_word-there)
 
 -- a word is put into a page of the other set
 pub put_apart : (side : Side) (old new : Device) (page at : ℕ) (word : Word) → new.size ≡ old.size → IsPageOf old.size (other side) page → PutsWord page at word old new → IsDrawn side new (picture_of side old)
-put_apart side old new page at word sizes of puts k place h within = search (rules, apart)
+put_apart _ _ _ _ _ word sizes of puts k place h within = search (rules, apart)
 
 -- the mark is set, where it was not
 abbrev pub with_mark : ℕ → Mark → Picture → Picture
 with_mark k mark picture = picture_with_word k (place_of_mark mark) (marked_word mark (picture k (place_of_mark mark))) picture
 
 pub mark_drawn : (side : Side) (old new : Device) (k : ℕ) (mark : Mark) (picture : Picture) → IsFormed old → new.size ≡ old.size → k < old.size.pages → IsDrawn side old picture → SetsMark (first_page old.size side + k) mark old new → IsDrawn side new (with_mark k mark picture)
-mark_drawn side old new k mark picture formed sizes h drawn sets =
-    let at = place_of_mark mark in
-    let word : word_at old (first_page old.size side + k) at ≡ picture k at = drawn k at h (omega (arith, place_below mark, formed.within_limits.some_words)) in
-    put_drawn side old new k at (marked_word mark (picture k at)) picture sizes drawn (subst (λ (was : Word). PutsWord (first_page old.size side + k) at (marked_word mark was) old new) word sets)
+mark_drawn side old new k mark picture formed sizes h drawn sets = search (rules, put_drawn, place_below)
 
 -- a word that is written already stays
 pub marked-written : (mark : Mark) (word : Word) → is_written word ≡ true → marked_word mark word ≡ word
-marked-written mark Erased e = absurd (cc e)
-marked-written mark (Held number) e = refl
-marked-written mark Torn e = refl
+marked-written _ Erased e = absurd (cc e)
+marked-written _ (Held _) e = refl
+marked-written _ Torn e = refl
 
 pub marked-erased : (mark : Mark) (word : Word) → is_written word ≡ false → marked_word mark word ≡ Held (number_of_mark mark)
-marked-erased mark Erased e = refl
-marked-erased mark (Held number) e = absurd (cc e)
-marked-erased mark Torn e = absurd (cc e)
+marked-erased _ Erased e = refl
+marked-erased _ (Held _) e = absurd (cc e)
+marked-erased _ Torn e = absurd (cc e)
 
 -- a program puts its word
 pub program_puts : (page at value : ℕ) (old : Device) → IsFormed old → page < page_count old.size → at < old.size.words → PutsWord page at (Held value) old (with_word_programmed page at value old)
-program_puts page at value old formed h inside =
-    let in_range : page < length old.image = omega (arith, formed.image_length) in
-    let words = page_at old page in
-    let within : at < length words = omega (arith, length-page_at old page formed h) in
-    record {
-      there = ap (λ (found : List Word). get_or found at Erased) (get_or-set_same old.image page (set words at (Held value)) [] in_range) ∙ get_or-set_same words at (Held value) Erased within;
-      elsewhere = λ p k away. elim (cases_eq p page) [
-        | inr other_page ↦ ap (λ (found : List Word). get_or found k Erased) (get_or-set_other old.image page p (set words at (Held value)) [] other_page)
-        | inl same ↦ elim away [
-          | inl other_page ↦ absurd (other_page same)
-          | inr place ↦
-              ap (λ n. word_at (with_word_programmed page at value old) n k) same
-              ∙ ap (λ (found : List Word). get_or found k Erased) (get_or-set_same old.image page (set words at (Held value)) [] in_range)
-              ∙ get_or-set_other words at k (Held value) Erased place
-              ∙ ap (λ n. word_at old n k) (sym same)
-        ]
-      ];
-    }
+program_puts page at value old formed h inside = search rules
 
 -- said of another spelling of the place and the number
 pub put_there : (page at value : ℕ) (old new : Device) (p k n : ℕ) → IsFormed old → p < page_count old.size → k < old.size.words → page ≡ p → at ≡ k → value ≡ n → new ≡ with_word_programmed page at value old → PutsWord p k (Held n) old new
-put_there page at value old new p k n formed h inside page_is at_is value_is done = search (rules, program_puts)
+put_there _ _ _ _ _ p k n formed h inside page_is at_is value_is done = search (rules, program_puts)
 
 pub same_size_of : (page at value : ℕ) (old new : Device) → new ≡ with_word_programmed page at value old → new.size ≡ old.size
-same_size_of page at value old new done = ap (λ (device : Device). device.size) done
+same_size_of _ _ _ _ _ done = ap (λ device. device.size) done
 
 -- and marking sets its mark
 pub sets_mark : (page : ℕ) (mark : Mark) (old new : Device) → IsFormed old → page < page_count old.size → (is_marked old page mark ≡ true → new ≡ old) → (is_marked old page mark ≡ false → new ≡ device_after (marking page mark) old) → SetsMark page mark old new
-sets_mark page mark old new formed h present done =
-    let at = place_of_mark mark in
-    elim (cases_Bool (is_marked old page mark)) [
-      | inl written ↦
-          let same = present written in
-          record { there = ap (λ (device : Device). word_at device page at) same ∙ sym (marked-written mark (word_at old page at) written); elsewhere = λ p k away. ap (λ (device : Device). word_at device p k) same }
-      | inr erased ↦
-          let puts = program_puts page at (number_of_mark mark) old formed h (omega (arith, place_below mark, formed.within_limits.some_words)) in
-          let whole = done erased in
-          record { there = ap (λ (device : Device). word_at device page at) whole ∙ puts.there ∙ sym (marked-erased mark (word_at old page at) erased); elsewhere = λ p k away. ap (λ (device : Device). word_at device p k) whole ∙ puts.elsewhere p k away }
-    ]
+sets_mark page mark old _ formed h present done = search (rules, marked-written, program_puts, place_below, marked-erased)
 
 -- at another spelling of the page
 pub sets_mark_at : (page p : ℕ) (mark : Mark) (old new : Device) → IsFormed old → p < page_count old.size → page ≡ p → (is_marked old page mark ≡ true → new ≡ old) → (is_marked old page mark ≡ false → new ≡ device_after (marking page mark) old) → SetsMark p mark old new
-sets_mark_at page p mark old new formed h is present done =
-    subst (λ n. SetsMark n mark old new) is (sets_mark page mark old new formed (subst (λ n. n < page_count old.size) (sym is) h) present done)
+sets_mark_at page p mark old new formed h is present done = search (rules, sets_mark)
 
 -- the valid marks of the pages before this one
 abbrev pub valid_to : ℕ → Picture → Picture
 valid_to last picture page at = if (at == 2) && nat_lt page last then marked_word Valid (picture page at) else picture page at
 
 pub valid_none : (picture : Picture) (page at : ℕ) → picture page at ≡ valid_to 0 picture page at
-valid_none picture page at = elim (cases_Bool (at == 2)) [
-  | inl two ↦ rw (two, le-ltb page 0 (omega arith)) refl
-  | inr not_two ↦ rw not_two refl
-]
+valid_none _ page at = search rules
 
 -- one page more
 pub valid_more : (k : ℕ) (picture : Picture) (page at : ℕ) → with_mark k Valid (valid_to k picture) page at ≡ valid_to (k + 1) picture page at
-valid_more k picture page at = elim (cases_eq at 2) [
-  | inr away ↦ with_word-elsewhere k 2 _ (valid_to k picture) page at (inr away) ∙ rw (ne_eqb at 2 away) refl
-  | inl two ↦ elim (cases_eq page k) [
-    | inl here ↦
-        with_word-there k 2 _ (valid_to k picture) page at here two
-        ∙ rw (le-ltb k k (omega arith)) refl
-        ∙ ap (λ n. marked_word Valid (picture n 2)) (sym here)
-        ∙ ap (λ n. marked_word Valid (picture page n)) (sym two)
-        ∙ rw (eq-eqb at 2 two, lt-ltb page (k + 1) (omega arith)) refl
-    | inr away ↦
-        with_word-elsewhere k 2 _ (valid_to k picture) page at (inl away)
-        ∙ elim (cases_lt page k) [
-          | inl below ↦ rw (lt-ltb page k below, lt-ltb page (k + 1) (omega arith)) refl
-          | inr above ↦ rw (le-ltb page k above, le-ltb page (k + 1) (omega arith)) refl
-        ]
-  ]
-]
+valid_more k picture page at = search (rules, with_word-elsewhere, with_word-there)
 
 -- with the mark of the page in use, all marks up to it are set
 pub active_last : (k : ℕ) (picture : Picture) (page at : ℕ) → with_mark k Active (valid_to k picture) page at ≡ marked_to k picture page at
-active_last k picture page at = elim (cases_eq at 1) [
-  | inr away ↦ with_word-elsewhere k 1 _ (valid_to k picture) page at (inr away) ∙ rw (ne_eqb at 1 away) refl
-  | inl one ↦ elim (cases_eq page k) [
-    | inl here ↦
-        with_word-there k 1 _ (valid_to k picture) page at here one
-        ∙ ap (λ n. marked_word Active (picture n 1)) (sym here)
-        ∙ ap (λ n. marked_word Active (picture page n)) (sym one)
-        ∙ rw (ne_eqb at 2 (λ e. omega (arith, e)), eq-eqb at 1 one, eq-eqb page k here) refl
-    | inr away ↦
-        with_word-elsewhere k 1 _ (valid_to k picture) page at (inl away)
-        ∙ rw (ne_eqb at 2 (λ e. omega (arith, e)), eq-eqb at 1 one, ne_eqb page k away) refl
-  ]
-]
+active_last k picture page at = search (rules, with_word-elsewhere, with_word-there)
 
 -- where those marks are written, the set is drawn with them
 pub valid_drawn : (side : Side) (device : Device) (k : ℕ) → ((page : ℕ) → page < k → is_marked device (first_page device.size side + page) Valid ≡ true) → IsDrawn side device (valid_to k (picture_of side device))
-valid_drawn side device k written page at h within = elim (cases_eq at 2) [
-  | inr away ↦ rw (ne_eqb at 2 away) refl
-  | inl two ↦ elim (cases_lt page k) [
-    | inr above ↦ rw (eq-eqb at 2 two, le-ltb page k above) refl
-    | inl below ↦
-        let word : is_written (picture_of side device page at) ≡ true = ap (λ n. is_written (picture_of side device page n)) two ∙ written page below in
-        rw (eq-eqb at 2 two, lt-ltb page k below) (sym (marked-written Valid (picture_of side device page at) word))
-  ]
-]
+valid_drawn side device k written page at h _ = search (rules, marked-written)
 
 pub marks_drawn : (side : Side) (device : Device) (k : ℕ) → ((page : ℕ) → page < k → is_marked device (first_page device.size side + page) Valid ≡ true) → is_marked device (first_page device.size side + k) Active ≡ true → IsDrawn side device (marked_to k (picture_of side device))
-marks_drawn side device k written active page at h within =
-    valid_drawn side device k written page at h within
-    ∙ elim (cases_eq at 1) [
-      | inr away ↦ rw (ne_eqb at 1 away) refl
-      | inl one ↦ elim (cases_eq page k) [
-        | inr away ↦ rw (ne_eqb at 2 (λ e. omega (arith, e)), eq-eqb at 1 one, ne_eqb page k away) refl
-        | inl here ↦
-            let word : is_written (picture_of side device page at) ≡ true =
-            ap (λ n. is_written (picture_of side device page n)) one ∙ ap (λ n. is_written (picture_of side device n 1)) here ∙ active in
-            rw (ne_eqb at 2 (λ e. omega (arith, e)), eq-eqb at 1 one, eq-eqb page k here) (sym (marked-written Active (picture_of side device page at) word))
-      ]
-    ]
+marks_drawn side device k written active page at h within = search (rules, valid_drawn, marked-written)
 
 -- one page more may be erased, or is blank
 pub retired_more : (k : ℕ) (waits : ℕ → Bool) (picture : Picture) (page at : ℕ) → waits k ≡ true → with_mark k Erasing (retired_pages (λ p. nat_lt p k && waits p) picture) page at ≡ retired_pages (λ p. nat_lt p (k + 1) && waits p) picture page at
-retired_more k waits picture page at waiting = elim (cases_eq at 3) [
-  | inr away ↦ with_word-elsewhere k 3 _ (retired_pages (λ p. nat_lt p k && waits p) picture) page at (inr away) ∙ rw (ne_eqb at 3 away) refl
-  | inl three ↦ elim (cases_eq page k) [
-    | inl here ↦
-        let waits_too : waits page ≡ true = ap waits here ∙ waiting in
-        with_word-there k 3 _ (retired_pages (λ p. nat_lt p k && waits p) picture) page at here three
-        ∙ rw (le-ltb k k (omega arith)) refl
-        ∙ ap (λ n. marked_word Erasing (picture n 3)) (sym here)
-        ∙ ap (λ n. marked_word Erasing (picture page n)) (sym three)
-        ∙ rw (eq-eqb at 3 three, lt-ltb page (k + 1) (omega arith), waits_too) refl
-    | inr away ↦
-        with_word-elsewhere k 3 _ (retired_pages (λ p. nat_lt p k && waits p) picture) page at (inl away)
-        ∙ elim (cases_lt page k) [
-          | inl below ↦ rw (lt-ltb page k below, lt-ltb page (k + 1) (omega arith)) refl
-          | inr above ↦ rw (le-ltb page k above, le-ltb page (k + 1) (omega arith)) refl
-        ]
-  ]
-]
+retired_more k waits picture page at waiting = search (rules, with_word-elsewhere, with_word-there)
 
 pub retired_past : (k : ℕ) (waits : ℕ → Bool) (picture : Picture) (page at : ℕ) → waits k ≡ false → retired_pages (λ p. nat_lt p k && waits p) picture page at ≡ retired_pages (λ p. nat_lt p (k + 1) && waits p) picture page at
-retired_past k waits picture page at passed = elim (cases_eq page k) [
-  | inl here ↦
-      let passes : waits page ≡ false = ap waits here ∙ passed in
-      rw (le-ltb page k (omega arith), lt-ltb page (k + 1) (omega arith), passes) refl
-  | inr away ↦ elim (cases_lt page k) [
-    | inl below ↦ rw (lt-ltb page k below, lt-ltb page (k + 1) (omega arith)) refl
-    | inr above ↦ rw (le-ltb page k above, le-ltb page (k + 1) (omega arith)) refl
-  ]
-]
+retired_past k waits _ page _ passed = search rules
 
 pub retired_none : (waits : ℕ → Bool) (picture : Picture) (page at : ℕ) → picture page at ≡ retired_pages (λ p. nat_lt p 0 && waits p) picture page at
-retired_none waits picture page at = elim (cases_Bool (at == 3)) [
-  | inl three ↦ rw (three, le-ltb page 0 (omega arith)) refl
-  | inr away ↦ rw away refl
-]
+retired_none _ _ page at = search rules
 
 pub retired_all : (last : ℕ) (waits : ℕ → Bool) (picture : Picture) (page at : ℕ) → page < last → retired_pages (λ p. nat_lt p last && waits p) picture page at ≡ retired_pages waits picture page at
-retired_all last waits picture page at h = rw (lt-ltb page last h) refl
+retired_all last _ _ page _ h = rw (lt-ltb page last h) refl

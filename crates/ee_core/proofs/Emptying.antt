@@ -1,57 +1,25 @@
 -- What a clear makes of a state, whole or cut, from what its transfer leaves.
-use Rattle.std.proofs.Common.{◌≡◌, ◌⊎◌, inl, inr, ℕ, ◌+◌, ◌≤◌, Some, None, List, [], ◌∷◌, refl, sym, subst, ap, ◌∙◌, arith}
-use Rattle.std.proofs.Math.Path.{fun_ext}
-use Rattle.ee_flash.specs.Device.{Device}
-use Rattle.ee_flash.specs.Power.{GoesOn, IsCut}
-use Rattle.ee_pages.specs.Laws.{KeepsLiveSet}
-use Rattle.ee_pages.specs.Legal.{IsLive}
-use Rattle.ee_pages.specs.Meaning.{Change, Forget, Map, changed_by, live_in, meaning}
-use Rattle.ee_pages.specs.Sets.{first_page, live_of, other, pending_of, set_of, slots_of}
-use Rattle.ee_pages.specs.declared.side.Side.{Side}
+use Rattle.ee_core.proofs.Base.{◌≡◌, ◌⊎◌, ℕ, ◌+◌, ◌≤◌, Some, None, List, [], ◌∷◌, refl, sym, subst, ap, ◌∙◌, arith, fun_ext, Device, GoesOn, IsCut, KeepsLiveSet, IsLive, Change, Forget, changed_by, live_in, meaning, first_page, live_of, other, pending_of, set_of, slots_of, Side, HasMoved, Moves, ErasesPartly, MovesPartly, IsDrawn, filled_set, is_used, moved_words, picture_of, retired_pages, each_forgotten, Wears, not_blank_in, state_of, used_pages_in, used_pages_of, rules}
 use Rattle.ee_core.proofs.Making.{pending_was}
 use Rattle.ee_core.proofs.Nothing.{all_forgotten, none_live, none_moved}
 use Rattle.ee_core.proofs.States.{state_is, state_kept, state_moved}
-use Rattle.ee_core.specs.CallSteps.{HasMoved}
-use Rattle.ee_core.specs.Changes.{Moves}
-use Rattle.ee_core.specs.Cuts.{ErasesPartly, MovesPartly}
 use Rattle.ee_core.specs.Emptying.{Empties, IsCutClear, MayClear, ShowsCleared, cleared_state}
-use Rattle.ee_core.specs.Picture.{IsDrawn, filled_set, is_used, moved_words, picture_of, retired_pages}
-use Rattle.ee_core.specs.Puts.{each_forgotten, forgets_from}
-use Rattle.ee_core.specs.State.{State, Wears, next_live, not_blank_in, state_in, state_of, used_pages_in, used_pages_of}
+use Rattle.ee_core.specs.Puts.{forgets_from}
 
 module _ (old new : Device) (side : Side) (generation : ℕ) (live : IsLive old side generation) where
   state_cleared : HasMoved old new side generation each_forgotten → state_of new ≡ cleared_state (used_pages_of old) (state_of old)
   state_cleared has =
       let slots = slots_of (set_of side old) in
-      let map : (state_of old).map ≡ meaning slots = ap (λ (state : State). state.map) (state_is old side generation live) in
-      let none : changed_by each_forgotten (state_of old).map ≡ (λ address. None) = ap (changed_by each_forgotten) map ∙ fun_ext (all_forgotten slots) in
-      let count : live_in (changed_by each_forgotten (state_of old).map) ≡ 0 = ap (λ (said : Map). live_in (changed_by each_forgotten said)) map ∙ sym (none_live slots) in
-      let pages : pending_of (set_of side old) ≡ used_pages_of old = sym (ap (used_pages_in old) live.live) in
-      state_moved old new side generation live each_forgotten has ∙ rw (count, none, pages) refl
+      let map = ap (λ state. state.map) (state_is _ _ _ live) in
+      state_moved _ _ _ _ live _ has ∙ rw ((ap (λ said. live_in (changed_by each_forgotten said)) map ∙ sym (none_live slots)), (ap (changed_by each_forgotten) map ∙ fun_ext (all_forgotten slots)), (sym (ap (used_pages_in old) live.live))) refl
 
   pub empties : MayClear old → pending_of (set_of side old) ≤ old.size.pages → GoesOn old new → HasMoved old new side generation each_forgotten → Wears (not_blank_in (other side) old) old new
       → IsDrawn (other side) new (filled_set old.size (generation + 1) []) → IsDrawn side new (retired_pages (is_used side old) (picture_of side old)) → Empties old new
-  empties may few goes_on has wear new_pages old_pages = record {
-    may = may;
-    goes_on = goes_on;
-    few_left = subst (λ pages. pages ≤ old.size.pages) (sym (ap (used_pages_in old) live.live)) few;
-    state_is = state_cleared has;
-    live_is = has.live.live ∙ ap next_live (sym live.live);
-    image = (side, generation, live.live, record { new_pages = new_pages; old_pages = old_pages });
-    wear = subst (λ pages. Wears pages old new) (sym (pending_was old new side generation live)) wear;
-  }
+  empties may few goes_on has wear new_pages old_pages = search (rules, state_is, state_cleared, pending_was)
 
   pub cut_clear : MayClear old → IsCut old new → pending_of (set_of (other side) new) ≤ old.size.pages → KeepsLiveSet old new side generation ⊎ HasMoved old new side generation each_forgotten
       → ErasesPartly (first_page old.size (other side)) (set_of (other side) old) old new ⊎ MovesPartly old new side generation [] → IsCutClear old new
-  cut_clear may cut few left words = record {
-    may = may;
-    cut = cut;
-    state_is = elim left [
-      | inl keeps ↦ inl (pending_of (set_of (other side) new), few, state_kept old new side generation live keeps _ refl)
-      | inr has ↦ inr (state_cleared has)
-    ];
-    words = (side, generation, live.live, words);
-  }
+  cut_clear may cut few left words = search (rules, state_is, state_kept, state_cleared)
 
 -- ---- a clear is a transfer that forgets each address
 
@@ -61,27 +29,27 @@ two_first = refl
 
 module _ (old new : Device) (side : Side) (generation : ℕ) (live : live_of old ≡ Some (side, generation)) where
   map_said : (state_of old).map ≡ meaning (slots_of (set_of side old))
-  map_said = ap (λ found. (state_in old found).map) live
+  map_said = search rules
 
   none_left : changed_by each_forgotten (state_of old).map ≡ (λ address. None)
-  none_left = ap (changed_by each_forgotten) map_said ∙ fun_ext (all_forgotten (slots_of (set_of side old)))
+  none_left = search (rules, map_said, all_forgotten)
 
   none_counted : live_in (changed_by each_forgotten (state_of old).map) ≡ 0
-  none_counted = ap (λ (said : Map). live_in (changed_by each_forgotten said)) map_said ∙ sym (none_live (slots_of (set_of side old)))
+  none_counted = search (rules, map_said, none_live)
 
   no_words_left : moved_words each_forgotten (state_of old).map ≡ []
-  no_words_left = ap (moved_words each_forgotten) map_said ∙ none_moved (slots_of (set_of side old))
+  no_words_left = search (rules, map_said, none_moved)
 
   module _ (first second : Change) (more : List Change) (same : each_forgotten ≡ first ∷ second ∷ more) where
     abbrev all : List Change
     all = first ∷ second ∷ more
 
     all_counted : live_in (changed_by all (state_of old).map) ≡ 0
-    all_counted = ap (λ changes. live_in (changed_by changes (state_of old).map)) (sym same) ∙ none_counted
+    all_counted = search (rules, none_counted)
 
     all_moves : Empties old new → ShowsCleared old new side generation → Moves old all new
     all_moves done shows = record {
-      proceeds = record { on = done.may.on; accepted = record { has_place = λ none. absurd (omega (arith, none, all_counted)); not_spent = done.may.not_last } };
+      proceeds = record { on = done.may.on; accepted = record { has_place = λ none. absurd (omega (arith, all_counted)); not_spent = done.may.not_last } };
       goes_on = done.goes_on;
       needed = tt;
       few_left = done.few_left;
@@ -100,15 +68,9 @@ module _ (old new : Device) (side : Side) (generation : ℕ) (live : live_of old
     }
 
 pub clear_moves : (old new : Device) → Empties old new → Moves old each_forgotten new
-clear_moves old new done =
-    let live = done.image in
-    subst (λ (changes : List Change). Moves old changes new) (sym two_first)
-    (all_moves old new live.0 live.1 live.2 (Forget 1) (Forget 2) (forgets_from 3 65532) two_first done live.3)
+clear_moves old new done = search (rules, two_first, all_moves)
 
 -- after a cut the map is as it was, or each address is forgotten, and nothing has a value
 pub cut_clearing : (old new : Device) → IsCutClear old new
     → ((state_of new).map ≡ (state_of old).map) ⊎ (((state_of new).map ≡ changed_by each_forgotten (state_of old).map) × ((address : ℕ) → (state_of new).map address ≡ None))
-cut_clearing old new cut = elim cut.state_is [
-  | inl kept ↦ inl (ap (λ (state : State). state.map) kept.2)
-  | inr cleared ↦ inr (ap (λ (state : State). state.map) cleared ∙ sym (none_left old new cut.words.0 cut.words.1 cut.words.2), λ address. ap (λ (state : State). state.map address) cleared)
-]
+cut_clearing old new cut = search (rules, none_left)

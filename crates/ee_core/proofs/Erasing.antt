@@ -1,48 +1,33 @@
 -- What erasing a page of the set that is not live leaves.
-use Rattle.std.proofs.Common.{◌≡◌, ◌⊎◌, inl, inr, ℕ, ◌<◌, false, length, ap, arith}
-use Rattle.ee_flash.specs.Device.{Device, IsFormed, IsOn, page_at}
-use Rattle.ee_flash.specs.Laws.{IsStep}
-use Rattle.ee_flash.specs.Step.{Erase, IsCutIn, IsUntouched, MayFollow, with_page_erased}
-use Rattle.ee_pages.specs.Laws.{IsPageOf, KeepsSide}
-use Rattle.ee_pages.specs.Page.{is_blank}
-use Rattle.ee_pages.specs.Sets.{other}
-use Rattle.ee_pages.specs.declared.side.Side.{Side}
-use Rattle.ee_pages.proofs.Public.{other_set_keeps_side, erase_lowers_pending, step_keeps_other_pages, whole_erase_lowers_pending}
-use Rattle.ee_core.specs.CallSteps.{IsSameBut, PageErased, PageErasedPartly}
+use Rattle.ee_core.proofs.Base.{◌≡◌, ◌⊎◌, inl, ℕ, ◌<◌, false, length, ap, arith, Device, IsFormed, IsOn, page_at, IsStep, Erase, IsCutIn, IsUntouched, MayFollow, with_page_erased, IsPageOf, KeepsSide, is_blank, other, Side, other_set_keeps_side, erase_lowers_pending, step_keeps_other_pages, whole_erase_lowers_pending, IsSameBut, PageErased, PageErasedPartly, rules}
 use Rattle.ee_core.proofs.Cuts.{erase_partly}
 use Rattle.ee_core.proofs.SetPages.{page_of_device}
 use Rattle.ee_core.proofs.Wears.{cut_page_wears, page_wears}
 
 module _ (page : ℕ) (old new : Device) (side : Side) (formed : IsFormed old) (at : IsPageOf old.size (other side) page) where
   erasing : MayFollow (Erase page) old new → IsStep (Erase page) old new
-  erasing follows = record { formed = formed; may = page_of_device old.size (other side) page at; follows = follows }
+  erasing follows = search (rules, page_of_device)
 
   keeps : MayFollow (Erase page) old new → KeepsSide old new side
-  keeps follows = other_set_keeps_side (Erase page) old new side (erasing follows) at tt
+  keeps follows = other_set_keeps_side _ _ _ _ (erasing follows) at tt
 
   others_stay : MayFollow (Erase page) old new → IsSameBut page old new
-  others_stay follows k apart = step_keeps_other_pages (Erase page) old new k (erasing follows) apart
+  others_stay follows k apart = step_keeps_other_pages _ _ _ k (erasing follows) apart
 
   has_wear : page < length old.wear
-  has_wear = omega (arith, formed.wear_length, page_of_device old.size (other side) page at)
+  has_wear = omega (arith, page_of_device _ (other side) _ at)
 
   pub page_erased : is_blank (page_at old page) ≡ false → IsOn old → new ≡ with_page_erased page old → PageErased old new side page
   page_erased not_blank on done =
-      let whole : MayFollow (Erase page) old new = inl (record { was_on = on; done = done }) in
-      let lowers = whole_erase_lowers_pending page old new (other side) at not_blank (erasing whole) done in
+      let whole = inl (record { was_on = on; done = done }) in
+      let lowers = whole_erase_lowers_pending _ _ _ _ at not_blank (erasing whole) done in
       record {
         keeps = keeps whole;
         others = others_stay whole;
         blank = lowers.1;
         one_less = lowers.0;
-        wear = page_wears page old new has_wear (ap (λ (device : Device). device.wear) done);
+        wear = page_wears _ _ _ has_wear (ap (λ device. device.wear) done);
       }
 
   pub page_erased_partly : is_blank (page_at old page) ≡ false → IsCutIn (Erase page) old new ⊎ IsUntouched old new → PageErasedPartly old new side page
-  page_erased_partly not_blank cut = record {
-    keeps = keeps (inr cut);
-    others = others_stay (inr cut);
-    partly = erase_partly page old new cut;
-    cut = erase_lowers_pending page old new (other side) at not_blank (erasing (inr cut));
-    wear = cut_page_wears page old new has_wear cut;
-  }
+  page_erased_partly not_blank cut = search (rules, keeps, others_stay, erase_partly, erase_lowers_pending, erasing, cut_page_wears, has_wear)

@@ -1,57 +1,33 @@
 -- What the parts of a transfer leave in the set that it fills, one after another.
-use Rattle.std.proofs.Common.{rules, ◌≡◌, inl, inr, ℕ, ◌+◌, ◌<◌, ◌≤◌, Bool, true, false, cond, Some, None, List, [], ◌∷◌, ◌++◌, length, get_or, take, drop, refl, sym, subst, ap, ◌∙◌, arith, suc, length-append}
-use Rattle.std.specs.Prelude.{◌==◌, ◌||◌}
-use Rattle.std.proofs.Math.Path.{fun_ext}
-use Rattle.std.proofs.lemmas.Bool.{cases_Bool}
-use Rattle.std.proofs.lemmas.List.{length-take-le, take-append-drop, take_all, take_more}
-use Rattle.ee_codec.specs.Words.{element}
-use Rattle.ee_flash.specs.Device.{Device}
-use Rattle.ee_flash.specs.Size.{slot_count}
-use Rattle.ee_flash.specs.declared.word.Word.{Word}
-use Rattle.ee_flash.specs.declared.word.Word.TheVariants.{Held}
-use Rattle.ee_pages.specs.Meaning.{Change, Forget, Map, Put, changed_by, map_after, live_in}
-use Rattle.ee_pages.specs.LiveOrder.{IsNextLive}
-use Rattle.ee_pages.specs.Sets.{other, set_of, slots_of}
-use Rattle.ee_pages.specs.declared.find.Layout.{Layout}
-use Rattle.ee_core.specs.CallSteps.{AddsWords, map_in, replaced_map}
-use Rattle.ee_core.specs.Cuts.{AddsPartly}
-use Rattle.ee_core.specs.Picture.{elements_of, elements_to, map_without, moved_words, put_words}
-use Rattle.ee_core.specs.Puts.{AreApart, changes_of_puts, forgets_of, names, puts_of}
+use Rattle.ee_core.proofs.Base.{rules, ◌≡◌, inl, inr, ℕ, ◌+◌, ◌<◌, ◌≤◌, Bool, true, false, cond, Some, None, List, [], ◌∷◌, ◌++◌, length, get_or, take, drop, refl, sym, subst, ap, ◌∙◌, arith, suc, length-append, ◌==◌, ◌||◌, fun_ext, cases_Bool, length-take-le, take-append-drop, take_all, take_more, element, Device, slot_count, Word, Held, Change, Forget, Map, Put, changed_by, map_after, live_in, IsNextLive, other, Layout, map_in, replaced_map, elements_of, elements_to, map_without, moved_words, put_words, AreApart, changes_of_puts, forgets_of, names, puts_of, Place, keeps_side_both, keeps_side_same}
 use Rattle.ee_core.specs.Transfers.{Filled, FilledPartly, IsNewlyOpened, IsOpenAt}
 use Rattle.ee_core.specs.declared.change.Put as listed
-use Rattle.ee_core.specs.declared.copying.Place.{Place}
-use Rattle.ee_core.proofs.CopiedMaps.{at_first, at_last, changed_by-append, changed_by-other, copied_to, meaning-zero, nothing, passed, so_far, then_all}
+use Rattle.ee_core.proofs.CopiedMaps.{at_first, at_last, changed_by-append, changed_by-other, copied_to, nothing, passed, so_far, then_all}
 use Rattle.ee_core.proofs.CopiedWords.{all_words, copied_word, no_words, others, passed_word}
 use Rattle.ee_core.proofs.CutMoves.{adds_then, elements_front, partly_longer}
 use Rattle.ee_core.proofs.FilledSets.{adds_both, adds_none}
-use Rattle.ee_pages.proofs.Public.{keeps_side_both, keeps_side_same}
 use Rattle.ee_core.proofs.MovingFacts.{side_map}
+use Rattle.ee_core.proofs.Outside.{meaning-zero}
 use Rattle.ee_core.proofs.ShownStates.{moved_words_are_live_lem}
 
 -- some words, and then more
 pub both_filled : (old mid new : Device) (layout : Layout) (count slot written : ℕ) (words more : List Word) (held map : Map) → Filled old mid layout count words held slot → Filled mid new layout slot more map written → Filled old new layout count (words ++ more) map written
-both_filled old mid new layout count slot written words more held map first second = record {
-  keeps = keeps_side_both old mid new layout.side first.keeps second.keeps;
+both_filled _ mid new layout _ _ _ words more _ _ first second = record {
+  keeps = keeps_side_both _ _ _ _ first.keeps second.keeps;
   filling = second.filling;
   map_is = second.map_is;
-  adds = adds_both old mid new layout.side (layout.generation + 1) count words more first.adds
-      (subst (λ n. AddsWords mid new layout.side (layout.generation + 1) n more) first.as_many second.adds);
-  as_many = omega (arith, first.as_many, second.as_many, length-append words more);
+  adds = search (rules, adds_both);
+  as_many = omega (arith, length-append words more);
   wear = second.wear ∙ first.wear;
 }
 
 -- or more in part
 pub then_partly : (old mid new : Device) (layout : Layout) (count slot : ℕ) (words more : List Word) (held : Map) → Filled old mid layout count words held slot → FilledPartly mid new layout slot more → FilledPartly old new layout count (words ++ more)
-then_partly old mid new layout count slot words more held first second = record {
-  keeps = keeps_side_both old mid new layout.side first.keeps second.keeps;
-  begun = adds_then old mid new layout.side (layout.generation + 1) count words more first.adds
-      (subst (λ n. AddsPartly mid new layout.side (layout.generation + 1) n more) first.as_many second.begun);
-  wear = second.wear ∙ first.wear;
-}
+then_partly _ mid new layout _ _ _ more _ first second = search (rules, keeps_side_both, adds_then)
 
 -- some words in part are more words in part
 partly_filled : (old new : Device) (layout : Layout) (count : ℕ) (words rest : List Word) → FilledPartly old new layout count words → FilledPartly old new layout count (words ++ rest)
-partly_filled old new layout count words rest partly = search (rules, partly_longer)
+partly_filled _ _ _ _ _ rest partly = search (rules, partly_longer)
 
 -- the live addresses are copied behind what stands there, but for those that changes name
 module _ (old : Device) (layout : Layout) (place : Place) (changes : List Change) where
@@ -67,18 +43,16 @@ module _ (old : Device) (layout : Layout) (place : Place) (changes : List Change
 
   pub none_filled : IsOpenAt old layout place → ((address : ℕ) → names changes address ≡ false → start address ≡ None) → FilledTo 0 old place.slot
   none_filled at only = record {
-    keeps = keeps_side_same old layout.side at.filling.formed;
+    keeps = keeps_side_same _ _ at.filling.formed;
     filling = at.filling;
-    map_is = at_first start map (names changes) (meaning-zero (slots_of (set_of layout.side old))) only;
-    adds = subst (λ (words : List Word). AddsWords old old layout.side (layout.generation + 1) place.slot words) (sym (no_words map changes)) (adds_none old layout.side (layout.generation + 1) place.slot);
+    map_is = search (rules, at_first, meaning-zero);
+    adds = search (rules, no_words, adds_none);
     as_many = omega (arith, ap length (no_words map changes));
     wear = refl;
   }
 
   pub all_filled : (above : ℕ) (now : Device) (slot : ℕ) → FilledTo above now slot → above < 65535 → IsNextLive map above None → Filled old now layout place.slot (elements_of (others map changes)) (replaced_map start (names changes) map) slot
-  all_filled above now slot filled below none =
-      subst (λ (words : List Word). Filled old now layout place.slot words (replaced_map start (names changes) map) slot) (sym (all_words map changes above below none))
-      (subst (λ (said : Map). Filled old now layout place.slot (elements_to (others map changes) above) said slot) (fun_ext (at_last start map (names changes) above none)) filled)
+  all_filled above now slot filled below none = search (rules, all_words, at_last)
 
   module _ (above next value : ℕ) (mid new : Device) (slot : ℕ) (is : IsNextLive map above (Some (next, value))) (filled : FilledTo above mid slot) where
     abbrev word : List Word
@@ -86,46 +60,44 @@ module _ (old : Device) (layout : Layout) (place : Place) (changes : List Change
 
     -- the next one, unless it is one that is not copied
     pub next_filled : (more : ℕ) → (names changes next ≡ true → (more ≡ slot) × (new ≡ mid)) → (names changes next ≡ false → Filled mid new layout slot word (map_after (Put next value) (map_in (other layout.side) mid)) more) → FilledTo next new more
-    next_filled more passing copying = elim (cases_Bool (names changes next)) [
+    next_filled more passing copying = elim (cases_Bool _) [
       | inl here ↦
-          let words = subst (λ (words : List Word). Filled old mid layout place.slot words (so_far start map (names changes) above) slot) (sym (passed_word map changes above next value is here)) filled in
-          let same = subst (λ (said : Map). Filled old mid layout place.slot (elements_to (others map changes) next) said slot) (fun_ext (passed start map (names changes) above next value is here)) words in
-          subst (λ n. FilledTo next new n) (sym (passing here).0) (subst (λ (device : Device). FilledTo next device slot) (sym (passing here).1) same)
+          let words = subst (λ words. Filled old mid layout place.slot words (so_far start map (names changes) above) slot) (sym (passed_word _ _ _ _ _ is here)) filled in
+          subst (λ n. FilledTo next new n) (sym (passing here).0) (subst (λ device. FilledTo next device slot) (sym (passing here).1) (subst (λ said. Filled old mid layout place.slot (elements_to (others map changes) next) said slot) (fun_ext (passed start _ _ _ _ _ is here)) words))
       | inr apart ↦
           let further = both_filled old mid new layout place.slot slot more (elements_to (others map changes) above) word (so_far start map (names changes) above) (map_after (Put next value) (map_in (other layout.side) mid)) filled (copying apart) in
-          let words = subst (λ (words : List Word). Filled old new layout place.slot words (map_after (Put next value) (map_in (other layout.side) mid)) more) (sym (copied_word map changes above next value is apart)) further in
-          subst (λ (said : Map). Filled old new layout place.slot (elements_to (others map changes) next) said more) (fun_ext (copied_to start map (names changes) (map_in (other layout.side) mid) above next value filled.map_is is apart)) words
+          let words = subst (λ words. Filled old new layout place.slot words (map_after (Put next value) (map_in (other layout.side) mid)) more) (sym (copied_word _ _ _ _ _ is apart)) further in
+          subst (λ said. Filled old new layout place.slot (elements_to (others map changes) next) said more) (fun_ext (copied_to start _ _ _ _ _ _ filled.map_is is apart)) words
     ]
 
     module _ (apart : names changes next ≡ false) (proper : next < 65535) where
       -- it is one of all words
       front : (rest : List Word) × (elements_of (others map changes) ≡ elements_to (others map changes) above ++ word ++ rest)
       front =
-          let found = elements_front (others map changes) next 65534 (omega arith) in
-          (found.0, found.1 ∙ ap (λ (words : List Word). words ++ found.0) (copied_word map changes above next value is apart))
+          let found = elements_front _ _ _ (omega arith) in
+          (found.0, found.1 ∙ ap (λ words. words ++ found.0) (copied_word _ _ _ _ _ is apart))
 
       pub next_partly : FilledPartly mid new layout slot word → FilledPartly old new layout place.slot (elements_of (others map changes))
       next_partly copying =
-          subst (λ (words : List Word). FilledPartly old new layout place.slot words) (sym front.1)
+          subst (λ words. FilledPartly old new layout place.slot words) (sym front.1)
           (partly_filled old new layout place.slot (elements_to (others map changes) above ++ word) front.0
           (then_partly old mid new layout place.slot slot (elements_to (others map changes) above) word (so_far start map (names changes) above) filled copying))
 
       -- so there is room for it
       pub room : (capacity : ℕ) → place.slot + length (elements_of (others map changes)) ≤ capacity → slot < capacity
-      room capacity fits =
-          let all = elements_to (others map changes) above ++ word in
-          omega (arith, filled.as_many, ap length front.1, length-append all front.0, length-append (elements_to (others map changes) above) word)
+      room _ fits =
+          omega (arith, ap length front.1, length-append (elements_to (others map changes) above ++ word) front.0, length-append (elements_to (others map changes) above) word)
 
 -- ---- the values that are put come first
 
 puts-append : (puts more : List listed.Put) → puts_of (puts ++ more) ≡ puts_of puts ++ puts_of more
-puts-append [] more = refl
-puts-append (put ∷ puts) more = ap (λ (changes : List Change). Put put.address put.value ∷ changes) (puts-append puts more)
+puts-append [] _ = refl
+puts-append (put ∷ puts) more = ap (λ changes. Put put.address put.value ∷ changes) (puts-append puts more)
 
 words-append : (changes more : List Change) → put_words (changes ++ more) ≡ put_words changes ++ put_words more
-words-append [] more = refl
-words-append (Put address value ∷ changes) more = ap (λ (words : List Word). Held (element address value) ∷ words) (words-append changes more)
-words-append (Forget address ∷ changes) more = words-append changes more
+words-append [] _ = refl
+words-append (Put address value ∷ changes) more = ap (λ words. Held (element address value) ∷ words) (words-append changes more)
+words-append (Forget _ ∷ changes) more = words-append changes more
 
 pub length-put_words : (puts : List listed.Put) → length (put_words (puts_of puts)) ≡ length puts
 length-put_words [] = refl
@@ -140,13 +112,13 @@ map_of_first puts count = changed_by (puts_of (take count puts)) nothing
 
 module _ (puts : List listed.Put) (count : ℕ) (put : listed.Put) (within : count < length puts) (is : put ≡ get_or puts count put) where
   one_put_more : take (count + 1) puts ≡ take count puts ++ (put ∷ [])
-  one_put_more = take_more puts count put within ∙ ap (λ (last : listed.Put). take count puts ++ (last ∷ [])) (sym is)
+  one_put_more = search (rules, take_more)
 
   pub words_more : words_to puts (count + 1) ≡ words_to puts count ++ (Held (element put.address put.value) ∷ [])
   words_more = search (rules, one_put_more, puts-append, words-append)
 
   map_more_on : (map : Map) → changed_by (puts_of (take (count + 1) puts)) map ≡ map_after (Put put.address put.value) (changed_by (puts_of (take count puts)) map)
-  map_more_on map = search (rules, one_put_more, puts-append, changed_by-append)
+  map_more_on _ = search (rules, one_put_more, puts-append, changed_by-append)
 
   pub map_more : map_of_first puts (count + 1) ≡ map_after (Put put.address put.value) (map_of_first puts count)
   map_more = map_more_on nothing
@@ -157,7 +129,7 @@ map_with_more map puts count put within is = map_more_on puts count put within i
 
 words_rest : (puts : List listed.Put) (count : ℕ) → put_words (puts_of puts) ≡ words_to puts count ++ put_words (puts_of (drop count puts))
 words_rest puts count =
-    ap (λ (all : List listed.Put). put_words (puts_of all)) (sym (take-append-drop count puts))
+    ap (λ all. put_words (puts_of all)) (sym (take-append-drop count puts))
     ∙ ap put_words (puts-append (take count puts) (drop count puts))
     ∙ words-append (puts_of (take count puts)) (puts_of (drop count puts))
 
@@ -175,25 +147,22 @@ module _ (old : Device) (layout : Layout) (puts : List listed.Put) where
 
     pub one_put : (more : ℕ) → Filled mid new layout slot put_word (map_after (Put put.address put.value) (map_in (other layout.side) mid)) more → FilledBy (count + 1) new more
     one_put more staged =
-        let held : map_in (other layout.side) mid ≡ map_of_first puts count = fun_ext filled.map_is in
-        let here = subst (λ (said : Map). Filled mid new layout slot put_word (map_after (Put put.address put.value) said) more) held staged in
-        let both = both_filled old mid new layout 0 slot more (words_to puts count) put_word (map_of_first puts count) (map_after (Put put.address put.value) (map_of_first puts count)) filled here in
-        subst (λ (words : List Word). Filled old new layout 0 words (map_of_first puts (count + 1)) more) (sym (words_more puts count put within is))
-        (subst (λ (said : Map). Filled old new layout 0 (words_to puts count ++ put_word) said more) (sym (map_more puts count put within is)) both)
+        let here = subst (λ said. Filled mid new layout slot put_word (map_after (Put put.address put.value) said) more) (fun_ext filled.map_is) staged in
+        subst (λ words. Filled old new layout 0 words (map_of_first puts (count + 1)) more) (sym (words_more puts count put within is))
+        (subst (λ said. Filled old new layout 0 (words_to puts count ++ put_word) said more) (sym (map_more puts count put within is)) (both_filled old mid new layout 0 slot more (words_to puts count) put_word (map_of_first puts count) (map_after (Put put.address put.value) (map_of_first puts count)) filled here))
 
     pub one_put_partly : FilledPartly mid new layout slot put_word → FilledPartly old new layout 0 (put_words (puts_of puts))
     one_put_partly partly =
-        let there = then_partly old mid new layout 0 slot (words_to puts count) put_word (map_of_first puts count) filled partly in
-        subst (λ (words : List Word). FilledPartly old new layout 0 words) (sym (words_rest puts (count + 1)))
+        subst (λ words. FilledPartly old new layout 0 words) (sym (words_rest puts (count + 1)))
         (partly_filled old new layout 0 (words_to puts (count + 1)) (put_words (puts_of (drop (count + 1) puts)))
-        (subst (λ (words : List Word). FilledPartly old new layout 0 words) (sym (words_more puts count put within is)) there))
+        (subst (λ words. FilledPartly old new layout 0 words) (sym (words_more puts count put within is)) (then_partly old mid new layout 0 slot (words_to puts count) put_word (map_of_first puts count) filled partly)))
 
     -- so there is room for it
     pub put_room : (capacity : ℕ) → length puts ≤ capacity → slot < capacity
-    put_room capacity fits = omega (arith, filled.as_many, length-put_words (take count puts), length-take-le count puts (omega arith))
+    put_room _ fits = omega (arith, length-put_words (take count puts), length-take-le count puts (omega arith))
 
   pub all_put : (count : ℕ) (now : Device) (slot : ℕ) → length puts ≤ count → FilledBy count now slot → Filled old now layout 0 (put_words (puts_of puts)) (changed_by (puts_of puts) nothing) slot
-  all_put count now slot past filled = subst (λ (first : List listed.Put). Filled old now layout 0 (put_words (puts_of first)) (changed_by (puts_of first) nothing) slot) (take_all count puts past) filled
+  all_put count now slot past filled = subst (λ first. Filled old now layout 0 (put_words (puts_of first)) (changed_by (puts_of first) nothing) slot) (take_all count puts past) filled
 
 -- ---- what a transfer carries: values, or the forgettings of their addresses, which have no words
 
@@ -202,51 +171,49 @@ forgets_words [] = refl
 forgets_words (put ∷ puts) = forgets_words puts
 
 forgets_nothing : (named : ℕ) → map_after (Forget named) nothing ≡ nothing
-forgets_nothing named = fun_ext (λ address. elim (cases_Bool (named == address)) [ inl here ↦ rw here refl | inr away ↦ rw away refl ])
+forgets_nothing named = search rules
 
 forgets_map : (puts : List listed.Put) → changed_by (forgets_of puts) nothing ≡ nothing
 forgets_map [] = refl
 forgets_map (put ∷ puts) = ap (changed_by (forgets_of puts)) (forgets_nothing put.address) ∙ forgets_map puts
 
 forgets_without : (puts : List listed.Put) (map : Map) → map_without (forgets_of puts) map ≡ map_without (puts_of puts) map
-forgets_without [] said = refl
+forgets_without [] _ = refl
 forgets_without (put ∷ puts) said = forgets_without puts (map_after (Forget put.address) said)
 
 forgets_names : (puts : List listed.Put) (address : ℕ) → names (forgets_of puts) address ≡ names (puts_of puts) address
-forgets_names [] address = refl
-forgets_names (put ∷ puts) address = ap (λ (later : Bool). (put.address == address) || later) (forgets_names puts address)
+forgets_names [] _ = refl
+forgets_names (put ∷ puts) address = ap (λ later. (put.address == address) || later) (forgets_names puts address)
 
 -- either way the same addresses are not copied
 pub carried_without : (puts : List listed.Put) (forgets : Bool) (map : Map) → map_without (changes_of_puts puts forgets) map ≡ map_without (puts_of puts) map
 carried_without puts true said = forgets_without puts said
-carried_without puts false said = refl
+carried_without _ false _ = refl
 
 pub carried_names : (puts : List listed.Put) (forgets : Bool) (address : ℕ) → names (changes_of_puts puts forgets) address ≡ names (puts_of puts) address
 carried_names puts true address = forgets_names puts address
-carried_names puts false address = refl
+carried_names _ false _ = refl
 
 module _ (old new : Device) (layout : Layout) (puts : List listed.Put) where
   pub carried_first : (forgets : Bool) (values : List listed.Put) (slot : ℕ) → values ≡ cond forgets [] puts → Filled old new layout 0 (put_words (puts_of values)) (changed_by (puts_of values) nothing) slot
       → Filled old new layout 0 (put_words (changes_of_puts puts forgets)) (changed_by (changes_of_puts puts forgets) nothing) slot
-  carried_first true values slot is filled =
-      let none = subst (λ (found : List listed.Put). Filled old new layout 0 (put_words (puts_of found)) (changed_by (puts_of found) nothing) slot) is filled in
-      subst (λ (words : List Word). Filled old new layout 0 words (changed_by (forgets_of puts) nothing) slot) (sym (forgets_words puts))
-      (subst (λ (said : Map). Filled old new layout 0 [] said slot) (sym (forgets_map puts)) none)
-  carried_first false values slot is filled = subst (λ (found : List listed.Put). Filled old new layout 0 (put_words (puts_of found)) (changed_by (puts_of found) nothing) slot) is filled
+  carried_first true _ slot is filled =
+      subst (λ words. Filled old new layout 0 words (changed_by (forgets_of puts) nothing) slot) (sym (forgets_words puts))
+      (subst (λ said. Filled old new layout 0 [] said slot) (sym (forgets_map puts)) (subst (λ found. Filled old new layout 0 (put_words (puts_of found)) (changed_by (puts_of found) nothing) slot) is filled))
+  carried_first false _ slot is filled = subst (λ found. Filled old new layout 0 (put_words (puts_of found)) (changed_by (puts_of found) nothing) slot) is filled
 
   pub carried_partly : (forgets : Bool) (values : List listed.Put) → values ≡ cond forgets [] puts → FilledPartly old new layout 0 (put_words (puts_of values)) → FilledPartly old new layout 0 (put_words (changes_of_puts puts forgets))
-  carried_partly true values is partly =
-      let none = subst (λ (found : List listed.Put). FilledPartly old new layout 0 (put_words (puts_of found))) is partly in
-      subst (λ (words : List Word). FilledPartly old new layout 0 words) (sym (forgets_words puts)) none
-  carried_partly false values is partly = subst (λ (found : List listed.Put). FilledPartly old new layout 0 (put_words (puts_of found))) is partly
+  carried_partly true _ is partly =
+      subst (λ words. FilledPartly old new layout 0 words) (sym (forgets_words puts)) (subst (λ found. FilledPartly old new layout 0 (put_words (puts_of found))) is partly)
+  carried_partly false _ is partly = subst (λ found. FilledPartly old new layout 0 (put_words (puts_of found))) is partly
 
   -- and so the others are those that the list leaves
   pub others_carried : (forgets : Bool) (slot written : ℕ) (start map : Map) → Filled old new layout slot (elements_of (map_without (puts_of puts) map)) (replaced_map start (names (puts_of puts)) map) written
       → Filled old new layout slot (elements_of (map_without (changes_of_puts puts forgets) map)) (replaced_map start (names (changes_of_puts puts forgets)) map) written
-  others_carried forgets slot written start map filled = search (rules, fun_ext, carried_names, carried_without)
+  others_carried _ _ _ _ map filled = search (rules, fun_ext, carried_names, carried_without)
 
   pub others_carried_partly : (forgets : Bool) (slot : ℕ) (map : Map) → FilledPartly old new layout slot (elements_of (map_without (puts_of puts) map)) → FilledPartly old new layout slot (elements_of (map_without (changes_of_puts puts forgets) map))
-  others_carried_partly forgets slot map partly = subst (λ (left : Map). FilledPartly old new layout slot (elements_of left)) (sym (carried_without puts forgets map)) partly
+  others_carried_partly forgets slot map partly = search (rules, carried_without)
 
 -- the changes come first, and then the other addresses
 module _ (changes : List Change) (old mid new : Device) (layout : Layout) (slot : ℕ) (first : Filled old mid layout 0 (put_words changes) (changed_by changes nothing) slot) where
@@ -260,12 +227,12 @@ module _ (changes : List Change) (old mid new : Device) (layout : Layout) (slot 
   started = map_in (other layout.side) mid
 
   words_are : put_words changes ++ elements_of (others now changes) ≡ moved_words changes before
-  words_are = ap (moved_words changes) (fun_ext (side_map old mid layout.side first.keeps))
+  words_are = ap (moved_words changes) (fun_ext (side_map _ _ _ first.keeps))
 
   map_is : (address : ℕ) → replaced_map started (names changes) now address ≡ changed_by changes before address
   map_is address =
-      then_all started now changes first.map_is address
-      ∙ ap (λ (map : Map). changed_by changes map address) (fun_ext (side_map old mid layout.side first.keeps))
+      then_all _ now changes first.map_is address
+      ∙ ap (λ map. changed_by changes map address) (fun_ext (side_map _ _ _ first.keeps))
 
   -- the set has nothing else yet
   pub only_these : (address : ℕ) → names changes address ≡ false → started address ≡ None
@@ -273,24 +240,24 @@ module _ (changes : List Change) (old mid new : Device) (layout : Layout) (slot 
 
   pub others_fit : AreApart changes → live_in (changed_by changes before) ≤ slot_count old.size → slot + length (elements_of (others now changes)) ≤ slot_count mid.size
   others_fit apart fits =
-      omega (arith, first.as_many, ap length words_are, length-append (put_words changes) (elements_of (others now changes)), moved_words_are_live_lem changes before apart, ap slot_count first.keeps.same_size)
+      omega (arith, ap length words_are, length-append (put_words changes) (elements_of (others now changes)), moved_words_are_live_lem changes before apart, ap slot_count first.keeps.same_size)
 
   pub others_filled : (written : ℕ) → Filled mid new layout slot (elements_of (others now changes)) (replaced_map started (names changes) now) written → Filled old new layout 0 (moved_words changes before) (changed_by changes before) written
   others_filled written second =
-      subst (λ (words : List Word). Filled old new layout 0 words (changed_by changes before) written) words_are
-      (subst (λ (map : Map). Filled old new layout 0 (put_words changes ++ elements_of (others now changes)) map written) (fun_ext map_is)
+      subst (λ words. Filled old new layout 0 words (changed_by changes before) written) words_are
+      (subst (λ map. Filled old new layout 0 (put_words changes ++ elements_of (others now changes)) map written) (fun_ext map_is)
       (both_filled old mid new layout 0 slot written (put_words changes) (elements_of (others now changes)) (changed_by changes nothing) (replaced_map started (names changes) now) first second))
 
   pub others_partly : FilledPartly mid new layout slot (elements_of (others now changes)) → FilledPartly old new layout 0 (moved_words changes before)
   others_partly second =
-      subst (λ (words : List Word). FilledPartly old new layout 0 words) words_are
+      subst (λ words. FilledPartly old new layout 0 words) words_are
       (then_partly old mid new layout 0 slot (put_words changes) (elements_of (others now changes)) (changed_by changes nothing) first second)
 
 pub first_partly : (changes : List Change) (old new : Device) (layout : Layout) (map : Map) → FilledPartly old new layout 0 (put_words changes) → FilledPartly old new layout 0 (moved_words changes map)
-first_partly changes old new layout map partly = partly_filled old new layout 0 (put_words changes) (elements_of (others map changes)) partly
+first_partly changes old new layout map partly = search (rules, partly_filled)
 
 -- the values that are put find room
 pub puts_fit : (puts : List listed.Put) (forgets : Bool) (values : List listed.Put) (map : Map) (capacity : ℕ) → values ≡ cond forgets [] puts → AreApart (changes_of_puts puts forgets) → live_in (changed_by (changes_of_puts puts forgets) map) ≤ capacity → length values ≤ capacity
-puts_fit puts true values map capacity is apart fits = omega (arith, ap length is)
+puts_fit _ true _ _ _ is _ _ = omega (arith, ap length is)
 puts_fit puts false values map capacity is apart fits =
     omega (arith, ap length is, moved_words_are_live_lem (puts_of puts) map apart, length-append (put_words (puts_of puts)) (elements_of (map_without (puts_of puts) map)), length-put_words puts)

@@ -1,23 +1,9 @@
 -- What formatting does: it erases what is not blank, and then commits the first set.
-use Rattle.std.proofs.Common.{◌≡◌, ◌≢◌, inl, inr, ℕ, ◌+◌, ◌<◌, ◌≤◌, true, false, List, [], length, replicate, refl, sym, ap, ◌∙◌, arith}
-use Rattle.std.specs.List.{All}
-use Rattle.std.proofs.lemmas.Bool.{cases_lt, true≢false}
-use Rattle.std.proofs.lemmas.List.{get_or-replicate, get_or-set_other, get_or-set_same, length-replicate}
-use Rattle.std.proofs.lemmas.List.Elements.{All-from_get_or}
-use Rattle.ee_flash.specs.Device.{Device, IsFormed, IsOn, page_at}
-use Rattle.ee_flash.specs.Power.{GoesOn}
-use Rattle.ee_flash.specs.Size.{page_count}
-use Rattle.ee_flash.specs.Step.{with_page_erased}
-use Rattle.ee_flash.specs.declared.word.Word.{Word}
-use Rattle.ee_flash.specs.declared.word.Word.TheVariants.{Erased}
-use Rattle.ee_pages.specs.Page.{is_blank, is_written}
-use Rattle.ee_pages.proofs.Public.{blank_page}
+use Rattle.ee_core.proofs.Base.{◌≡◌, ◌≢◌, ℕ, ◌+◌, ◌<◌, ◌≤◌, true, false, [], length, replicate, refl, sym, ap, ◌∙◌, arith, All, true≢false, get_or-replicate, get_or-set_other, get_or-set_same, length-replicate, All-from_get_or, Device, IsFormed, IsOn, page_at, GoesOn, page_count, with_page_erased, Erased, is_blank, is_written, blank_page, IsSameBut, Wears, rules}
 use Rattle.ee_core.proofs.AfterCalls.{goes_on_same}
 use Rattle.ee_core.proofs.ErasedPages.{blank_wears, written_wears}
 use Rattle.ee_core.proofs.NotBlank.{named}
 use Rattle.ee_core.proofs.Wears.{page_wears}
-use Rattle.ee_core.specs.CallSteps.{IsSameBut}
-use Rattle.ee_core.specs.State.{Wears}
 
 -- a page is blank now, and the others are as they were
 pub record BlanksPage (mid new : Device) (page : ℕ) : Type 0 where
@@ -27,32 +13,26 @@ pub record BlanksPage (mid new : Device) (page : ℕ) : Type 0 where
   pub power : GoesOn mid new
 
 pub blank_already : (device : Device) (page : ℕ) → is_blank (page_at device page) ≡ true → BlanksPage device device page
-blank_already device page blank = record { others = λ k apart. refl; blank = blank; wear = blank_wears page (page_at device page) device blank; power = goes_on_same device }
+blank_already device page blank = record { others = λ k apart. refl; blank = blank; wear = blank_wears page (page_at device page) _ blank; power = goes_on_same _ }
 
 erase_goes_on : (page : ℕ) (old new : Device) → IsOn old → new ≡ with_page_erased page old → GoesOn old new
-erase_goes_on page old new on done = rw done (record { same_size = refl; same_power = refl; same_cuts = refl; same_cuts_left = refl; same_while_off = λ off. absurd (true≢false (sym on ∙ off)) })
+erase_goes_on _ _ _ on done = rw done (record { same_size = refl; same_power = refl; same_cuts = refl; same_cuts_left = refl; same_while_off = λ off. absurd (true≢false (sym on ∙ off)) })
 
 pub blanks_page : (page : ℕ) (mid new : Device) → IsFormed mid → page < page_count mid.size → is_blank (page_at mid page) ≡ false → IsOn mid → new ≡ with_page_erased page mid → BlanksPage mid new page
 blanks_page page mid new formed h written on done =
     let words = replicate mid.size.words Erased in
-    let in_range : page < length mid.image = omega (arith, formed.image_length) in
-    let there : page_at new page ≡ words =
-    ap (λ (device : Device). page_at device page) done ∙ get_or-set_same mid.image page words [] in_range in
+    let there =
+    ap (λ device. page_at device page) done ∙ get_or-set_same mid.image page words [] (omega arith) in
     record {
-      others = λ k apart. ap (λ (device : Device). page_at device k) done ∙ get_or-set_other mid.image page k words [] apart;
-      blank = ap is_blank there ∙ blank_page words mid.size.words (length-replicate mid.size.words Erased) (λ k below. ap is_written (get_or-replicate mid.size.words k Erased Erased below));
-      wear = written_wears page (page_at mid page) mid new written (page_wears page mid new (omega (arith, formed.wear_length)) (ap (λ (device : Device). device.wear) done));
+      others = λ k apart. ap (λ device. page_at device k) done ∙ get_or-set_other mid.image page k words [] apart;
+      blank = ap is_blank there ∙ blank_page _ _ (length-replicate mid.size.words Erased) (λ k below. ap is_written (get_or-replicate mid.size.words k Erased Erased below));
+      wear = written_wears _ (page_at mid page) _ _ written (page_wears _ _ _ (omega arith) (ap (λ device. device.wear) done));
       power = erase_goes_on page mid new on done;
     }
 
 -- one page more is blank
 pub blank_more : (page : ℕ) (mid new : Device) → ((k : ℕ) → k < page → is_blank (page_at mid k) ≡ true) → BlanksPage mid new page → (k : ℕ) → k < page + 1 → is_blank (page_at new k) ≡ true
-blank_more page mid new before blanks k h = elim (cases_lt k page) [
-  | inl earlier ↦
-      let apart : k ≢ page = λ e. omega (arith, e, earlier) in
-      ap is_blank (blanks.others k apart) ∙ before k earlier
-  | inr last ↦ let e : k ≡ page = omega arith in ap (λ n. is_blank (page_at new n)) e ∙ blanks.blank
-]
+blank_more page _ new before blanks k h = search rules
 
 pub all_blank : (device : Device) (pages : ℕ) → length device.image ≤ pages → ((k : ℕ) → k < pages → is_blank (page_at device k) ≡ true) → All (λ page. is_blank page ≡ true) device.image
-all_blank device pages h each = All-from_get_or (λ (page : List Word). is_blank page ≡ true) device.image [] (λ k in_range. each k (omega arith))
+all_blank _ _ h each = All-from_get_or (λ page. is_blank page ≡ true) _ [] (λ k in_range. each k (omega arith))

@@ -1,85 +1,52 @@
 -- Which marks are there still where pages are as before.
-use Rattle.std.proofs.Common.{rules, ◌≡◌, inl, inr, ℕ, ◌+◌, ◌-◌, ◌<◌, ◌≤◌, true, List, get_or, sym, subst, ap, ◌∙◌, arith}
-use Rattle.std.proofs.lemmas.Bool.{cases_eq}
-use Rattle.std.proofs.lemmas.List.Sums.{count_by-le-length, length-filter}
-use Rattle.ee_flash.specs.Device.{Device, IsFormed, page_at}
-use Rattle.ee_flash.specs.Size.{Size, slot_count}
-use Rattle.ee_flash.specs.declared.word.Word.{Word}
-use Rattle.ee_flash.specs.declared.word.Word.TheVariants.{Erased}
-use Rattle.ee_pages.specs.Page.{is_blank, is_marked, is_written, place_of_mark}
-use Rattle.ee_pages.specs.Sets.{fill_of, first_page, other, page_of_slot, set_of, slots_of}
-use Rattle.ee_pages.specs.declared.side.Side.{Side}
-use Rattle.ee_pages.specs.declared.state.Mark.{Mark}
-use Rattle.ee_pages.specs.declared.state.Mark.TheVariants.{Active, Erasing, Valid}
-use Rattle.ee_pages.proofs.Public.{length-slots, page_in_range, slot_below}
-use Rattle.ee_core.specs.CallSteps.{IsReady, IsSameBut, IsSameSet, KeepsMarks}
-use Rattle.ee_core.specs.Finished.{IsLiveMarked, IsMarked, IsOldMarked, last_used}
+use Rattle.ee_core.proofs.Base.{rules, ◌≡◌, ℕ, ◌+◌, ◌-◌, ◌<◌, ◌≤◌, true, sym, subst, ap, ◌∙◌, arith, count_by-le-length, length-filter, Device, IsFormed, page_at, slot_count, is_blank, is_marked, fill_of, first_page, other, page_of_slot, set_of, slots_of, Side, Mark, Active, Valid, length-slots, page_in_range, slot_below, IsReady, IsSameBut, IsSameSet, KeepsMarks, IsLiveMarked, IsMarked, IsOldMarked, last_used}
 use Rattle.ee_core.proofs.SetPages.{same_page}
 
 pub fill_fits : (side : Side) (device : Device) → IsFormed device → fill_of (slots_of (set_of side device)) ≤ slot_count device.size
-fill_fits side device formed =
-    let slots = slots_of (set_of side device) in
-    omega (arith, length-filter is_written slots, count_by-le-length is_written slots, length-slots side device formed)
+fill_fits side device formed = search (rules, length-filter, count_by-le-length, length-slots)
 
 pub last_in_range : (side : Side) (device : Device) → IsFormed device → last_used device side < device.size.pages
-last_in_range side device formed =
-    let fill = fill_of (slots_of (set_of side device)) in
-    page_in_range device (fill - 1) (slot_below device fill formed (fill_fits side device formed))
+last_in_range side device formed = search (rules, page_in_range, slot_below, fill_fits)
 
 -- a page with the same words has the same marks
 marked_so : (old new : Device) (before after : ℕ) (mark : Mark) → page_at new after ≡ page_at old before → is_marked old before mark ≡ true → is_marked new after mark ≡ true
-marked_so old new before after mark same was = ap (λ (words : List Word). is_written (get_or words (place_of_mark mark) Erased)) same ∙ was
+marked_so _ _ _ _ mark same was = search rules
 
 module _ (side : Side) (old new : Device) (formed : IsFormed old) (sizes : new.size ≡ old.size) where
   pages_are : new.size.pages ≡ old.size.pages
-  pages_are = ap (λ (size : Size). size.pages) sizes
+  pages_are = ap (λ size. size.pages) sizes
 
   pub live_marks_stay : IsSameSet side old new → IsLiveMarked old side → IsLiveMarked new side
   live_marks_stay same was =
-      let last : last_used new side ≡ last_used old side =
-      ap (λ (size : Size). page_of_slot size (fill_of (slots_of (set_of side new)) - 1)) sizes
-      ∙ ap (λ (pages : List (List Word)). page_of_slot old.size (fill_of (slots_of pages) - 1)) same in
+      let last =
+      ap (λ size. page_of_slot size (fill_of (slots_of (set_of side new)) - 1)) sizes
+      ∙ ap (λ pages. page_of_slot old.size (fill_of (slots_of pages) - 1)) same in
       let within = last_in_range side old formed in
       record {
         valid = λ page below.
-            let before : page < last_used old side = subst (λ n. page < n) last below in
-            marked_so old new (first_page old.size side + page) (first_page new.size side + page) Valid (same_page side old new page sizes same (omega (arith, before, within))) (was.valid page before);
-        active = ap (λ n. is_marked new (first_page new.size side + n) Active) last
-            ∙ marked_so old new (first_page old.size side + last_used old side) (first_page new.size side + last_used old side) Active (same_page side old new (last_used old side) sizes same within) was.active;
+            marked_so old new (first_page old.size side + page) (first_page new.size side + page) Valid (same_page _ _ _ _ sizes same (omega arith)) (was.valid page (subst (λ n. page < n) last below));
+        active = search (rules, marked_so, same_page);
       }
 
   pub old_marks_stay : IsSameSet side old new → IsOldMarked old side → IsOldMarked new side
   old_marks_stay same was page h =
       let within : page < old.size.pages = omega (arith, pages_are) in
-      let there = same_page side old new page sizes same within in
-      elim (was page within) [
-        | inl blank ↦ inl (ap is_blank there ∙ blank)
-        | inr marked ↦ inr (marked_so old new (first_page old.size side + page) (first_page new.size side + page) Erasing there marked)
-      ]
+      let there = same_page _ _ _ _ sizes same within in
+      search (rules, marked_so)
 
   -- of all pages but one, which is blank now
   blank_or_marked : (erased : ℕ) → IsSameBut erased old new → is_blank (page_at new erased) ≡ true → IsOldMarked old side → IsOldMarked new side
-  blank_or_marked erased others blank was page h = elim (cases_eq (first_page new.size side + page) erased) [
-    | inl here ↦ inl (ap (λ n. is_blank (page_at new n)) here ∙ blank)
-    | inr apart ↦
-        let there : page_at new (first_page new.size side + page) ≡ page_at old (first_page old.size side + page) =
-        others (first_page new.size side + page) apart ∙ ap (λ (size : Size). page_at old (first_page size side + page)) sizes in
-        elim (was page (omega (arith, pages_are))) [
-          | inl as_before ↦ inl (ap is_blank there ∙ as_before)
-          | inr marked ↦ inr (marked_so old new (first_page old.size side + page) (first_page new.size side + page) Erasing there marked)
-        ]
-  ]
+  blank_or_marked _ others blank was page h = search (rules, pages_are, marked_so)
 
 pub cleaned_marked : (side : Side) (erased : ℕ) (old new : Device) → IsFormed old → new.size ≡ old.size → IsSameSet side old new → IsSameBut erased old new → is_blank (page_at new erased) ≡ true → IsMarked old side → IsMarked new side
-cleaned_marked side erased old new formed sizes same others blank was = search (rules, live_marks_stay, blank_or_marked)
+cleaned_marked _ _ old new formed sizes same others blank was = search (rules, live_marks_stay, blank_or_marked)
 
 -- After one slot more the page of that slot is the last used one.
 live_now : (side : Side) (fill : ℕ) (mid new : Device) → new.size ≡ mid.size → fill_of (slots_of (set_of side new)) ≡ fill + 1 → IsReady mid side fill → KeepsMarks mid new → IsLiveMarked new side
 live_now side fill mid new sizes grown ready marks =
-    let slot : fill_of (slots_of (set_of side new)) - 1 ≡ fill = omega (arith, grown) in
-    let last : last_used new side ≡ page_of_slot mid.size fill =
-    ap (λ (size : Size). page_of_slot size (fill_of (slots_of (set_of side new)) - 1)) sizes ∙ ap (page_of_slot mid.size) slot in
-    let first : first_page mid.size side ≡ first_page new.size side = ap (λ (size : Size). first_page size side) (sym sizes) in
+    let last =
+    ap (λ size. page_of_slot size (fill_of (slots_of (set_of side new)) - 1)) sizes ∙ ap (page_of_slot mid.size) (omega arith) in
+    let first = ap (λ size. first_page size side) (sym sizes) in
     record {
       valid = λ page below. subst (λ n. is_marked new (n + page) Valid ≡ true) first (marks _ Valid (ready.valid page (subst (λ n. page < n) last below)));
       active = ap (λ n. is_marked new (first_page new.size side + n) Active) last
@@ -88,6 +55,6 @@ live_now side fill mid new sizes grown ready marks =
 
 pub appended_marked : (side : Side) (fill : ℕ) (old mid new : Device) → IsFormed old → mid.size ≡ old.size → new.size ≡ mid.size → fill_of (slots_of (set_of side new)) ≡ fill + 1 → IsReady mid side fill → KeepsMarks mid new → IsSameSet (other side) old mid → IsSameSet (other side) mid new → IsMarked old side → IsMarked new side
 appended_marked side fill old mid new formed first_sizes second_sizes grown ready marks first_same second_same was = record {
-  live = live_now side fill mid new second_sizes grown ready marks;
-  old = old_marks_stay (other side) old new formed (second_sizes ∙ first_sizes) (second_same ∙ first_same) was.old;
+  live = search (rules, live_now);
+  old = search (rules, old_marks_stay);
 }

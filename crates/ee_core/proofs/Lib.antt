@@ -1,3 +1,4 @@
+mod Base
 mod SetPages
 mod Wears
 mod NotBlank
@@ -16,6 +17,7 @@ mod Erasing
 mod KeptMarks
 mod Appending
 mod OpenedPages
+mod Outside
 mod CopiedMaps
 mod Nothing
 mod Courses

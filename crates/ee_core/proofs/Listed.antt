@@ -1,54 +1,41 @@
 -- Lists of values that are put: an address that is listed twice, and lists in which
 -- each is listed once.
-use Rattle.std.proofs.Common.{◌≡◌, ℕ, ◌≤◌, false, Bool, Option, Some, None, List, [], ◌∷◌, length, take, refl, ap, ◌∙◌, suc}
-use Rattle.std.specs.Prelude.{◌==◌, ◌||◌, slice_get}
-use Rattle.std.specs.List.{All}
-use Rattle.std.proofs.lemmas.Bool.{ne_eqb}
-use Rattle.std.proofs.lemmas.List.Elements.{All-head, All-tail}
-use Rattle.std.proofs.lemmas.Option.{slice_get_past}
-use Rattle.ee_codec.specs.Words.{IsAddress}
-use Rattle.ee_core.specs.Puts.{AreApart, IsEachOnce, ListsAreThere, is_put, is_put_again, is_twice, names, puts_of}
+use Rattle.ee_core.proofs.Base.{◌≡◌, ℕ, false, Option, Some, None, List, [], ◌∷◌, take, refl, ap, ◌∙◌, suc, ◌==◌, ◌||◌, slice_get, All, ne_eqb, All-head, All-tail, IsAddress, AreApart, IsEachOnce, ListsAreThere, is_put, is_put_again, names, puts_of, Put, map_after, neither}
 use Rattle.ee_core.specs.declared.change.Put as listed
-use Rattle.ee_core.proofs.CopiedMaps.{apart, changed_by-other, neither, put-at}
-use Rattle.ee_pages.specs.Meaning.{Put, map_after}
+use Rattle.ee_core.proofs.CopiedMaps.{apart, changed_by-other, put-at}
 
 -- a list of values names the addresses that are put
 pub names-puts : (puts : List listed.Put) (address : ℕ) → names (puts_of puts) address ≡ is_put puts address
-names-puts [] address = refl
-names-puts (put ∷ puts) address = ap (λ (later : Bool). (put.address == address) || later) (names-puts puts address)
+names-puts [] _ = refl
+names-puts (put ∷ puts) address = ap (λ later. (put.address == address) || later) (names-puts puts address)
 
 again_behind : (put : listed.Put) (earlier : List listed.Put) (found : Option listed.Put) → is_put_again (put ∷ earlier) found ≡ false → is_put_again earlier found ≡ false
-again_behind put earlier None e = refl
-again_behind put earlier (Some other) e = (neither (put.address == other.address) (is_put earlier other.address) e).1
+again_behind _ _ None e = refl
+again_behind _ _ (Some _) e = (neither _ _ e).1
 
 again_first : (put : listed.Put) (earlier : List listed.Put) (found : Option listed.Put) → is_put_again (put ∷ earlier) found ≡ false → is_put_again (put ∷ []) found ≡ false
-again_first put earlier None e = refl
-again_first put earlier (Some other) e = let away = (neither (put.address == other.address) (is_put earlier other.address) e).0 in rw away refl
+again_first _ _ None e = refl
+again_first _ earlier (Some other) e = let away = (neither _ (is_put earlier other.address) e).0 in rw away refl
 
 -- no entry of the list has the address of this value
 none_again : (put : listed.Put) (puts : List listed.Put) → ((place : ℕ) → is_put_again (put ∷ []) (slice_get puts place) ≡ false) → names (puts_of puts) put.address ≡ false
-none_again put [] each = refl
+none_again _ [] _ = refl
 none_again put (other ∷ puts) each =
-    let away = (neither (put.address == other.address) false (each 0)).0 in
-    let here : (other.address == put.address) ≡ false = ne_eqb other.address put.address (apart put.address other.address away) in
+    let here = ne_eqb other.address put.address (apart _ _ ((neither _ _ (each 0)).0)) in
     rw here (none_again put puts (λ place. each (suc place)))
 
 pub each_apart : (puts : List listed.Put) → All (λ put. IsAddress put.address) puts → IsEachOnce puts → AreApart (puts_of puts)
-each_apart [] proper once = tt
+each_apart [] _ _ = tt
 each_apart (put ∷ puts) proper once = (
-  All-head (λ (put : listed.Put). IsAddress put.address) put puts proper,
+  All-head (λ put. IsAddress put.address) _ _ proper,
   none_again put puts (λ place. again_first put (take place puts) (slice_get puts place) (once (suc place))),
-  each_apart puts (All-tail (λ (put : listed.Put). IsAddress put.address) put puts proper) (λ place. again_behind put (take place puts) (slice_get puts place) (once (suc place))),
+  each_apart puts (All-tail (λ put. IsAddress put.address) _ _ proper) (λ place. again_behind put (take place puts) (slice_get puts place) (once (suc place))),
 )
 
--- there is none behind the last
-pub none_behind : (puts : List listed.Put) (place : ℕ) → length puts ≤ place → is_twice puts place ≡ false
-none_behind puts place past = ap (is_put_again (take place puts)) (slice_get_past puts place past)
-
 pub lists_are_there_lem : ListsAreThere
-lists_are_there_lem [] map once = tt
+lists_are_there_lem [] _ _ = tt
 lists_are_there_lem (put ∷ puts) map once = (
   changed_by-other (puts_of puts) (map_after (Put put.address put.value) map) put.address (none_again put puts (λ place. again_first put (take place puts) (slice_get puts place) (once (suc place))))
-      ∙ put-at map put.address put.value put.address refl,
+      ∙ put-at map put.address _ _ refl,
   lists_are_there_lem puts (map_after (Put put.address put.value) map) (λ place. again_behind put (take place puts) (slice_get puts place) (once (suc place))),
 )

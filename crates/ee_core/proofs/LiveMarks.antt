@@ -1,58 +1,34 @@
 -- The marks that an opening sets in the live set and in the other one, page after page.
-use Rattle.std.proofs.Common.{rules, ◌≡◌, ◌≢◌, ◌⊎◌, inl, inr, ℕ, ◌+◌, ◌-◌, ◌<◌, ◌≤◌, true, false, refl, sym, subst, ap, ◌∙◌, arith}
-use Rattle.std.proofs.lemmas.Bool.{cases_lt, true≢false}
-use Rattle.std.proofs.Math.Nat.{div-mul-le_self, mul-le-mul_right}
-use Rattle.ee_flash.specs.Device.{Device, page_at}
-use Rattle.ee_flash.specs.Power.{GoesOn}
-use Rattle.ee_flash.specs.Size.{Size}
-use Rattle.ee_flash.specs.declared.word.Word.TheVariants.{Erased}
-use Rattle.std.specs.Prelude.{slice_index_or}
-use Rattle.ee_pages.specs.Layout.{IsLayout}
-use Rattle.ee_pages.specs.Legal.{IsLive}
-use Rattle.ee_pages.specs.Page.{is_blank, is_marked, is_written}
-use Rattle.ee_pages.specs.Pushing.{IsMarkBehind}
-use Rattle.ee_pages.specs.Sets.{fill_of, first_page, page_of_slot, set_of, slots_of}
-use Rattle.ee_pages.specs.declared.find.Layout.{Layout}
-use Rattle.ee_pages.specs.declared.side.Side.{Side}
-use Rattle.ee_pages.specs.declared.state.Mark.{Mark}
-use Rattle.ee_pages.specs.declared.state.Mark.TheVariants.{Active, Valid, Erasing}
-use Rattle.ee_pages.proofs.Public.{page_in_range, slot_below}
+use Rattle.ee_core.proofs.Base.{rules, ◌≡◌, ◌≢◌, ◌⊎◌, inl, inr, ℕ, ◌+◌, ◌-◌, ◌<◌, ◌≤◌, true, false, refl, sym, subst, ap, ◌∙◌, arith, cases_lt, true≢false, Device, page_at, GoesOn, IsLayout, IsLive, is_blank, is_marked, IsMarkBehind, fill_of, first_page, page_of_slot, set_of, slots_of, Layout, Side, Mark, Active, Valid, Erasing, page_in_range, slot_below, IsSameBut, KeepsMarks, SetsMark, Stays, IsLiveMarked, IsOldMarked, last_used}
 use Rattle.ee_core.proofs.SetPages.{first_below}
 use Rattle.ee_core.proofs.AfterCalls.{goes_on_same}
 use Rattle.ee_core.proofs.Marks.{same_stays}
-use Rattle.ee_core.specs.CallSteps.{IsSameBut, KeepsMarks, SetsMark, Stays}
-use Rattle.ee_core.specs.Finished.{IsLiveMarked, IsOldMarked, last_used}
 use Rattle.ee_core.proofs.KeptMarks.{fill_fits}
 
 -- after what keeps the live set, the layout is still right
 pub layout_stays : (layout : Layout) (old new : Device) → IsLayout old layout → Stays old new layout.side layout.generation → IsLayout new layout
-layout_stays layout old new is stays = search rules
+layout_stays _ _ _ is stays = search rules
 
 pub stays_both : (old mid new : Device) (side : Side) (generation : ℕ) → Stays old mid side generation → Stays mid new side generation → Stays old new side generation
-stays_both old mid new side generation first second = search rules
+stays_both _ _ _ _ _ first second = search rules
 
 -- the page of the last used slot, counted from the set's first
 pub last_is : (layout : Layout) (device : Device) → IsLayout device layout → layout.current ≡ first_page device.size layout.side + last_used device layout.side
-last_is layout device is = is.current ∙ ap (λ fill. first_page device.size layout.side + page_of_slot device.size (fill - 1)) is.fill
+last_is layout device is = search rules
 
 pub last_in_range : (layout : Layout) (device : Device) → IsLayout device layout → last_used device layout.side < device.size.pages
-last_in_range layout device is =
-    let fill = fill_of (slots_of (set_of layout.side device)) in
-    page_in_range device (fill - 1) (slot_below device fill is.live.formed (fill_fits layout.side device is.live.formed))
+last_in_range layout device is = search (rules, page_in_range, slot_below, fill_fits)
 
 pub current_below : (layout : Layout) (device : Device) → IsLayout device layout → layout.current < 128
-current_below layout device is = omega (arith, last_is layout device is, last_in_range layout device is, first_below device.size layout.side, is.live.formed.within_limits.few_pages)
+current_below layout device is = omega (arith, last_is layout device is, last_in_range layout device is, first_below device.size layout.side)
 
 -- a page up to that one stands behind written slots
 mark_behind : (layout : Layout) (device : Device) (page : ℕ) (mark : Mark) → IsLayout device layout → page ≤ last_used device layout.side → (mark ≡ Active) ⊎ (mark ≡ Valid) → IsMarkBehind device layout.side page mark
-mark_behind layout device page mark is h kind =
-    let fill = fill_of (slots_of (set_of layout.side device)) in
-    let row = device.size.words - 4 in
-    record { in_range = omega (arith, h, last_in_range layout device is); behind = omega (arith, mul-le-mul_right row h, div-mul-le_self (fill - 1) row); active_or_valid = kind }
+mark_behind layout device _ _ is h kind = search (rules, last_in_range)
 
 pub valid_behind : (layout : Layout) (device : Device) (page : ℕ) → IsLayout device layout → first_page device.size layout.side ≤ page → page < layout.current → IsMarkBehind device layout.side (page - first_page device.size layout.side) Valid
-valid_behind layout device page is from below =
-    mark_behind layout device (page - first_page device.size layout.side) Valid is (omega (arith, last_is layout device is, from, below)) (inr refl)
+valid_behind layout device page is _ below =
+    mark_behind layout device (page - first_page device.size layout.side) Valid is (omega (arith, last_is layout device is)) (inr refl)
 
 pub last_behind : (layout : Layout) (device : Device) (mark : Mark) → IsLayout device layout → (mark ≡ Active) ⊎ (mark ≡ Valid) → IsMarkBehind device layout.side (layout.current - first_page device.size layout.side) mark
 last_behind layout device mark is kind =
@@ -61,36 +37,34 @@ last_behind layout device mark is kind =
 -- where the live set is marked, each mark is set
 pub valid_already : (layout : Layout) (device : Device) (page : ℕ) → IsLayout device layout → IsLiveMarked device layout.side → first_page device.size layout.side ≤ page → page < layout.current → is_marked device page Valid ≡ true
 valid_already layout device page is marked from below =
-    let place : page ≡ first_page device.size layout.side + (page - first_page device.size layout.side) = omega (arith, from) in
-    ap (λ n. is_marked device n Valid) place
-    ∙ marked.valid (page - first_page device.size layout.side) (omega (arith, last_is layout device is, from, below))
+    ap (λ n. is_marked device n Valid) (omega arith)
+    ∙ marked.valid (page - first_page device.size layout.side) (omega (arith, last_is layout device is))
 
 -- one page more is marked
 pub valid_more : (first page : ℕ) (mid new : Device) → first ≤ page → ((k : ℕ) → k < page - first → is_marked mid (first + k) Valid ≡ true) → KeepsMarks mid new → is_marked new page Valid ≡ true → (k : ℕ) → k < page + 1 - first → is_marked new (first + k) Valid ≡ true
-valid_more first page mid new from before keeps here k h = elim (cases_lt k (page - first)) [
+valid_more first page _ new _ before keeps here k h = elim (cases_lt k _) [
   | inl earlier ↦ keeps (first + k) Valid (before k earlier)
-  | inr last ↦ let e : first + k ≡ page = omega (arith, from) in ap (λ n. is_marked new n Valid) e ∙ here
+  | inr last ↦ search rules
 ]
 
 -- the marks of the live set, said of the device as it was
 pub live_marked : (layout : Layout) (old mid new : Device) → IsLayout old layout → Stays old new layout.side layout.generation → ((k : ℕ) → k < layout.current - first_page old.size layout.side → is_marked mid (first_page old.size layout.side + k) Valid ≡ true) → KeepsMarks mid new → is_marked new layout.current Active ≡ true → IsLiveMarked new layout.side
-live_marked layout old mid new is stays valid keeps active =
-    let new_is = layout_stays layout old new is stays in
-    let first : first_page new.size layout.side ≡ first_page old.size layout.side = ap (λ (size : Size). first_page size layout.side) stays.keeps.same_size in
-    let place : first_page new.size layout.side + last_used new layout.side ≡ layout.current = sym (last_is layout new new_is) in
+live_marked layout old _ new is stays valid keeps active =
+    let first = ap (λ size. first_page size layout.side) stays.keeps.same_size in
+    let place = sym (last_is layout new (layout_stays layout old new is stays)) in
     record {
       valid = λ page below.
           ap (λ n. is_marked new (n + page) Valid) first
-          ∙ keeps (first_page old.size layout.side + page) Valid (valid page (omega (arith, first, place, below)));
-      active = ap (λ n. is_marked new n Active) place ∙ active;
+          ∙ keeps (first_page old.size layout.side + page) Valid (valid page (omega arith));
+      active = search rules;
     }
 
 -- marks that a further call keeps
 pub live_marks_kept : (side : Side) (old new : Device) (generation : ℕ) → Stays old new side generation → KeepsMarks old new → IsLiveMarked old side → IsLiveMarked new side
-live_marks_kept side old new generation stays keeps marked =
-    let first : first_page new.size side ≡ first_page old.size side = ap (λ (size : Size). first_page size side) stays.keeps.same_size in
-    let last : last_used new side ≡ last_used old side =
-    ap (λ (size : Size). page_of_slot size (fill_of (slots_of (set_of side new)) - 1)) stays.keeps.same_size
+live_marks_kept side old new _ stays keeps marked =
+    let first = ap (λ size. first_page size side) stays.keeps.same_size in
+    let last =
+    ap (λ size. page_of_slot size (fill_of (slots_of (set_of side new)) - 1)) stays.keeps.same_size
     ∙ ap (λ fill. page_of_slot old.size (fill - 1)) stays.keeps.same_fill in
     record {
       valid = λ page below. ap (λ n. is_marked new (n + page) Valid) first ∙ keeps (first_page old.size side + page) Valid (marked.valid page (subst (λ n. page < n) last below));
@@ -103,16 +77,7 @@ IsPageDone device page = (is_blank (page_at device page) ≡ true) ⊎ (is_marke
 
 -- one page more is done, and the others are as before
 pub done_more : (first page : ℕ) (mid new : Device) → first ≤ page → ((k : ℕ) → k < page - first → IsPageDone mid (first + k)) → IsSameBut page mid new → IsPageDone new page → (k : ℕ) → k < page + 1 - first → IsPageDone new (first + k)
-done_more first page mid new from before same here k h = elim (cases_lt k (page - first)) [
-  | inl earlier ↦
-      let apart : first + k ≢ page = λ e. omega (arith, e, from, earlier) in
-      let words = same (first + k) apart in
-      elim (before k earlier) [
-        | inl blank ↦ inl (ap is_blank words ∙ blank)
-        | inr marked ↦ inr (ap (λ page. is_written (slice_index_or page 3 Erased)) words ∙ marked)
-      ]
-  | inr last ↦ let e : page ≡ first + k = omega (arith, from) in subst (λ n. IsPageDone new n) e here
-]
+done_more first page _ new _ before same here k h = search rules
 
 -- what marking a page of the other set leaves, if it was not done
 pub record MarksPage (mid new : Device) (side : Side) (generation page : ℕ) : Type 0 where
@@ -126,23 +91,22 @@ pub record MarksPage (mid new : Device) (side : Side) (generation page : ℕ) : 
   pub passed : is_blank (page_at mid page) ≡ true → new ≡ mid
 
 pub marks_none : (device : Device) (side : Side) (generation page : ℕ) → IsLive device side generation → is_blank (page_at device page) ≡ true → MarksPage device device side generation page
-marks_none device side generation page live blank = record { stays = same_stays device device side generation live refl; marks = λ p mark was. was; others = λ p apart. refl; done = inl blank; no_step = λ done. refl; power = goes_on_same device; waiting = λ written. absurd (true≢false (sym blank ∙ written)); passed = λ is. refl }
+marks_none _ _ _ _ live blank = record { stays = same_stays _ _ _ _ live refl; marks = λ p mark was. was; others = λ p apart. refl; done = inl blank; no_step = λ done. refl; power = goes_on_same _; waiting = search rules; passed = λ is. refl }
 
 -- a page that is not blank is done only by its mark
 pub marked_from : (device : Device) (page : ℕ) → is_blank (page_at device page) ≡ false → IsPageDone device page → is_marked device page Erasing ≡ true
-marked_from device page written (inl blank) = absurd (true≢false (sym blank ∙ written))
-marked_from device page written (inr marked) = marked
+marked_from _ _ written (inl blank) = absurd (true≢false (sym blank ∙ written))
+marked_from _ _ _ (inr marked) = marked
 
 pub marks_one : (mid new : Device) (side : Side) (generation page : ℕ) → is_blank (page_at mid page) ≡ false → Stays mid new side generation → KeepsMarks mid new → IsSameBut page mid new → is_marked new page Erasing ≡ true → SetsMark page Erasing mid new → (is_marked mid page Erasing ≡ true → new ≡ mid) → GoesOn mid new → MarksPage mid new side generation page
-marks_one mid new side generation page written stays marks others marked sets no_step power =
-    record { stays = stays; marks = marks; others = others; done = inr marked; no_step = λ done. no_step (marked_from mid page written done); power = power; waiting = λ is. sets; passed = λ blank. absurd (true≢false (sym blank ∙ written)) }
+marks_one mid _ _ _ page written stays marks others marked sets no_step power =
+    record { stays = stays; marks = marks; others = others; done = inr marked; no_step = λ done. no_step (marked_from mid page written done); power = power; waiting = λ is. sets; passed = search rules }
 
 -- where the other set is marked, each page of it is done
 pub done_already : (device : Device) (side : Side) (page : ℕ) → IsOldMarked device side → first_page device.size side ≤ page → page < first_page device.size side + device.size.pages → IsPageDone device page
 done_already device side page marked from below =
-    let place : first_page device.size side + (page - first_page device.size side) ≡ page = omega (arith, from) in
-    subst (λ n. IsPageDone device n) place (marked (page - first_page device.size side) (omega (arith, from, below)))
+    subst (λ n. IsPageDone device n) (omega arith) (marked (page - first_page device.size side) (omega arith))
 
 -- in a device that is as before
 pub old_marks_kept : (side : Side) (old new : Device) → new ≡ old → IsOldMarked old side → IsOldMarked new side
-old_marks_kept side old new same marked = subst (λ device. IsOldMarked device side) (sym same) marked
+old_marks_kept side _ _ same marked = search rules

@@ -1,24 +1,5 @@
 -- What a transfer leaves, from what its steps leave.
-use Rattle.std.proofs.Common.{◌≡◌, inl, inr, ℕ, ◌+◌, ◌-◌, List, [], length, refl, sym, subst, ap, ◌∙◌, arith}
-use Rattle.std.proofs.Math.Path.{fun_ext}
-use Rattle.ee_flash.specs.Device.{Device, IsFormed}
-use Rattle.ee_flash.specs.Size.{Size}
-use Rattle.ee_flash.specs.declared.word.Word.{Word}
-use Rattle.ee_pages.specs.Filling.{IsCommitted, IsFilling}
-use Rattle.ee_pages.specs.Laws.{KeepsSide}
-use Rattle.ee_pages.specs.Layout.{IsLayout}
-use Rattle.ee_pages.specs.Meaning.{Change, Map, changed_by, live_in, meaning}
-use Rattle.ee_pages.specs.Sets.{fill_of, other, page_of_slot, pending_of, set_of, slots_of}
-use Rattle.ee_pages.specs.declared.find.Layout.{Layout}
-use Rattle.ee_pages.specs.declared.side.Side.{Side}
-use Rattle.ee_pages.proofs.Public.{keeps_side_both, other_twice}
-use Rattle.ee_core.specs.CallSteps.{HasMoved, Holds, IsSameSet, Stays, map_in}
-use Rattle.ee_core.specs.Cuts.{AddsPartly, IsDrawnPartly, MovesMapPartly, MovesPartly}
-use Rattle.ee_core.specs.Finished.{IsMarked, last_used}
-use Rattle.ee_core.specs.Openings.{ShowsCutMarks, ShowsMarks}
-use Rattle.ee_core.specs.Picture.{IsDrawn, blank_picture, filled_set, is_used, moved_words, picture_of, retired_pages}
-use Rattle.ee_core.specs.Puts.{each_forgotten}
-use Rattle.ee_core.specs.State.{Wears, not_blank_in}
+use Rattle.ee_core.proofs.Base.{◌≡◌, inl, inr, ℕ, ◌+◌, ◌-◌, List, [], length, refl, sym, subst, ap, ◌∙◌, arith, fun_ext, Device, IsFormed, Word, IsCommitted, IsFilling, KeepsSide, IsLayout, Change, changed_by, live_in, meaning, fill_of, other, page_of_slot, pending_of, set_of, slots_of, Layout, Side, keeps_side_both, other_twice, HasMoved, Holds, IsSameSet, Stays, map_in, AddsPartly, IsDrawnPartly, MovesMapPartly, MovesPartly, IsMarked, ShowsCutMarks, ShowsMarks, IsDrawn, blank_picture, filled_set, is_used, moved_words, picture_of, retired_pages, each_forgotten, Wears, not_blank_in, rules}
 use Rattle.ee_core.specs.Transfers.{Filled, FilledPartly, IsNewlyOpened, MapMoved, MapMovedPartly, OtherCleared, OtherCommitted, OtherCommittedPartly, OtherOpened, OtherOpenedPartly, SetMoved}
 use Rattle.ee_core.proofs.CutMoves.{filled_partly, marked_partly, retires_partly}
 use Rattle.ee_core.proofs.Cuts.{drawn_before}
@@ -49,21 +30,21 @@ pub record IsFilledWith (old new : Device) (layout : Layout) (changes : List Cha
 module _ (old cleared new : Device) (layout : Layout) (clears : OtherCleared old cleared layout.side) where
   pub is_opened : OtherOpened cleared new layout → IsOpened old new layout
   is_opened opens = record {
-    keeps = keeps_side_both old cleared new layout.side clears.keeps opens.keeps;
+    keeps = keeps_side_both _ _ _ _ clears.keeps opens.keeps;
     opened = opens.opened;
     holds = opens.holds;
-    wear = wears_still _ old cleared new clears.wear opens.wear;
+    wear = wears_still _ _ _ _ clears.wear opens.wear;
   }
 
   pub open_cut : (changes : List Change) (words : List Word) → OtherOpenedPartly cleared new layout → MapMovedPartly old new layout changes words MovesMapPartly
-  open_cut changes words cut =
-      let keeps = keeps_side_both old cleared new layout.side clears.keeps cut.keeps in
+  open_cut _ words cut =
+      let keeps = keeps_side_both _ _ _ _ clears.keeps cut.keeps in
       record {
         left = λ _. inr (record {
-          wear = wears_still _ old cleared new clears.wear cut.wear;
-          new_pages = subst (λ (size : Size). IsDrawnPartly (other layout.side) new blank_picture (filled_set size (layout.generation + 1) words)) keeps.same_size
-              (filled_partly (other layout.side) new (layout.generation + 1) words (cut.begun words));
-          live_pages = same_drawn layout.side old new keeps.same_size keeps.same_set;
+          wear = wears_still _ _ _ _ clears.wear cut.wear;
+          new_pages = subst (λ size. IsDrawnPartly (other layout.side) new blank_picture (filled_set size (layout.generation + 1) words)) keeps.same_size
+              (filled_partly _ new _ _ (cut.begun words));
+          live_pages = same_drawn _ _ _ keeps.same_size keeps.same_set;
         });
         cut = inl keeps;
       }
@@ -83,33 +64,31 @@ module _ (old opened : Device) (layout : Layout) (opens : IsOpened old opened la
 
   module _ (new : Device) (changes : List Change) where
     same_map : map_in layout.side opened ≡ map_in layout.side old
-    same_map = fun_ext (side_map old opened layout.side opens.keeps)
+    same_map = fun_ext (side_map _ _ _ opens.keeps)
 
     pub is_filled : (count : ℕ) → let map = map_in layout.side opened in Filled opened new layout 0 (moved_words changes map) (changed_by changes map) count → count ≡ live_in (changed_by changes map)
         → IsFilledWith old new layout changes (moved_words changes (map_in layout.side old)) count
     is_filled count filled once =
-        let fills = subst (λ (map : Map). Filled opened new layout 0 (moved_words changes map) (changed_by changes map) count) same_map filled in
+        let fills = subst (λ map. Filled opened new layout 0 (moved_words changes map) (changed_by changes map) count) same_map filled in
         record {
-          keeps = keeps_side_both old opened new layout.side opens.keeps fills.keeps;
+          keeps = keeps_side_both _ _ _ _ opens.keeps fills.keeps;
           filling = fills.filling;
           map_is = fills.map_is;
-          as_many = omega (arith, fills.as_many);
-          each_once = once ∙ ap (λ (map : Map). live_in (changed_by changes map)) same_map;
+          as_many = omega arith;
+          each_once = once ∙ ap (λ map. live_in (changed_by changes map)) same_map;
           holds = fills.adds.new_pages [] refl opens.holds;
-          wear = wears_still _ old opened new opens.wear fills.wear;
+          wear = wears_still _ _ _ _ opens.wear fills.wear;
         }
 
     pub fill_cut : FilledPartly opened new layout 0 (moved_words changes (map_in layout.side opened)) → MapMovedPartly old new layout changes (moved_words changes (map_in layout.side old)) MovesMapPartly
     fill_cut cut =
-        let keeps = keeps_side_both old opened new layout.side opens.keeps cut.keeps in
-        let words = moved_words changes (map_in layout.side old) in
-        let adds = subst (λ (map : Map). AddsPartly opened new layout.side (layout.generation + 1) 0 (moved_words changes map)) same_map cut.begun in
+        let keeps = keeps_side_both _ _ _ _ opens.keeps cut.keeps in
         record {
           left = λ _. inr (record {
-            wear = wears_still _ old opened new opens.wear cut.wear;
-            new_pages = subst (λ (size : Size). IsDrawnPartly (other layout.side) new blank_picture (filled_set size (layout.generation + 1) words)) keeps.same_size
-                (filled_partly (other layout.side) new (layout.generation + 1) words (adds.new_pages [] refl opens.holds));
-            live_pages = same_drawn layout.side old new keeps.same_size keeps.same_set;
+            wear = wears_still _ _ _ _ opens.wear cut.wear;
+            new_pages = subst (λ size. IsDrawnPartly (other layout.side) new blank_picture (filled_set size (layout.generation + 1) (moved_words changes (map_in layout.side old)))) keeps.same_size
+                (filled_partly _ new _ _ ((subst (λ map. AddsPartly opened new layout.side (layout.generation + 1) 0 (moved_words changes map)) same_map cut.begun).new_pages [] refl opens.holds));
+            live_pages = same_drawn _ _ _ keeps.same_size keeps.same_set;
           });
           cut = inl keeps;
         }
@@ -119,7 +98,7 @@ module _ (old filled new : Device) (layout : Layout) (changes : List Change) (wo
   has_moved same committed = record {
     live = committed.live;
     same_size = committed.same_size ∙ fills.keeps.same_size;
-    map_is = λ address. ap (λ (slots : List Word). meaning slots address) committed.same_slots ∙ fills.map_is address;
+    map_is = λ address. ap (λ slots. meaning slots address) committed.same_slots ∙ fills.map_is address;
     fill_is = ap fill_of committed.same_slots ∙ fills.filling.fill ∙ fills.each_once;
     pending_is = ap pending_of (same ∙ fills.keeps.same_set);
   }
@@ -129,33 +108,33 @@ module _ (old filled new : Device) (layout : Layout) (changes : List Change) (wo
     moved = has_moved done.same_set done.committed;
     as_many = fills.as_many;
     each_once = fills.each_once;
-    new_pages = commits (other layout.side) filled new (layout.generation + 1) words fills.keeps.formed done.committed.same_size done.sets fills.holds;
-    live_pages = same_drawn layout.side old new (done.committed.same_size ∙ fills.keeps.same_size) (done.same_set ∙ fills.keeps.same_set);
-    wear = wears_still _ old filled new fills.wear done.wear;
+    new_pages = commits _ _ _ _ _ fills.keeps.formed done.committed.same_size done.sets fills.holds;
+    live_pages = same_drawn _ _ _ (done.committed.same_size ∙ fills.keeps.same_size) (done.same_set ∙ fills.keeps.same_set);
+    wear = wears_still _ _ _ _ fills.wear done.wear;
   }
 
   pub commit_cut : OtherCommittedPartly filled new layout → MapMovedPartly old new layout changes words MovesMapPartly
   commit_cut cut = record {
     left = λ _. inr (record {
-      wear = wears_still _ old filled new fills.wear cut.wear;
-      new_pages = subst (λ (size : Size). IsDrawnPartly (other layout.side) new blank_picture (filled_set size (layout.generation + 1) words)) fills.keeps.same_size (cut.begun words fills.holds);
-      live_pages = same_drawn layout.side old new (cut.same_size ∙ fills.keeps.same_size) (cut.same_set ∙ fills.keeps.same_set);
+      wear = wears_still _ _ _ _ fills.wear cut.wear;
+      new_pages = subst (λ size. IsDrawnPartly (other layout.side) new blank_picture (filled_set size (layout.generation + 1) words)) fills.keeps.same_size (cut.begun words fills.holds);
+      live_pages = same_drawn _ _ _ (cut.same_size ∙ fills.keeps.same_size) (cut.same_set ∙ fills.keeps.same_set);
     });
     cut = elim cut.cut [
-      | inl keeps ↦ inl (keeps_side_both old filled new layout.side fills.keeps keeps)
+      | inl keeps ↦ inl (keeps_side_both _ _ _ _ fills.keeps keeps)
       | inr committed ↦ inr (has_moved cut.same_set committed)
     ];
   }
 
 -- a cut before the marks of the set that was live
 pub map_cut : (old new : Device) (layout : Layout) (changes : List Change) (words : List Word) → MapMovedPartly old new layout changes words MovesMapPartly → MapMovedPartly old new layout changes words MovesPartly
-map_cut old new layout changes words partly = record {
+map_cut _ new _ _ _ partly = record {
   left = λ on. elim (partly.left on) [
     | inl erasing ↦ inl erasing
     | inr moving ↦ inr (record {
       wear = moving.wear;
       new_pages = moving.new_pages;
-      old_pages = drawn_before layout.side new (picture_of layout.side old) (retired_pages (is_used layout.side old) (picture_of layout.side old)) moving.live_pages;
+      old_pages = drawn_before _ new _ _ moving.live_pages;
     })
   ];
   cut = partly.cut;
@@ -164,40 +143,40 @@ map_cut old new layout changes words partly = record {
 -- the marks behind that
 module _ (old mid new : Device) (layout : Layout) (side : Side) (changes : List Change) (words : List Word) (count : ℕ) (formed : IsFormed old) (moves : MapMoved old mid layout changes words count) (to : side ≡ other layout.side) (stays : Stays mid new side (layout.generation + 1)) where
   stays_there : Stays mid new (other layout.side) (layout.generation + 1)
-  stays_there = subst (λ (set : Side). Stays mid new set (layout.generation + 1)) to stays
+  stays_there = search rules
 
   fill : fill_of (slots_of (set_of (other layout.side) mid)) ≡ length words
-  fill = moves.moved.fill_is ∙ sym moves.each_once ∙ moves.as_many
+  fill = search rules
 
   still : HasMoved old new layout.side layout.generation changes
-  still = moved_stays old mid new layout.side layout.generation changes moves.moved stays_there
+  still = moved_stays _ _ _ _ _ _ moves.moved stays_there
 
   pub set_moved : (current : ℕ) → let after : Layout = record { side = side; generation = layout.generation + 1; fill = count; current = current } in IsLayout mid after → ShowsMarks mid new side → IsMarked new side → SetMoved old new layout after changes words
-  set_moved current found shows marked =
-      let shown = subst (λ (set : Side). ShowsMarks mid new set) to shows in
+  set_moved _ found shows marked =
+      let shown = subst (λ set. ShowsMarks mid new set) to shows in
       record {
         moved = still;
         as_many = moves.as_many;
-        layout_is = layout_stays _ mid new found stays;
+        layout_is = layout_stays _ _ _ found stays;
         other_set = to;
-        marked = subst (λ (set : Side). IsMarked new set) to marked;
-        new_pages = subst (λ (size : Size). IsDrawn (other layout.side) new (filled_set size (layout.generation + 1) words)) moves.moved.same_size
-            (filled_up (other layout.side) mid new (layout.generation + 1) words stays_there.keeps.same_size moves.new_pages fill shown.live_pages);
-        old_pages = all_retired layout.side old mid new formed moves.moved.live.formed moves.moved.same_size stays_there.keeps.same_size moves.live_pages
-            (subst (λ (set : Side). IsDrawn set new (retired_pages (is_used set mid) (picture_of set mid))) (other_twice layout.side) shown.old_pages);
-        wear = wears_still _ old mid new moves.wear stays.same_wear;
+        marked = subst (λ set. IsMarked new set) to marked;
+        new_pages = subst (λ size. IsDrawn (other layout.side) new (filled_set size (layout.generation + 1) words)) moves.moved.same_size
+            (filled_up _ _ new _ _ stays_there.keeps.same_size moves.new_pages fill shown.live_pages);
+        old_pages = all_retired _ _ _ new formed moves.moved.live.formed moves.moved.same_size stays_there.keeps.same_size moves.live_pages
+            (subst (λ set. IsDrawn set new (retired_pages (is_used set mid) (picture_of set mid))) (other_twice _) shown.old_pages);
+        wear = wears_still _ _ _ _ moves.wear stays.same_wear;
       }
 
   pub mark_cut : ShowsCutMarks mid new side → MapMovedPartly old new layout changes words MovesPartly
   mark_cut shows =
-      let shown = subst (λ (set : Side). ShowsCutMarks mid new set) to shows in
+      let shown = subst (λ set. ShowsCutMarks mid new set) to shows in
       record {
         left = λ _. inr (record {
-          wear = wears_still _ old mid new moves.wear stays.same_wear;
-          new_pages = subst (λ (size : Size). IsDrawnPartly (other layout.side) new blank_picture (filled_set size (layout.generation + 1) words)) moves.moved.same_size
-              (marked_partly (other layout.side) mid new (layout.generation + 1) (last_used mid (other layout.side)) words stays_there.keeps.same_size moves.new_pages (ap (λ n. page_of_slot mid.size (n - 1)) fill) shown.live_pages);
-          old_pages = retires_partly layout.side old mid new formed moves.moved.live.formed moves.moved.same_size stays_there.keeps.same_size moves.live_pages
-              (subst (λ (set : Side). IsDrawnPartly set new (picture_of set mid) (retired_pages (is_used set mid) (picture_of set mid))) (other_twice layout.side) shown.old_pages);
+          wear = wears_still _ _ _ _ moves.wear stays.same_wear;
+          new_pages = subst (λ size. IsDrawnPartly (other layout.side) new blank_picture (filled_set size (layout.generation + 1) words)) moves.moved.same_size
+              (marked_partly _ mid new _ _ _ stays_there.keeps.same_size moves.new_pages (ap (λ n. page_of_slot mid.size (n - 1)) fill) shown.live_pages);
+          old_pages = retires_partly _ _ _ new formed moves.moved.live.formed moves.moved.same_size stays_there.keeps.same_size moves.live_pages
+              (subst (λ set. IsDrawnPartly set new (picture_of set mid) (retired_pages (is_used set mid) (picture_of set mid))) (other_twice _) shown.old_pages);
         });
         cut = inr still;
       }

@@ -1,160 +1,102 @@
 -- What programming a mark leaves of its device, in every outcome.
-use Rattle.std.proofs.Common.{rules, ◌≡◌, ◌⊎◌, inl, inr, ℕ, ◌+◌, ◌-◌, ◌<◌, ◌≤◌, true, false, List, [], length, get_or, set, Result, Ok, Err, OnOk, OnErr, refl, sym, subst, ap, ◌∙◌, arith}
-use Rattle.std.proofs.lemmas.Bool.{cases_Bool, cases_eq}
-use Rattle.std.proofs.lemmas.List.{get_or-set_other, get_or-set_same}
-use Rattle.std.proofs.lemmas.List.Elements.{All-get_or}
-use Rattle.ee_codec.specs.Words.{IsGeneration}
-use Rattle.ee_flash.specs.Device.{Device, IsFormed, IsOn, all_ones, page_at}
-use Rattle.ee_flash.specs.Laws.{IsStep}
-use Rattle.ee_flash.specs.Size.{Size, page_count}
-use Rattle.ee_flash.specs.Step.{Step, Program, IsCutIn, IsUntouched, MayFollow, device_after}
+use Rattle.ee_core.proofs.Base.{rules, ◌≡◌, ◌⊎◌, inl, inr, ℕ, ◌-◌, ◌<◌, ◌≤◌, true, false, List, [], length, get_or, set, Result, Ok, Err, OnOk, OnErr, refl, sym, subst, ap, ◌∙◌, arith, get_or-set_same, All-get_or, IsGeneration, Device, IsFormed, IsOn, all_ones, page_at, IsStep, page_count, Step, Program, IsCutIn, IsUntouched, MayFollow, device_after, Word, step_leaves_pages, IsPageOf, IsLive, is_blank, is_marked, is_written, marking, number_of_mark, place_of_mark, word_in, IsMarkBehind, first_page, other, Side, Mark, Receive, Active, Valid, Erasing, other_set_keeps_live, program_leaves_written, step_keeps_other_pages, mark_keeps_live, erased_word, first_below, KeepsMarks, Stays}
 use Rattle.ee_flash.specs.declared.device.Cut.{Cut}
-use Rattle.ee_flash.specs.declared.word.Word.{Word}
-use Rattle.ee_flash.specs.declared.word.Word.TheVariants.{Erased, Held, Torn}
-use Rattle.ee_flash.proofs.Public.{step_leaves_pages}
-use Rattle.ee_pages.specs.Laws.{IsPageOf}
-use Rattle.ee_pages.specs.Legal.{IsLive}
-use Rattle.ee_pages.specs.Page.{is_blank, is_marked, is_written, marking, number_of_mark, place_of_mark, word_in}
-use Rattle.ee_pages.specs.Pushing.{IsMarkBehind}
-use Rattle.ee_pages.specs.Sets.{first_page, other, set_of}
-use Rattle.ee_pages.specs.declared.side.Side.{Side}
-use Rattle.ee_pages.specs.declared.state.Mark.{Mark}
-use Rattle.ee_pages.specs.declared.state.Mark.TheVariants.{Receive, Active, Valid, Erasing}
-use Rattle.ee_pages.proofs.Public.{other_set_keeps_live, program_leaves_written, step_keeps_other_pages, mark_keeps_live, erased_word, first_below}
 use Rattle.ee_core.proofs.PendingPages.{same_not_blank}
-use Rattle.ee_core.specs.CallSteps.{KeepsMarks, Stays}
-use Rattle.ee_core.specs.State.{not_blank_from}
 
 -- a written word stays one where a word of the pages gets written
 written_stays : (image : List (List Word)) (page at : ℕ) (word : Word) (p k : ℕ) → page < length image → at < length (get_or image page []) → is_written word ≡ true → is_written (word_in (get_or image p []) k) ≡ true → is_written (word_in (get_or (set image page (set (get_or image page []) at word)) p []) k) ≡ true
-written_stays image page at word p k h within written was =
-    let words = get_or image page [] in
-    elim (cases_eq p page) [
-      | inr apart ↦ ap (λ (found : List Word). is_written (word_in found k)) (get_or-set_other image page p (set words at word) [] apart) ∙ was
-      | inl same ↦
-          let there : is_written (word_in (set words at word) k) ≡ true = elim (cases_eq k at) [
-            | inr elsewhere ↦ ap is_written (get_or-set_other words at k word Erased elsewhere) ∙ ap (λ n. is_written (word_in (get_or image n []) k)) (sym same) ∙ was
-            | inl here ↦ ap (λ n. is_written (word_in (set words at word) n)) here ∙ ap is_written (get_or-set_same words at word Erased within) ∙ written
-          ] in
-          ap (λ n. is_written (word_in (get_or (set image page (set words at word)) n []) k)) same
-          ∙ ap (λ (found : List Word). is_written (word_in found k)) (get_or-set_same image page (set words at word) [] h)
-          ∙ there
-    ]
+written_stays image page at word p k h within written was = search rules
 
 -- no outcome of a program makes a written word erased
 pub program_keeps_marks : (page at value : ℕ) (old new : Device) → IsStep (Program page at value) old new → KeepsMarks old new
-program_keeps_marks page at value old new taken p mark was =
-    let k = place_of_mark mark in
-    let in_range : page < length old.image = omega (arith, taken.formed.image_length, taken.may.0) in
-    let long = All-get_or (λ words. length words ≡ old.size.words) old.image page [] in_range taken.formed.page_lengths in
-    let within : at < length (page_at old page) = omega (arith, long, taken.may.1) in
-    elim (step_leaves_pages (Program page at value) old new taken) [
-      | inl same ↦ ap (λ (image : List (List Word)). is_written (word_in (get_or image p []) k)) same ∙ was
-      | inr (inl held) ↦ ap (λ (image : List (List Word)). is_written (word_in (get_or image p []) k)) held ∙ written_stays old.image page at (Held value) p k in_range within refl was
-      | inr (inr torn) ↦ ap (λ (image : List (List Word)). is_written (word_in (get_or image p []) k)) torn ∙ written_stays old.image page at Torn p k in_range within refl was
-    ]
+program_keeps_marks page at value old _ taken p mark was = search (rules, All-get_or, step_leaves_pages, written_stays)
 
 -- nor wears a page
 pub program_keeps_wear : (page at value : ℕ) (old new : Device) → MayFollow (Program page at value) old new → new.wear ≡ old.wear
-program_keeps_wear page at value old new (inl done) = ap (λ (device : Device). device.wear) done.done
-program_keeps_wear page at value old new (inr (inl cut)) = cut.wear
-program_keeps_wear page at value old new (inr (inr untouched)) = ap (λ (device : Device). device.wear) untouched.same
+program_keeps_wear _ _ _ _ _ (inl done) = ap (λ device. device.wear) done.done
+program_keeps_wear _ _ _ _ _ (inr (inl cut)) = cut.wear
+program_keeps_wear _ _ _ _ _ (inr (inr untouched)) = ap (λ device. device.wear) untouched.same
 
 -- a generation in a receive word is a proper one
 abbrev pub IsProper : Mark → Type 0
 IsProper mark = (generation : ℕ) → mark ≡ Receive generation → IsGeneration generation
 
 number_below : (mark : Mark) → IsProper mark → number_of_mark mark < all_ones
-number_below (Receive generation) proper = let fits = proper generation refl in omega (arith, fits.1)
-number_below Active proper = omega arith
-number_below Valid proper = omega arith
-number_below Erasing proper = omega arith
+number_below (Receive generation) proper = let fits = proper generation refl in omega arith
+number_below Active _ = omega arith
+number_below Valid _ = omega arith
+number_below Erasing _ = omega arith
 
 pub place_below : (mark : Mark) → place_of_mark mark < 4
-place_below (Receive generation) = omega arith
+place_below (Receive _) = omega arith
 place_below Active = omega arith
 place_below Valid = omega arith
 place_below Erasing = omega arith
 
 -- the step of a mark that is not set
 pub mark_step : (page : ℕ) (mark : Mark) (old new : Device) → IsFormed old → page < page_count old.size → IsProper mark → is_marked old page mark ≡ false → MayFollow (marking page mark) old new → IsStep (marking page mark) old new
-mark_step page mark old new formed h proper unset follows = search (rules, place_below, erased_word, number_below)
+mark_step _ _ _ _ formed h proper unset follows = search (rules, place_below, erased_word, number_below)
 
 follows_by : (step : Step) (old new : Device) (result : Result Unit Cut) → OnOk result (IsOn old) → OnOk result (new ≡ device_after step old) → OnErr result (IsCutIn step old new ⊎ IsUntouched old new) → MayFollow step old new
-follows_by step old new (Ok unit) on done cut = inl (record { was_on = on; done = done })
-follows_by step old new (Err fault) on done cut = inr cut
+follows_by _ _ _ (Ok _) on done _ = inl (record { was_on = on; done = done })
+follows_by _ _ _ (Err _) _ _ cut = inr cut
 
 -- marking takes the mark's step, or none where the mark is set
 pub marks : (page : ℕ) (mark : Mark) (old new : Device) (result : Result Unit Cut) → IsFormed old → page < page_count old.size → IsProper mark → (is_marked old page mark ≡ true → (result ≡ Ok tt) × (new ≡ old)) → (is_marked old page mark ≡ false → OnOk result (IsOn old)) → (is_marked old page mark ≡ false → OnOk result (new ≡ device_after (marking page mark) old)) → OnErr result (IsCutIn (marking page mark) old new ⊎ IsUntouched old new) → (new ≡ old) ⊎ IsStep (marking page mark) old new
-marks page mark old new result formed h proper present on done cut = elim (cases_Bool (is_marked old page mark)) [
-  | inl set ↦ inl ((present set).1)
-  | inr unset ↦ inr (mark_step page mark old new formed h proper unset (follows_by (marking page mark) old new result (on unset) (done unset) cut))
-]
+marks page mark old new result formed h proper present on done cut = search (rules, mark_step, follows_by)
 
 pub same_keeps_marks : (old new : Device) → new ≡ old → KeepsMarks old new
-same_keeps_marks old new same page mark was = ap (λ (device : Device). is_marked device page mark) same ∙ was
+same_keeps_marks _ _ same page mark was = search rules
 
 pub mark_keeps_marks : (page : ℕ) (mark : Mark) (old new : Device) → (new ≡ old) ⊎ IsStep (marking page mark) old new → KeepsMarks old new
-mark_keeps_marks page mark old new (inl same) = same_keeps_marks old new same
+mark_keeps_marks _ _ old new (inl same) = same_keeps_marks old new same
 mark_keeps_marks page mark old new (inr taken) = program_keeps_marks page (place_of_mark mark) (number_of_mark mark) old new taken
 
 -- nothing changed
 pub same_stays : (old new : Device) (side : Side) (generation : ℕ) → IsLive old side generation → new ≡ old → Stays old new side generation
-same_stays old new side generation live same = search rules
+same_stays _ _ _ _ live same = search rules
 
 -- a mark of the live set, behind written slots
 pub live_mark_stays : (page : ℕ) (mark : Mark) (old new : Device) (side : Side) (generation : ℕ) → IsLive old side generation → first_page old.size side ≤ page → IsMarkBehind old side (page - first_page old.size side) mark → (new ≡ old) ⊎ IsStep (marking page mark) old new → Stays old new side generation
-live_mark_stays page mark old new side generation live from behind (inl same) = same_stays old new side generation live same
+live_mark_stays _ _ old new side generation live _ _ (inl same) = same_stays old new side generation live same
 live_mark_stays page mark old new side generation live from behind (inr taken) =
-    let place : page ≡ first_page old.size side + (page - first_page old.size side) = omega (arith, from) in
-    let step = subst (λ n. IsStep (marking n mark) old new) place taken in
-    let kept = mark_keeps_live (page - first_page old.size side) mark old new side generation live behind step in
-    record {
-      keeps = kept.0;
-      same_pending = ap (λ (size : Size). not_blank_from (first_page size (other side)) (set_of (other side) new)) kept.0.same_size ∙ ap (not_blank_from (first_page old.size (other side))) kept.1;
-      same_wear = program_keeps_wear page (place_of_mark mark) (number_of_mark mark) old new taken.follows;
-    }
+    let step = subst (λ n. IsStep (marking n mark) old new) (omega arith) taken in
+    let kept = mark_keeps_live _ _ _ _ _ _ live behind step in
+    search (rules, program_keeps_wear)
 
 -- a mark, in the other set, of a page that may be erased
 pub old_mark_stays : (page : ℕ) (old new : Device) (side : Side) (generation : ℕ) → IsLive old side generation → IsPageOf old.size (other side) page → is_blank (page_at old page) ≡ false → (new ≡ old) ⊎ IsStep (marking page Erasing) old new → Stays old new side generation
-old_mark_stays page old new side generation live of written (inl same) = same_stays old new side generation live same
-old_mark_stays page old new side generation live of written (inr taken) =
-    let kept = other_set_keeps_live (marking page Erasing) old new side generation live taken of ((λ first one. cc), (λ first zero. cc)) in
-    let still : is_blank (page_at new page) ≡ false = elim (program_leaves_written page 3 (number_of_mark Erasing) old new taken) [
-      | inl same ↦ ap (λ (image : List (List Word)). is_blank (get_or image page [])) same ∙ written
-      | inr more ↦ more
-    ] in
+old_mark_stays _ old new side generation live _ _ (inl same) = same_stays old new side generation live same
+old_mark_stays page old new _ _ live of written (inr taken) =
+    let kept = other_set_keeps_live _ _ _ _ _ live taken of ((λ first one. cc), (λ first zero. cc)) in
     record {
       keeps = kept.0;
-      same_pending = same_not_blank (other side) old new page live.formed kept.0.live.formed kept.0.same_size of (λ p apart. step_keeps_other_pages (marking page Erasing) old new p taken apart) (still ∙ sym written);
-      same_wear = program_keeps_wear page 3 (number_of_mark Erasing) old new taken.follows;
+      same_pending = same_not_blank _ _ _ _ live.formed kept.0.live.formed kept.0.same_size of (λ p apart. step_keeps_other_pages _ _ _ p taken apart) ((elim (program_leaves_written _ 3 _ _ _ taken) [ | inl same ↦ ap (λ image. is_blank (get_or image page [])) same ∙ written | inr more ↦ more ]) ∙ sym written);
+      same_wear = search (rules, program_keeps_wear);
     }
 
 -- a page of a set is one of the device
 pub page_in_device : (device : Device) (side : Side) (page : ℕ) → first_page device.size side ≤ page → page - first_page device.size side < device.size.pages → page < page_count device.size
-page_in_device device side page from below = let first = first_below device side in omega (arith, from, below)
+page_in_device device side _ _ below = let first = first_below device side in omega arith
 
 pub proper_live : (mark : Mark) → (mark ≡ Active) ⊎ (mark ≡ Valid) → IsProper mark
-proper_live (Receive generation) (inl e) = cc
-proper_live (Receive generation) (inr e) = cc
-proper_live Active either = λ generation e. cc
-proper_live Valid either = λ generation e. cc
-proper_live Erasing either = λ generation e. cc
+proper_live (Receive _) (inl e) = cc
+proper_live (Receive _) (inr e) = cc
+proper_live Active _ = λ generation e. cc
+proper_live Valid _ = λ generation e. cc
+proper_live Erasing _ = λ generation e. cc
 
 pub proper_old : IsProper Erasing
-proper_old generation e = cc
+proper_old _ e = cc
 
 -- the word of a whole mark is written
 pub marked_by : (page : ℕ) (mark : Mark) (old new : Device) → IsStep (marking page mark) old new → new ≡ device_after (marking page mark) old → is_marked new page mark ≡ true
-marked_by page mark old new taken whole = search (rules, All-get_or, get_or-set_same)
+marked_by _ _ _ _ taken whole = search (rules, All-get_or, get_or-set_same)
 
 -- it was before, or is now
 pub marked_after : (page : ℕ) (mark : Mark) (old new : Device) → IsFormed old → page < page_count old.size → IsProper mark → (is_marked old page mark ≡ true → new ≡ old) → (is_marked old page mark ≡ false → IsOn old) → (is_marked old page mark ≡ false → new ≡ device_after (marking page mark) old) → is_marked new page mark ≡ true
-marked_after page mark old new formed h proper same on done = elim (cases_Bool (is_marked old page mark)) [
-  | inl set ↦ ap (λ (device : Device). is_marked device page mark) (same set) ∙ set
-  | inr unset ↦ marked_by page mark old new (mark_step page mark old new formed h proper unset (inl (record { was_on = on unset; done = done unset }))) (done unset)
-]
+marked_after page mark old new formed h proper same on done = search (rules, marked_by, mark_step)
 
 -- of the numbers that a receive word may have, this is the one
 pub one_receive : (number : ℕ) → IsGeneration number → (generation : ℕ) → Receive number ≡ Receive generation → IsGeneration generation
-one_receive number proper generation is = subst IsGeneration (cc is) proper
+one_receive _ proper _ is = subst IsGeneration (cc is) proper

@@ -1,60 +1,22 @@
 -- The pictures of both sets from the first step of a transfer to the last.
-use Rattle.std.proofs.Common.{rules, ◌≡◌, inl, inr, ℕ, ◌+◌, ◌-◌, ◌*◌, ◌<◌, ◌≤◌, true, List, [], length, get_or, refl, sym, ap, ◌∙◌, arith}
-use Rattle.std.specs.Prelude.{◌==◌, ◌&&◌, not, nat_lt, if◌then◌else◌}
-use Rattle.std.specs.List.{All}
-use Rattle.std.proofs.Math.Nat.{zero-div}
-use Rattle.std.proofs.lemmas.Bool.{cases_Bool, cases_eq, cases_lt, eq-eqb, le-leb, le-ltb, lt-leb, lt-ltb, ne_eqb}
-use Rattle.std.proofs.lemmas.List.{ext_get_or, get_or_past}
-use Rattle.std.proofs.lemmas.List.Elements.{All-drop, All-get_or, All-take}
+use Rattle.ee_core.proofs.Base.{rules, ◌≡◌, ℕ, ◌+◌, ◌-◌, ◌*◌, ◌<◌, true, List, [], length, get_or, refl, sym, ap, ◌∙◌, arith, ◌==◌, ◌&&◌, if◌then◌else◌, All, zero-div, ext_get_or, get_or_past, All-drop, All-get_or, All-take, prefix_len_passes, row_fits, Device, IsFormed, page_at, Size, slot_count, Word, Erased, length-page_at, IsPageOf, IsLive, is_blank, is_written, fill_of, first_page, front, page_of_slot, set_of, slots_of, Side, First, Second, Active, Receive, fill-front, get_or-slots_of, length-set_of, pages-set_of, blank_word, Holds, IsCommittedWith, SetsMark, opened_set, last_used, IsDrawn, Picture, blank_picture, filled_set, is_used, mark_where, marked_to, picture_of, retired_pages}
 use Rattle.std.proofs.lemmas.List.Folds.{list_any_at}
-use Rattle.std.proofs.lemmas.List.Sums.{prefix_len_passes}
-use Rattle.std.proofs.lemmas.Nat.{row_fits}
-use Rattle.ee_flash.specs.Device.{Device, IsFormed, page_at}
-use Rattle.ee_flash.specs.Size.{Size, slot_count}
-use Rattle.ee_flash.specs.declared.word.Word.{Word}
-use Rattle.ee_flash.specs.declared.word.Word.TheVariants.{Erased}
-use Rattle.ee_flash.proofs.Public.{length-page_at}
-use Rattle.ee_pages.specs.Laws.{IsPageOf}
-use Rattle.ee_pages.specs.Legal.{IsLive, slots_before}
-use Rattle.ee_pages.specs.Page.{is_blank, is_written}
-use Rattle.ee_pages.specs.Sets.{fill_of, first_page, front, page_of_slot, set_of, slots_of}
-use Rattle.ee_pages.specs.declared.side.Side.{Side}
-use Rattle.ee_pages.specs.declared.side.Side.TheVariants.{First, Second}
-use Rattle.ee_pages.specs.declared.state.Mark.TheVariants.{Active, Receive}
-use Rattle.ee_pages.proofs.Public.{fill-front, get_or-slots_of, length-set_of, pages-set_of, blank_word}
 use Rattle.ee_core.proofs.Drawings.{drawn_as, drawn_both, mark_drawn, marked-written, put_apart, with_mark, with_word-elsewhere, with_word-there}
 use Rattle.ee_core.proofs.SetPages.{page_in_device, page_of_set}
-use Rattle.ee_core.specs.CallSteps.{Holds, IsCommittedWith, SetsMark, opened_set}
-use Rattle.ee_core.specs.Finished.{last_used}
-use Rattle.ee_core.specs.Picture.{IsDrawn, Picture, blank_picture, filled_set, is_used, mark_where, marked_to, picture_of, retired_pages}
 
 -- blank pages
 pub blank_drawn : (side : Side) (device : Device) → IsFormed device → All (λ page. is_blank page ≡ true) (set_of side device) → IsDrawn side device blank_picture
-blank_drawn side device formed all page at h within = search (rules, length-set_of, page_of_set, blank_word, All-get_or)
+blank_drawn _ device formed all page at h within = search (rules, length-set_of, page_of_set, blank_word, All-get_or)
 
 pub first_opened : (size : Size) (generation page at : ℕ) → with_mark 0 (Receive generation) blank_picture page at ≡ opened_set size generation (page_of_slot size (0 - 1)) [] page at
-first_opened size generation page at = elim (cases_eq at 0) [
-  | inr away ↦
-      with_word-elsewhere 0 0 _ blank_picture page at (inr away)
-      ∙ elim (cases_lt 3 at) [
-        | inl slot ↦ rw (lt-ltb 3 at slot) (sym (get_or_past [] (slots_before size page at) Erased (omega arith)))
-        | inr low ↦ rw (le-ltb 3 at low, ne_eqb at 0 away) refl
-      ]
-  | inl zeroth ↦ elim (cases_eq page 0) [
-    | inl here ↦ with_word-there 0 0 _ blank_picture page at here zeroth ∙ rw (zeroth, here, le-leb 0 (page_of_slot size (0 - 1)) (omega arith)) refl
-    | inr away ↦
-        let last : page_of_slot size (0 - 1) ≡ 0 = zero-div (size.words - 4) in
-        let beyond : page_of_slot size (0 - 1) < page = omega (arith, last) in
-        with_word-elsewhere 0 0 _ blank_picture page at (inl away) ∙ rw (zeroth, lt-leb page (page_of_slot size (0 - 1)) beyond) refl
-  ]
-]
+first_opened size _ page at = search (rules, with_word-elsewhere, get_or_past, with_word-there)
 
 pub opens_blank : (side : Side) (old new : Device) (generation : ℕ) → IsFormed old → new.size ≡ old.size → All (λ page. is_blank page ≡ true) (set_of side old) → SetsMark (first_page old.size side) (Receive generation) old new → Holds new side generation []
-opens_blank side old new generation formed sizes all sets = search (rules, drawn_as, with_mark, mark_drawn, blank_drawn, first_opened)
+opens_blank _ _ _ _ formed sizes all sets = search (rules, drawn_as, with_mark, mark_drawn, blank_drawn, first_opened)
 
 -- the mark that commits the set
 pub commits : (side : Side) (old new : Device) (generation : ℕ) (words : List Word) → IsFormed old → new.size ≡ old.size → SetsMark (first_page old.size side) Active old new → Holds old side generation words → IsCommittedWith new side generation words
-commits side old new generation words formed sizes sets holds = search (rules, mark_drawn, with_mark)
+commits _ _ _ _ _ _ sizes sets holds = search (rules, mark_drawn, with_mark)
 
 -- with the marks of a live set, it is the set that a transfer leaves
 abbrev pub committed : Size → ℕ → List Word → Picture
@@ -63,43 +25,21 @@ committed size generation words page at =
     else opened_set size generation (page_of_slot size (length words - 1)) words page at
 
 pub all_marked : (size : Size) (generation : ℕ) (words : List Word) (page at : ℕ) → marked_to (page_of_slot size (length words - 1)) (committed size generation words) page at ≡ filled_set size generation words page at
-all_marked size generation words page at = elim (cases_lt 3 at) [
-  | inl slot ↦ rw (ne_eqb at 2 (λ e. omega (arith, e)), ne_eqb at 1 (λ e. omega (arith, e)), lt-ltb 3 at slot) (elim (cases_Bool (page == 0)) [ inl zeroth ↦ rw zeroth refl | inr further ↦ rw further refl ])
-  | inr low ↦ elim (cases_eq at 0) [
-    | inl zeroth ↦ rw zeroth (elim (cases_Bool (page == 0)) [ inl first ↦ rw first refl | inr further ↦ rw further refl ])
-    | inr not_zero ↦ elim (cases_eq at 1) [
-      | inl one ↦ rw one (elim (cases_Bool (page == page_of_slot size (length words - 1))) [
-        | inl last ↦ rw last (elim (cases_Bool (page == 0)) [ inl first ↦ rw first refl | inr further ↦ rw further refl ])
-        | inr apart ↦ rw apart (elim (cases_Bool (page == 0)) [ inl first ↦ rw first refl | inr further ↦ rw further refl ])
-      ])
-      | inr not_one ↦ elim (cases_eq at 2) [
-        | inl two ↦ rw two (elim (cases_Bool (page == 0)) [
-          | inl first ↦ rw first (elim (cases_Bool (nat_lt page (page_of_slot size (length words - 1)))) [ inl before ↦ rw before refl | inr behind ↦ rw behind refl ])
-          | inr further ↦ rw further (elim (cases_Bool (nat_lt page (page_of_slot size (length words - 1)))) [ inl before ↦ rw before refl | inr behind ↦ rw behind refl ])
-        ])
-        | inr not_two ↦
-            let three : at ≡ 3 = omega arith in
-            rw three (elim (cases_Bool (page == 0)) [ inl first ↦ rw first refl | inr further ↦ rw further refl ])
-      ]
-    ]
-  ]
-]
+all_marked size _ words page at = search rules
 
 pub filled_up : (side : Side) (mid new : Device) (generation : ℕ) (words : List Word) → new.size ≡ mid.size → IsCommittedWith mid side generation words → fill_of (slots_of (set_of side mid)) ≡ length words → IsDrawn side new (marked_to (last_used mid side) (picture_of side mid)) → IsDrawn side new (filled_set mid.size generation words)
-filled_up side mid new generation words sizes held fill drawn page at h within = search (rules, all_marked)
+filled_up _ _ _ generation words sizes held fill drawn page at h within = search (rules, all_marked)
 
 -- where every slot is written, the first of each page is
 full_written : (side : Side) (device : Device) (generation page : ℕ) → IsLive device side generation → fill_of (slots_of (set_of side device)) ≡ slot_count device.size → page < device.size.pages → is_written (picture_of side device page 4) ≡ true
-full_written side device generation page live full h =
+full_written side device _ page live full h =
     let pages = set_of side device in
     let words = device.size.words in
-    let before = fill-front side device generation live.formed live.allowed in
-    let written : front (slots_of pages) ≡ device.size.pages * (words - 4) = omega (arith, before, full) in
-    let some : 0 < words - 4 = omega (arith, live.formed.within_limits.some_words) in
-    let row : page * (words - 4) + (words - 4) ≤ device.size.pages * (words - 4) = row_fits page (words - 4) device.size.pages (words - 4) h (omega arith) in
-    let first : is_written (get_or (slots_of pages) (page * (words - 4) + 0) Erased) ≡ true = prefix_len_passes is_written (slots_of pages) (page * (words - 4) + 0) Erased (omega (arith, written, row)) in
-    let in_range : page < length pages = omega (arith, length-set_of side device live.formed) in
-    let same = get_or-slots_of words pages page 0 (pages-set_of side device live.formed) in_range some in
+    let before = fill-front _ _ _ live.formed live.allowed in
+    let written : front (slots_of pages) ≡ device.size.pages * (words - 4) = omega arith in
+    let row = row_fits _ (words - 4) _ (words - 4) h (omega arith) in
+    let first = prefix_len_passes is_written _ (page * (words - 4) + 0) Erased (omega (arith, written, row)) in
+    let same = get_or-slots_of words pages page 0 (pages-set_of side device live.formed) (omega (arith, length-set_of side device live.formed)) (omega arith) in
     ap (λ (found : List Word). is_written (get_or found 4 Erased)) (sym (page_of_set side device page h))
     ∙ sym (ap is_written same)
     ∙ first
@@ -118,60 +58,39 @@ used_where_full side device generation page live full h =
 same_page_drawn : (side : Side) (old new : Device) (page : ℕ) → IsFormed old → IsFormed new → new.size ≡ old.size → IsDrawn side new (picture_of side old) → page < new.size.pages
     → page_at new (first_page new.size side + page) ≡ page_at old (first_page old.size side + page)
 same_page_drawn side old new page old_formed formed sizes drawn h =
-    let widths = ap (λ (size : Size). size.words) sizes in
-    let before : page < old.size.pages = omega (arith, ap (λ (size : Size). size.pages) sizes) in
-    let long = length-page_at new (first_page new.size side + page) formed (page_in_device new.size side page h) in
-    let long_before = length-page_at old (first_page old.size side + page) old_formed (page_in_device old.size side page before) in
-    ext_get_or Erased (page_at new (first_page new.size side + page)) (page_at old (first_page old.size side + page)) (omega (arith, long, long_before, widths)) (λ at within.
+    let long = length-page_at _ _ formed (page_in_device new.size side _ h) in
+    let long_before = length-page_at _ _ old_formed (page_in_device old.size side page (omega (arith, ap (λ (size : Size). size.pages) sizes))) in
+    ext_get_or Erased (page_at new (first_page new.size side + page)) (page_at old (first_page old.size side + page)) (omega (arith, long, long_before, (ap (λ size. size.words) sizes))) (λ at within.
     drawn page at h (omega (arith, within, long)))
 
 -- and so the same marks are set in it
 pub same_retired : (side : Side) (old mid : Device) → IsFormed old → IsFormed mid → mid.size ≡ old.size → IsDrawn side mid (picture_of side old)
     → (page at : ℕ) → page < mid.size.pages → at < mid.size.words → retired_pages (is_used side mid) (picture_of side mid) page at ≡ retired_pages (is_used side old) (picture_of side old) page at
-same_retired side old mid old_formed formed sizes same page at below inside =
-    ap (λ (words : List Word). retired_pages (λ p. not (is_blank words)) (picture_of side mid) page at) (same_page_drawn side old mid page old_formed formed sizes same below)
-    ∙ ap (λ (held : Word). retired_pages (is_used side old) (λ p a. held) page at) (same page at below inside)
+same_retired side old mid old_formed formed sizes same page at below inside = search (rules, same_page_drawn)
 
 pub all_retired : (side : Side) (old mid new : Device) → IsFormed old → IsFormed mid → mid.size ≡ old.size → new.size ≡ mid.size
     → IsDrawn side mid (picture_of side old) → IsDrawn side new (retired_pages (is_used side mid) (picture_of side mid))
     → IsDrawn side new (retired_pages (is_used side old) (picture_of side old))
-all_retired side old mid new old_formed formed first_sizes second_sizes same drawn page at h within =
-    drawn page at h within
-    ∙ same_retired side old mid old_formed formed first_sizes same page at (omega (arith, ap (λ (size : Size). size.pages) second_sizes)) (omega (arith, ap (λ (size : Size). size.words) second_sizes))
+all_retired side old mid _ old_formed formed first_sizes second_sizes same drawn page at h within = search (rules, same_retired)
 
 -- a set with no word needs no further mark
 no_further : (picture : Picture) (page at : ℕ) → is_written (picture 0 1) ≡ true → marked_to 0 picture page at ≡ picture page at
-no_further picture page at written = elim (cases_eq at 2) [
-  | inl two ↦ rw (eq-eqb at 2 two, le-ltb page 0 (omega arith), ne_eqb at 1 (λ e. omega (arith, e))) refl
-  | inr not_two ↦ elim (cases_eq at 1) [
-    | inr not_one ↦ rw (ne_eqb at 2 not_two, ne_eqb at 1 not_one) refl
-    | inl one ↦ elim (cases_eq page 0) [
-      | inr further ↦ rw (ne_eqb at 2 not_two, eq-eqb at 1 one, ne_eqb page 0 further) refl
-      | inl first ↦
-          let word : is_written (picture page at) ≡ true = ap (λ n. is_written (picture n at)) first ∙ ap (λ n. is_written (picture 0 n)) one ∙ written in
-          rw (ne_eqb at 2 not_two, eq-eqb at 1 one, eq-eqb page 0 first) (marked-written Active (picture page at) word)
-    ]
-  ]
-]
+no_further picture page at written = search (rules, marked-written)
 
 pub empty_set : (device : Device) (side : Side) (generation : ℕ) → IsCommittedWith device side generation [] → IsDrawn side device (filled_set device.size generation [])
-empty_set device side generation held = search (rules, zero-div, drawn_as, no_further, all_marked)
+empty_set _ _ _ held = search (rules, zero-div, drawn_as, no_further, all_marked)
+
+pub first_page_of : (device : Device) → IsFormed device → IsPageOf device.size First 0
+first_page_of _ formed = record { from = omega arith; below = omega arith }
 
 -- a device that is blank, with the marks that format sets
 module _ (old mid new : Device) (formed : IsFormed old) (mid_formed : IsFormed mid) (first_sizes : mid.size ≡ old.size) (second_sizes : new.size ≡ mid.size) (all : All (λ page. is_blank page ≡ true) old.image) (receives : SetsMark 0 (Receive 1) old mid) (active : SetsMark 0 Active mid new) where
   pub formats_first : IsDrawn First new (filled_set new.size 1 [])
-  formats_first =
-      empty_set new First 1 (commits First mid new 1 [] mid_formed second_sizes active
-      (opens_blank First old mid 1 formed first_sizes (All-take (λ (page : List Word). is_blank page ≡ true) old.size.pages old.image all) receives))
-
-  in_first : (device : Device) → IsFormed device → IsPageOf device.size First 0
-  in_first device is_formed = record { from = omega arith; below = omega (arith, is_formed.within_limits.some_pages) }
+  formats_first = search (rules, empty_set, commits, opens_blank, All-take)
 
   pub formats_second : IsDrawn Second new blank_picture
   formats_second page at h within =
-      let below : page < old.size.pages = omega (arith, ap (λ (size : Size). size.pages) second_sizes, ap (λ (size : Size). size.pages) first_sizes) in
-      let inside : at < old.size.words = omega (arith, ap (λ (size : Size). size.words) second_sizes, ap (λ (size : Size). size.words) first_sizes) in
       drawn_both Second old mid new first_sizes second_sizes
-      (put_apart Second old mid 0 0 _ first_sizes (in_first old formed) receives)
-      (put_apart Second mid new 0 1 _ second_sizes (in_first mid mid_formed) active) page at h within
-      ∙ blank_drawn Second old formed (All-drop (λ (page : List Word). is_blank page ≡ true) old.size.pages old.image all) page at below inside
+      (put_apart Second _ _ 0 0 _ first_sizes (first_page_of old formed) receives)
+      (put_apart Second _ _ 0 1 _ second_sizes (first_page_of mid mid_formed) active) page at h within
+      ∙ blank_drawn Second old formed (All-drop (λ page. is_blank page ≡ true) _ _ all) page at (omega (arith, ap (λ size. size.pages) second_sizes, ap (λ size. size.pages) first_sizes)) (omega (arith, ap (λ (size : Size). size.words) second_sizes, ap (λ (size : Size). size.words) first_sizes))

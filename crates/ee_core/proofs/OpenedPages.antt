@@ -1,195 +1,138 @@
 -- The page of the first free slot, and what marks it.
-use Rattle.std.proofs.Common.{◌≡◌, ◌≢◌, ◌⊎◌, inl, inr, ℕ, ◌+◌, ◌-◌, ◌*◌, ◌<◌, ◌≤◌, ◌/◌, ◌%◌, true, refl, sym, subst, ap, ◌∙◌, arith}
-use Rattle.std.proofs.Math.Nat.{div-add-mod, div-mul-le_self, lt-div-mul-add}
-use Rattle.std.proofs.lemmas.Bool.{cases_eq, cases_lt}
-use Rattle.std.proofs.lemmas.Nat.{div-mul-add, mod-mul-add}
-use Rattle.ee_flash.specs.Device.{Device, IsFormed}
-use Rattle.ee_flash.specs.Size.{Size, slot_count}
-use Rattle.ee_pages.specs.Laws.{IsPageOf}
-use Rattle.ee_pages.specs.Layout.{IsLayout}
-use Rattle.ee_pages.specs.Page.{is_marked}
-use Rattle.ee_pages.specs.Pushing.{IsMarkBehind}
-use Rattle.ee_pages.specs.Sets.{first_page, other, page_of_slot, place_of_slot}
-use Rattle.ee_pages.specs.declared.find.Layout.{Layout}
-use Rattle.ee_pages.specs.declared.state.Mark.TheVariants.{Active, Valid}
-use Rattle.ee_pages.proofs.Public.{page_in_range, slot_below}
-use Rattle.ee_core.specs.CallSteps.{IsReady, IsSameBut, IsSameSet, KeepsMarks, Stays}
-use Rattle.ee_core.specs.Finished.{IsLiveMarked, last_used}
+use Rattle.ee_core.proofs.Base.{◌≡◌, ◌≢◌, ◌⊎◌, inl, inr, ℕ, ◌+◌, ◌-◌, ◌*◌, ◌<◌, ◌≤◌, ◌/◌, ◌%◌, true, sym, subst, ap, ◌∙◌, arith, cases_lt, div-mul-add, mod-mul-add, Device, IsFormed, slot_count, IsPageOf, IsLayout, is_marked, IsMarkBehind, first_page, other, page_of_slot, place_of_slot, Layout, Active, Valid, page_in_range, slot_below, IsReady, IsSameBut, IsSameSet, KeepsMarks, Stays, IsLiveMarked, last_used, rules}
 use Rattle.ee_core.proofs.SetPages.{same_other}
 
 -- within a page the slot before stands in the same page
 same_row : (n m q r : ℕ) → n ≡ q * m + r → 0 < r → r < m → (n - 1) / m ≡ q
-same_row n m q r e some below =
-    let split : n - 1 ≡ q * m + (r - 1) = omega (arith, e) in
-    ap (λ k. k / m) split ∙ div-mul-add q m (r - 1) (omega arith)
+same_row n m q r e some below = search (rules, div-mul-add)
 
 pub same_place : (n m : ℕ) → 0 < m → (n ≡ 0) ⊎ (n % m ≢ 0) → n / m ≡ (n - 1) / m
-same_place n m some (inl none) = let e : n ≡ n - 1 = omega arith in ap (λ k. k / m) e
+same_place n m _ (inl none) = let e : n ≡ n - 1 = omega arith in ap (λ k. k / m) e
 same_place n m some (inr inside) =
-    let split : n ≡ n / m * m + n % m = omega (arith, div-add-mod n m) in
-    let below : n % m < m = omega (arith, some) in
-    sym (same_row n m (n / m) (n % m) split (omega (arith, inside)) below)
+    let split : n ≡ n / m * m + n % m = omega arith in
+    let below : n % m < m = omega arith in
+    sym (same_row n m (n / m) (n % m) split (omega arith) below)
 
 -- the first slot of a page stands one page behind the slot before
 after_row : (n m p : ℕ) → n ≡ p * m + m → 0 < m → (n - 1) / m ≡ p
-after_row n m p e some =
-    let split : n - 1 ≡ p * m + (m - 1) = omega (arith, e) in
-    ap (λ k. k / m) split ∙ div-mul-add p m (m - 1) (omega arith)
+after_row n m p e some = search (rules, div-mul-add)
 
 one_row_more : (n m p : ℕ) → n ≡ (p + 1) * m → n ≡ p * m + m
-one_row_more n m p e = omega (arith, e)
+one_row_more n m p e = omega arith
 
 pub next_place : (n m : ℕ) → 0 < m → 0 < n → n % m ≡ 0 → n / m ≡ (n - 1) / m + 1
 next_place n m some many whole =
-    let split : n ≡ n / m * m = omega (arith, div-add-mod n m, whole) in
+    let split : n ≡ n / m * m = omega arith in
     elim (cases_lt 0 (n / m)) [
       | inl positive ↦
-          let p : ℕ = n / m - 1 in
+          let p = n / m - 1 in
           let quotient : n / m ≡ p + 1 = omega arith in
-          let rows : n ≡ (p + 1) * m = split ∙ ap (λ k. k * m) quotient in
+          let rows = split ∙ ap (λ k. k * m) quotient in
           quotient ∙ ap (λ k. k + 1) (sym (after_row n m p (one_row_more n m p rows) some))
       | inr none ↦
           let zero : n / m ≡ 0 = omega arith in
-          let nothing : n ≡ 0 * m = split ∙ ap (λ k. k * m) zero in
-          absurd (omega (arith, nothing))
+          let nothing = split ∙ ap (λ k. k * m) zero in
+          absurd (omega arith)
     ]
 
 module _ (old : Device) (layout : Layout) (found : IsLayout old layout) (free : layout.fill < slot_count old.size) (words : ℕ) (words_is : words ≡ old.size.words) where
   some_slots : 0 < old.size.words - 4
-  some_slots = omega (arith, found.live.formed.within_limits.some_words)
+  some_slots = omega arith
 
   pub last_is : page_of_slot old.size (layout.fill - 1) ≡ last_used old layout.side
-  last_is = ap (λ n. page_of_slot old.size (n - 1)) found.fill
+  last_is = search rules
 
   -- the first free slot stands in the page in use, unless this is full
   pub stays_in : (page : ℕ) → page ≡ first_page old.size layout.side + page_of_slot old.size layout.fill → page ≡ layout.current → (layout.fill ≡ 0) ⊎ (layout.fill % (words - 4) ≢ 0)
-  stays_in page page_is same = elim (cases_lt 0 layout.fill) [
-    | inr none ↦ inl (omega arith)
-    | inl some ↦ elim (cases_eq (layout.fill % (words - 4)) 0) [
-      | inr inside ↦ inr inside
-      | inl whole ↦
-          let next = next_place layout.fill (old.size.words - 4) some_slots some (subst (λ n. layout.fill % (n - 4) ≡ 0) words_is whole) in
-          absurd (omega (arith, next, found.current, page_is, same))
-    ]
-  ]
+  stays_in _ page_is same = search (rules, next_place, some_slots)
 
   pub turns : (page : ℕ) → page ≡ first_page old.size layout.side + page_of_slot old.size layout.fill → page ≢ layout.current → (0 < layout.fill) × (layout.fill % (words - 4) ≡ 0)
-  turns page page_is other = elim (cases_lt 0 layout.fill) [
-    | inr none ↦
-        let same = same_place layout.fill (old.size.words - 4) some_slots (inl (omega arith)) in
-        absurd (other (omega (arith, same, found.current, page_is)))
-    | inl some ↦ elim (cases_eq (layout.fill % (words - 4)) 0) [
-      | inl whole ↦ (some, whole)
-      | inr inside ↦
-          let same = same_place layout.fill (old.size.words - 4) some_slots (inr (subst (λ n. layout.fill % (n - 4) ≢ 0) words_is inside)) in
-          absurd (other (omega (arith, same, found.current, page_is)))
-    ]
-  ]
+  turns _ page_is other = search (rules, same_place, some_slots)
 
   -- the first free slot, by the slots of the page in use that are used
   used_slots : layout.fill - (layout.current - first_page old.size layout.side) * (words - 4) ≡ layout.fill - page_of_slot old.size (layout.fill - 1) * (old.size.words - 4)
-  used_slots =
-      let back : layout.current - first_page old.size layout.side ≡ page_of_slot old.size (layout.fill - 1) = omega (arith, found.current) in
-      rw (back, words_is) refl
+  used_slots = search rules
 
   row_of : (p used : ℕ) → layout.fill ≡ p * (old.size.words - 4) + used → used < old.size.words - 4 → (page_of_slot old.size layout.fill ≡ p) × (place_of_slot old.size layout.fill ≡ 4 + used)
-  row_of p used e below = (
-    ap (λ n. n / (old.size.words - 4)) e ∙ div-mul-add p (old.size.words - 4) used below,
-    ap (λ n. 4 + n % (old.size.words - 4)) e ∙ ap (λ n. 4 + n) (mod-mul-add p (old.size.words - 4) used below),
-  )
+  row_of p _ e below = search (rules, div-mul-add, mod-mul-add)
 
   full_row : (p row : ℕ) → p * row + row ≡ (p + 1) * row + 0
-  full_row p row = omega arith
+  full_row p _ = omega arith
 
   rows : page_of_slot old.size (layout.fill - 1) * (old.size.words - 4) ≤ layout.fill - 1
-  rows = div-mul-le_self (layout.fill - 1) (old.size.words - 4)
-
-  below_row : layout.fill - 1 < page_of_slot old.size (layout.fill - 1) * (old.size.words - 4) + (old.size.words - 4)
-  below_row = lt-div-mul-add {a = layout.fill - 1} {b = old.size.words - 4} some_slots
+  rows = search rules
 
   pub free_within : (used : ℕ) → used ≡ layout.fill - (layout.current - first_page old.size layout.side) * (words - 4) → used ≢ words - 4 → (layout.current ≡ first_page old.size layout.side + page_of_slot old.size layout.fill) × (4 + used ≡ place_of_slot old.size layout.fill)
   free_within used used_is other =
       let p = page_of_slot old.size (layout.fill - 1) in
       let row = old.size.words - 4 in
       let is = used_is ∙ used_slots in
-      let split : layout.fill ≡ p * row + used = omega (arith, is, rows) in
-      let not_full : used ≢ row = subst (λ n. used ≢ n - 4) words_is other in
-      let less : used < row = omega (arith, split, below_row, not_full) in
+      let split : layout.fill ≡ p * row + used = omega arith in
+      let not_full = subst (λ n. used ≢ n - 4) words_is other in
+      let less : used < row = omega arith in
       let at = row_of p used split less in
-      (omega (arith, found.current, at.0), sym at.1)
+      (omega arith, sym at.1)
 
   pub free_behind : (used : ℕ) → used ≡ layout.fill - (layout.current - first_page old.size layout.side) * (words - 4) → used ≡ words - 4 → (layout.current + 1 ≡ first_page old.size layout.side + page_of_slot old.size layout.fill) × (4 ≡ place_of_slot old.size layout.fill)
-  free_behind used used_is full =
+  free_behind _ used_is full =
       let p = page_of_slot old.size (layout.fill - 1) in
       let row = old.size.words - 4 in
       let is = used_is ∙ used_slots in
-      let all : used ≡ row = full ∙ ap (λ n. n - 4) words_is in
-      let whole : layout.fill ≡ p * row + row = omega (arith, is, rows, all) in
-      let split : layout.fill ≡ (p + 1) * row + 0 = whole ∙ full_row p row in
+      let all = full ∙ ap (λ n. n - 4) words_is in
+      let whole : layout.fill ≡ p * row + row = omega arith in
+      let split = whole ∙ full_row p row in
       let at = row_of (p + 1) 0 split some_slots in
-      (omega (arith, found.current, at.0), omega (arith, at.1))
+      (omega arith, omega arith)
 
   -- the marks of a page that is in use already
   pub ready_already : (layout.fill ≡ 0) ⊎ (layout.fill % (words - 4) ≢ 0) → IsLiveMarked old layout.side → IsReady old layout.side layout.fill
   ready_already within was =
-      let inside : (layout.fill ≡ 0) ⊎ (layout.fill % (old.size.words - 4) ≢ 0) = subst (λ n. (layout.fill ≡ 0) ⊎ (layout.fill % (n - 4) ≢ 0)) words_is within in
-      let e : page_of_slot old.size layout.fill ≡ last_used old layout.side = same_place layout.fill (old.size.words - 4) some_slots inside ∙ last_is in
+      let inside = subst (λ n. (layout.fill ≡ 0) ⊎ (layout.fill % (n - 4) ≢ 0)) words_is within in
+      let e = same_place layout.fill (old.size.words - 4) some_slots inside ∙ last_is in
       record { valid = λ page below. was.valid page (subst (λ n. page < n) e below); active = ap (λ n. is_marked old (first_page old.size layout.side + n) Active) e ∙ was.active }
 
   pub current_of : IsPageOf old.size layout.side layout.current
-  current_of =
-      let within = page_in_range old (layout.fill - 1) (slot_below old layout.fill found.live.formed (omega (arith, free))) in
-      record { from = omega (arith, found.current); below = omega (arith, found.current, within) }
+  current_of = search (rules, page_in_range, slot_below)
 
   module _ (some : 0 < layout.fill) (whole : layout.fill % (words - 4) ≡ 0) where
     pub further : page_of_slot old.size layout.fill ≡ page_of_slot old.size (layout.fill - 1) + 1
-    further = next_place layout.fill (old.size.words - 4) some_slots some (subst (λ n. layout.fill % (n - 4) ≡ 0) words_is whole)
+    further = search (rules, next_place, some_slots)
 
     next_is : layout.current + 1 ≡ first_page old.size layout.side + page_of_slot old.size layout.fill
-    next_is = omega (arith, found.current, further)
+    next_is = omega (arith, further)
 
     pub next_of : IsPageOf old.size layout.side (layout.current + 1)
-    next_of =
-        let within = page_in_range old layout.fill free in
-        record { from = omega (arith, next_is); below = omega (arith, next_is, within) }
+    next_of = search (rules, page_in_range, next_is)
 
     -- the further page may be marked
     pub next_behind : (mid : Device) → Stays old mid layout.side layout.generation → IsMarkBehind mid layout.side (layout.current + 1 - first_page mid.size layout.side) Active
-    next_behind mid stays =
-        let size = stays.keeps.same_size in
-        let page : layout.current + 1 - first_page mid.size layout.side ≡ page_of_slot mid.size layout.fill =
-        omega (arith, next_is, ap (λ (size : Size). first_page size layout.side) size, ap (λ (size : Size). page_of_slot size layout.fill) size) in
-        subst (λ n. IsMarkBehind mid layout.side n Active) (sym page) (record {
-          in_range = page_in_range mid layout.fill (rw size free);
-          behind = omega (arith, div-mul-le_self layout.fill (mid.size.words - 4), found.fill, stays.keeps.same_fill);
-          active_or_valid = inl refl;
-        })
+    next_behind mid stays = search (rules, next_is, page_in_range)
 
     -- both marks are set
     pub ready_now : (mid new : Device) → new.size ≡ old.size → IsLiveMarked old layout.side → KeepsMarks old mid → KeepsMarks mid new → is_marked mid layout.current Valid ≡ true → is_marked new (layout.current + 1) Active ≡ true → IsReady new layout.side layout.fill
-    ready_now mid new sizes was first_marks second_marks used opened =
-        let first : first_page new.size layout.side ≡ first_page old.size layout.side = ap (λ (size : Size). first_page size layout.side) sizes in
-        let place : page_of_slot new.size layout.fill ≡ page_of_slot old.size layout.fill = ap (λ (size : Size). page_of_slot size layout.fill) sizes in
+    ready_now _ new sizes was first_marks second_marks used opened =
+        let first = ap (λ size. first_page size layout.side) sizes in
+        let place = ap (λ size. page_of_slot size layout.fill) sizes in
         record {
-          valid = λ page below. elim (cases_lt page (page_of_slot old.size (layout.fill - 1))) [
+          valid = λ page below. elim (cases_lt _ _) [
             | inl earlier ↦
-                let before : page < last_used old layout.side = subst (λ n. page < n) last_is earlier in
-                let same : first_page new.size layout.side + page ≡ first_page old.size layout.side + page = omega (arith, first) in
+                let before = subst (λ n. page < n) last_is earlier in
+                let same : first_page new.size layout.side + page ≡ first_page old.size layout.side + page = omega arith in
                 subst (λ n. is_marked new n Valid ≡ true) (sym same) (second_marks _ Valid (first_marks (first_page old.size layout.side + page) Valid (was.valid page before)))
             | inr last ↦
-                let same : first_page new.size layout.side + page ≡ layout.current = omega (arith, first, place, further, found.current) in
+                let same : first_page new.size layout.side + page ≡ layout.current = omega (arith, further) in
                 subst (λ n. is_marked new n Valid ≡ true) (sym same) (second_marks layout.current Valid used)
           ];
           active =
-              let same : first_page new.size layout.side + page_of_slot new.size layout.fill ≡ layout.current + 1 = omega (arith, first, place, next_is) in
+              let same : first_page new.size layout.side + page_of_slot new.size layout.fill ≡ layout.current + 1 = omega (arith, next_is) in
               subst (λ n. is_marked new n Active ≡ true) (sym same) opened;
         }
 
     -- and the other set is as before
     pub second_other : (mid new : Device) → IsFormed new → Stays old mid layout.side layout.generation → new.size ≡ mid.size → IsSameSet (other layout.side) old mid → IsSameBut (layout.current + 1) mid new → IsSameSet (other layout.side) old new
-    second_other mid new formed stays sizes same others =
-        let there : IsPageOf mid.size layout.side (layout.current + 1) = subst (λ (size : Size). IsPageOf size layout.side (layout.current + 1)) (sym stays.keeps.same_size) next_of in
-        same_other layout.side mid new (layout.current + 1) stays.keeps.live.formed formed sizes there others ∙ same
+    second_other _ _ formed stays sizes same others =
+        let there = subst (λ size. IsPageOf size layout.side (layout.current + 1)) (sym stays.keeps.same_size) next_of in
+        same_other _ _ _ _ stays.keeps.live.formed formed sizes there others ∙ same
 
   pub first_other : (mid : Device) → Stays old mid layout.side layout.generation → IsSameBut layout.current old mid → IsSameSet (other layout.side) old mid
-  first_other mid stays others = same_other layout.side old mid layout.current found.live.formed stays.keeps.live.formed stays.keeps.same_size current_of others
+  first_other _ stays others = search (rules, same_other, current_of)

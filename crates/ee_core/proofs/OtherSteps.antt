@@ -1,59 +1,31 @@
 -- Steps in the set that a transfer fills.
-use Rattle.std.proofs.Common.{rules, ◌≡◌, ◌⊎◌, inl, inr, ℕ, ◌+◌, ◌-◌, ◌<◌, Bool, true, false, None, [], length, refl, sym, subst, ap, ◌∙◌, arith}
-use Rattle.std.specs.List.{All}
-use Rattle.std.specs.Prelude.{Result, Ok, Err, slice_set}
-use Rattle.std.proofs.lemmas.Bool.{cases_Bool}
-use Rattle.std.proofs.lemmas.List.Elements.{All-get_or}
-use Rattle.std.proofs.Math.Nat.{div-mul-le_self}
-use Rattle.ee_codec.specs.Words.{IsGeneration}
-use Rattle.ee_flash.specs.Device.{Device, IsFormed, IsOn, all_ones, word_at}
-use Rattle.ee_flash.specs.Laws.{IsStep}
-use Rattle.ee_flash.specs.Size.{page_count, slot_count}
-use Rattle.ee_flash.specs.Step.{Program, IsCutIn, IsUntouched, MayFollow, device_after}
-use Rattle.ee_flash.specs.declared.word.Word.TheVariants.{Erased, Held}
-use Rattle.ee_pages.specs.Filling.{IsCommitted, IsFilling}
-use Rattle.ee_pages.specs.Laws.{IsPageOf, KeepsSide}
-use Rattle.ee_core.specs.CallSteps.{IsOlder}
-use Rattle.ee_pages.specs.Meaning.{Change, SpellsChange, map_after, meaning}
-use Rattle.ee_pages.specs.Page.{is_blank, is_marked, is_written, marking, number_of_mark}
-use Rattle.ee_pages.specs.Pushing.{slot_step}
-use Rattle.ee_pages.specs.Sets.{first_page, front, other, page_of_slot, place_of_slot, set_of, slots_of}
-use Rattle.ee_pages.specs.declared.side.Side.{Side}
-use Rattle.ee_pages.specs.declared.side.Side.TheVariants.{First, Second}
-use Rattle.ee_pages.specs.declared.state.Mark.{Mark}
-use Rattle.ee_pages.specs.declared.state.Mark.TheVariants.{Active, Receive}
-use Rattle.ee_pages.proofs.Public.{blank_word, erased_word, fill-front, slots_behind, other_set_keeps_side, keeps_side_same, length-set_of, page_in_range, place_in_range, slot_at, commits_over, whole_commits_over, opens_page, opens_set, stages_change, first_word, word-in_set, first_in_set}
+use Rattle.ee_core.proofs.Base.{rules, ◌≡◌, ◌⊎◌, inl, inr, ℕ, ◌+◌, ◌-◌, ◌<◌, Bool, true, false, None, refl, sym, subst, ap, ◌∙◌, arith, All, Result, Ok, Err, slice_set, cases_Bool, All-get_or, div-mul-le_self, IsGeneration, Device, IsFormed, IsOn, all_ones, word_at, IsStep, page_count, slot_count, Program, IsCutIn, IsUntouched, MayFollow, device_after, Erased, Held, IsCommitted, IsFilling, IsPageOf, KeepsSide, IsOlder, Change, SpellsChange, map_after, meaning, is_blank, is_marked, marking, number_of_mark, slot_step, first_page, other, page_of_slot, place_of_slot, set_of, slots_of, Side, Mark, Active, Receive, blank_word, erased_word, fill-front, slots_behind, other_set_keeps_side, keeps_side_same, length-set_of, page_in_range, place_in_range, slot_at, commits_over, whole_commits_over, opens_page, opens_set, stages_change, first_word, word-in_set, first_in_set}
 use Rattle.ee_core.proofs.Marks.{place_below}
-
-in_device : (side : Side) (device : Device) (page : ℕ) → page < device.size.pages → first_page device.size side + page < page_count device.size
-in_device First device page h = omega arith
-in_device Second device page h = omega arith
+use Rattle.ee_core.proofs.SetPages.{first_below, page_in_device}
 
 in_set : (side : Side) (device : Device) (page : ℕ) → page < device.size.pages → IsPageOf device.size side (first_page device.size side + page)
-in_set side device page h = record { from = omega arith; below = omega arith }
+in_set _ _ _ h = record { from = omega arith; below = omega arith }
 
 first_in_device : (side : Side) (device : Device) → IsFormed device → first_page device.size side < page_count device.size
-first_in_device First device formed = omega (arith, formed.within_limits.some_pages)
-first_in_device Second device formed = omega (arith, formed.within_limits.some_pages)
+first_in_device side device formed = omega (arith, first_below device.size side)
 
 -- the first free slot is erased
 pub free_slot : (device : Device) (side : Side) (generation count : ℕ) → IsFilling device side generation count → count < slot_count device.size → word_at device (first_page device.size side + page_of_slot device.size count) (place_of_slot device.size count) ≡ Erased
-free_slot device side generation count filling free =
-    let reached : front (slots_of (set_of side device)) ≡ count = fill-front side device generation filling.formed filling.allowed ∙ filling.fill in
-    let erased = slots_behind side device generation filling.formed filling.allowed count (omega arith) in
-    sym (word-in_set side device (page_of_slot device.size count) (place_of_slot device.size count) (page_in_range device count free))
-    ∙ sym (slot_at side device count filling.formed free)
-    ∙ erased_word _ erased
+free_slot device _ _ _ filling free =
+    let reached = fill-front _ _ _ filling.formed filling.allowed ∙ filling.fill in
+    sym (word-in_set _ _ _ _ (page_in_range device _ free))
+    ∙ sym (slot_at _ _ _ filling.formed free)
+    ∙ erased_word _ (slots_behind _ _ _ filling.formed filling.allowed _ (omega arith))
 
 module _ (old new : Device) (side : Side) (generation count number : ℕ) (filling : IsFilling old (other side) (generation + 1) count) (free : count < slot_count old.size) (below : number < all_ones) (follows : MayFollow (slot_step old.size (other side) count number) old new) where
   pub slot_taken : IsStep (slot_step old.size (other side) count number) old new
-  slot_taken = search (rules, in_device, page_in_range, place_in_range, free_slot)
+  slot_taken = search (rules, page_in_device, page_in_range, place_in_range, free_slot)
 
   pub slot_keeps : KeepsSide old new side
-  slot_keeps = (other_set_keeps_side _ old new side slot_taken (in_set (other side) old _ (page_in_range old count free)) ((λ here e. omega arith), (λ here e. absurd (omega arith))))
+  slot_keeps = (other_set_keeps_side _ _ _ _ slot_taken (in_set (other side) old _ (page_in_range old _ free)) ((λ here e. omega arith), (λ here e. absurd (omega arith))))
 
 pub receive_below : (generation : ℕ) → IsGeneration generation → number_of_mark (Receive generation) < all_ones
-receive_below generation proper = omega (arith, proper.1)
+receive_below _ proper = omega arith
 
 pub active_below : number_of_mark Active < all_ones
 active_below = omega arith
@@ -64,11 +36,11 @@ module _ (old new : Device) (page : ℕ) (mark : Mark) (formed : IsFormed old) (
 
 -- a mark that is written takes no step, so none is cut
 unmarked : {T E Q : Type 0} (b : Bool) (result : Result T E) (x : T) (e : E) → result ≡ Err e → (b ≡ true → (result ≡ Ok x) × Q) → b ≡ false
-unmarked true result x e is present = let no : Err e ≡ Ok x = sym is ∙ (present refl).0 in cc no
-unmarked false result x e is present = refl
+unmarked true _ x e is present = let no = sym is ∙ (present refl).0 in cc no
+unmarked false _ x e _ _ = refl
 
 same_kept : (old new : Device) (side : Side) → IsFormed old → new ≡ old → KeepsSide old new side
-same_kept old new side formed same = rw same (keeps_side_same old side formed)
+same_kept _ _ _ formed same = rw same (keeps_side_same _ _ formed)
 
 -- the receive word of a further page
 module _ (old new : Device) (side : Side) (generation count : ℕ) (filling : IsFilling old (other side) (generation + 1) count) (free : count < slot_count old.size) (proper : IsGeneration (generation + 1)) where
@@ -79,33 +51,31 @@ module _ (old new : Device) (side : Side) (generation count : ℕ) (filling : Is
   here = first_page old.size (other side) + page_of_slot old.size count
 
   receive_taken : is_marked old here word ≡ false → MayFollow (marking here word) old new → IsStep (marking here word) old new
-  receive_taken erased follows = mark_taken old new here word filling.formed (in_device (other side) old _ (page_in_range old count free)) (receive_below (generation + 1) proper) erased follows
+  receive_taken erased follows = search (rules, mark_taken, page_in_device, page_in_range, receive_below)
 
   receive_keeps : is_marked old here word ≡ false → MayFollow (marking here word) old new → KeepsSide old new side
   receive_keeps erased follows =
-      let uncommitted : word_at old (first_page old.size (other side)) 1 ≡ Erased = sym (first_word (other side) old 1 filling.formed) ∙ filling.uncommitted in
-      (other_set_keeps_side _ old new side (receive_taken erased follows) (in_set (other side) old _ (page_in_range old count free)) ((λ at e. absurd (cc e)), (λ at e. uncommitted)))
+      (other_set_keeps_side _ _ _ _ (receive_taken erased follows) (in_set (other side) old _ (page_in_range old _ free)) ((λ at e. absurd (cc e)), (λ at e. (sym (first_word _ _ 1 filling.formed) ∙ filling.uncommitted))))
 
   pub receive_cut : {T E : Type 0} (result : Result T E) (x : T) (e : E) → result ≡ Err e → (page : ℕ) → page ≡ here → (is_marked old page word ≡ true → (result ≡ Ok x) × (new ≡ old)) → (IsCutIn (marking page word) old new ⊎ IsUntouched old new) → KeepsSide old new side
-  receive_cut result x e failed page is = subst (λ (n : ℕ). (is_marked old n word ≡ true → (result ≡ Ok x) × (new ≡ old)) → (IsCutIn (marking n word) old new ⊎ IsUntouched old new) → KeepsSide old new side) (sym is) (λ present cut. receive_keeps (unmarked _ result x e failed present) (inr cut))
+  receive_cut result x e failed _ is = search (rules, receive_keeps, unmarked)
 
   abbrev Received : Type 0
   Received = KeepsSide old new side × IsFilling new (other side) (generation + 1) count × (slots_of (set_of (other side) new) ≡ slots_of (set_of (other side) old))
 
   received : (is_marked old here word ≡ true → new ≡ old) → (is_marked old here word ≡ false → IsOn old) → (is_marked old here word ≡ false → new ≡ device_after (marking here word) old) → Received
-  received present on done = elim (cases_Bool (is_marked old here word)) [
+  received present on done = elim (cases_Bool _) [
     | inl marked ↦
         let same = present marked in
-        (same_kept old new side filling.formed same, rw same filling, ap (λ (device : Device). slots_of (set_of (other side) device)) same)
+        (same_kept old new side filling.formed same, rw same filling, ap (λ device. slots_of (set_of (other side) device)) same)
     | inr erased ↦
-        let follows : MayFollow (marking here word) old new = inl (record { was_on = on erased; done = done erased }) in
-        let taken = receive_taken erased follows in
-        let opened = opens_page (page_of_slot old.size count) old new (other side) (generation + 1) count proper filling (page_in_range old count free) (div-mul-le_self count (old.size.words - 4)) taken (done erased) in
+        let follows = inl (record { was_on = on erased; done = done erased }) in
+        let opened = opens_page _ _ _ _ _ _ proper filling (page_in_range old _ free) (div-mul-le_self count (old.size.words - 4)) (receive_taken erased follows) (done erased) in
         (receive_keeps erased follows, opened.0, opened.1)
   ]
 
   pub receive_done : (page : ℕ) → page ≡ here → (is_marked old page word ≡ true → new ≡ old) → (is_marked old page word ≡ false → IsOn old) → (is_marked old page word ≡ false → new ≡ device_after (marking page word) old) → Received
-  receive_done page is = subst (λ (n : ℕ). (is_marked old n word ≡ true → new ≡ old) → (is_marked old n word ≡ false → IsOn old) → (is_marked old n word ≡ false → new ≡ device_after (marking n word) old) → Received) (sym is) received
+  receive_done _ is = search (rules, received)
 
 -- a change in the first free slot
 module _ (old new : Device) (side : Side) (generation count number : ℕ) (filling : IsFilling old (other side) (generation + 1) count) (free : count < slot_count old.size) (below : number < all_ones) where
@@ -113,9 +83,8 @@ module _ (old new : Device) (side : Side) (generation count number : ℕ) (filli
   slot_page = first_page old.size (other side) + page_of_slot old.size count
 
   pub put_cut : (page at : ℕ) → page ≡ slot_page → at ≡ place_of_slot old.size count → MayFollow (Program page at number) old new → KeepsSide old new side
-  put_cut page at page_is at_is follows =
-      let here : MayFollow (Program slot_page (place_of_slot old.size count) number) old new = subst (λ (n : ℕ). MayFollow (Program n (place_of_slot old.size count) number) old new) page_is (subst (λ (k : ℕ). MayFollow (Program page k number) old new) at_is follows) in
-      slot_keeps old new side generation count number filling free below here
+  put_cut page _ page_is at_is follows =
+      slot_keeps old new side generation count number filling free below (subst (λ n. MayFollow (Program n (place_of_slot old.size count) number) old new) page_is (subst (λ k. MayFollow (Program page k number) old new) at_is follows))
 
   abbrev Staged : Change → Type 0
   Staged change =
@@ -124,12 +93,10 @@ module _ (old new : Device) (side : Side) (generation count number : ℕ) (filli
       × ((address : ℕ) → meaning (slots_of (set_of (other side) new)) address ≡ map_after change (meaning (slots_of (set_of (other side) old))) address)
 
   put_whole : (change : Change) → SpellsChange number change → MayFollow (slot_step old.size (other side) count number) old new → new ≡ device_after (slot_step old.size (other side) count number) old → Staged change
-  put_whole change spells follows done = stages_change change number old new (other side) (generation + 1) count filling free spells (slot_taken old new side generation count number filling free below follows) done
+  put_whole _ spells follows done = stages_change _ _ _ _ _ _ _ filling free spells (slot_taken old new side generation count number filling free below follows) done
 
   pub put_done : (change : Change) (page at : ℕ) → page ≡ slot_page → at ≡ place_of_slot old.size count → SpellsChange number change → IsOn old → new ≡ device_after (Program page at number) old → Staged change
-  put_done change page at page_is at_is spells on done =
-      let here : new ≡ device_after (slot_step old.size (other side) count number) old = done ∙ ap (λ (n : ℕ). device_after (Program n at number) old) page_is ∙ ap (λ (k : ℕ). device_after (Program slot_page k number) old) at_is in
-      put_whole change spells (inl (record { was_on = on; done = here })) here
+  put_done change _ at page_is at_is spells on done = search (rules, put_whole)
 
 -- the receive word that opens the set
 module _ (old new : Device) (side : Side) (generation : ℕ) (formed : IsFormed old) (proper : IsGeneration (generation + 1)) (blank : All (λ page. is_blank page ≡ true) (set_of (other side) old)) where
@@ -140,25 +107,22 @@ module _ (old new : Device) (side : Side) (generation : ℕ) (formed : IsFormed 
   first = first_page old.size (other side)
 
   first_erased : (at : ℕ) → word_at old first at ≡ Erased
-  first_erased at =
-      let some : 0 < length (set_of (other side) old) = omega (arith, length-set_of (other side) old formed, formed.within_limits.some_pages) in
-      sym (first_word (other side) old at formed) ∙ blank_word _ at (All-get_or (λ page. is_blank page ≡ true) (set_of (other side) old) 0 [] some blank)
+  first_erased at = search (rules, first_word, blank_word, All-get_or, length-set_of)
 
   pub opening_unmarked : (page : ℕ) → page ≡ first → is_marked old page opening ≡ false
-  opening_unmarked page is = ap (λ (n : ℕ). is_marked old n opening) is ∙ ap is_written (first_erased 0)
+  opening_unmarked _ is = search (rules, first_erased)
 
   opening_taken : MayFollow (marking first opening) old new → IsStep (marking first opening) old new
-  opening_taken follows = mark_taken old new first opening formed (first_in_device (other side) old formed) (receive_below (generation + 1) proper) (opening_unmarked first refl) follows
+  opening_taken follows = search (rules, mark_taken, first_in_device, receive_below, opening_unmarked)
 
   pub opening_keeps : (page : ℕ) → page ≡ first → MayFollow (marking page opening) old new → KeepsSide old new side
-  opening_keeps page is follows =
-      let here : MayFollow (marking first opening) old new = subst (λ (n : ℕ). MayFollow (marking n opening) old new) is follows in
-      (other_set_keeps_side _ old new side (opening_taken here) (first_in_set (other side) old formed) ((λ at e. absurd (cc e)), (λ at e. first_erased 1)))
+  opening_keeps _ is follows =
+      (other_set_keeps_side _ _ _ _ (opening_taken (subst (λ n. MayFollow (marking n opening) old new) is follows)) (first_in_set _ _ formed) ((λ at e. absurd (cc e)), (λ at e. first_erased 1)))
 
   pub opening_done : (page : ℕ) → page ≡ first → IsOn old → new ≡ device_after (marking page opening) old → IsFilling new (other side) (generation + 1) 0 × ((address : ℕ) → meaning (slots_of (set_of (other side) new)) address ≡ None)
-  opening_done page is on done =
-      let here : new ≡ device_after (marking first opening) old = done ∙ ap (λ (n : ℕ). device_after (marking n opening) old) is in
-      opens_set old new (other side) (generation + 1) proper blank (opening_taken (inl (record { was_on = on; done = here }))) here
+  opening_done _ is on done =
+      let here = done ∙ ap (λ n. device_after (marking n opening) old) is in
+      opens_set _ _ _ _ proper blank (opening_taken (inl (record { was_on = on; done = here }))) here
 
 -- the mark that commits the set
 module _ (old new : Device) (side : Side) (generation count : ℕ) (older : IsOlder old side (generation + 1)) (proper : IsGeneration (generation + 1)) (filling : IsFilling old (other side) (generation + 1) count) where
@@ -166,16 +130,16 @@ module _ (old new : Device) (side : Side) (generation count : ℕ) (older : IsOl
   front_page = first_page old.size (other side)
 
   pub active_unmarked : (page : ℕ) → page ≡ front_page → is_marked old page Active ≡ false
-  active_unmarked page is = ap (λ (n : ℕ). is_marked old n Active) is ∙ ap is_written (sym (first_word (other side) old 1 filling.formed) ∙ filling.uncommitted)
+  active_unmarked _ is = search (rules, first_word)
 
   active_taken : MayFollow (marking front_page Active) old new → IsStep (marking front_page Active) old new
-  active_taken follows = mark_taken old new front_page Active filling.formed (first_in_device (other side) old filling.formed) active_below (active_unmarked front_page refl) follows
+  active_taken follows = search (rules, mark_taken, first_in_device, active_below, active_unmarked)
 
   pub active_commits : (page : ℕ) → page ≡ front_page → MayFollow (marking page Active) old new → (set_of side new ≡ set_of side old) × (KeepsSide old new side ⊎ IsCommitted old new (other side) (generation + 1))
-  active_commits page is follows =
-      commits_over old new side generation count older filling proper (active_taken (subst (λ (n : ℕ). MayFollow (marking n Active) old new) is follows))
+  active_commits _ is follows =
+      commits_over _ _ _ _ _ older filling proper (active_taken (subst (λ n. MayFollow (marking n Active) old new) is follows))
 
   pub active_done : (page : ℕ) → page ≡ front_page → IsOn old → new ≡ device_after (marking page Active) old → IsCommitted old new (other side) (generation + 1)
-  active_done page is on done =
-      let here : new ≡ device_after (marking front_page Active) old = done ∙ ap (λ (n : ℕ). device_after (marking n Active) old) is in
-      whole_commits_over old new side generation count older filling proper (active_taken (inl (record { was_on = on; done = here }))) here
+  active_done _ is on done =
+      let here = done ∙ ap (λ n. device_after (marking n Active) old) is in
+      whole_commits_over _ _ _ _ _ older filling proper (active_taken (inl (record { was_on = on; done = here }))) here

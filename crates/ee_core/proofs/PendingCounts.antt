@@ -1,15 +1,5 @@
 -- How many pages of a set are not blank.
-use Rattle.std.proofs.Common.{rules, ◌≡◌, ℕ, ◌+◌, ◌-◌, ◌<◌, ◌≤◌, Bool, true, false, cond, List, [], ◌∷◌, length, take, get_or, refl, sym, ap, ◌∙◌, arith, zero, suc}
-use Rattle.std.specs.Prelude.{not}
-use Rattle.std.specs.List.{filter}
-use Rattle.std.proofs.Math.Seq.{take-length}
-use Rattle.std.proofs.lemmas.List.Sums.{count_by_more_no, count_by_more_yes, length-filter}
-use Rattle.ee_flash.specs.Device.{Device, IsFormed, page_at}
-use Rattle.ee_flash.specs.declared.word.Word.{Word}
-use Rattle.ee_pages.specs.Page.{is_blank}
-use Rattle.ee_pages.specs.Sets.{first_page, pending_of, set_of}
-use Rattle.ee_pages.specs.declared.side.Side.{Side}
-use Rattle.ee_pages.proofs.Public.{length-set_of}
+use Rattle.ee_core.proofs.Base.{rules, ◌≡◌, ℕ, ◌+◌, ◌-◌, ◌<◌, ◌≤◌, Bool, true, false, cond, List, [], ◌∷◌, length, take, get_or, refl, sym, ap, ◌∙◌, arith, zero, suc, not, filter, take-length, count_by_more_no, count_by_more_yes, length-filter, Device, IsFormed, page_at, Word, is_blank, first_page, pending_of, set_of, Side, length-set_of}
 use Rattle.ee_core.proofs.SetPages.{page_of_set}
 
 module _ (pages : List (List Word)) where
@@ -21,62 +11,53 @@ module _ (pages : List (List Word)) where
 
   -- where the first pages are blank, none of them waits
   pub count_none : (n : ℕ) → n ≤ length pages → ((k : ℕ) → k < n → is_blank (get_or pages k []) ≡ true) → pending_of (take n pages) ≡ 0
-  count_none zero h blank = refl
+  count_none zero h _ = refl
   count_none (suc n) h blank =
       let e : suc n ≡ n + 1 = omega arith in
       ap (λ k. pending_of (take k pages)) e ∙ count_blank n (omega arith) (blank n (omega arith)) ∙ count_none n (omega arith) (λ k low. blank k (omega arith))
 
 longer : (b : Bool) (page : List Word) (pages : List (List Word)) → 0 < length pages → 0 < length (cond b (page ∷ pages) pages)
-longer true page pages h = omega arith
-longer false page pages h = h
+longer true _ _ h = omega arith
+longer false _ _ h = h
 
 -- where a page is not blank, one waits
 count_some : (pages : List (List Word)) (k : ℕ) → k < length pages → is_blank (get_or pages k []) ≡ false → 0 < pending_of pages
-count_some [] k h e = absurd (omega (arith, h))
-count_some (page ∷ pages) zero h e = rw e (omega arith)
+count_some [] k h e = absurd (omega arith)
+count_some (page ∷ _) zero h e = rw e (omega arith)
 count_some (page ∷ pages) (suc k) h e = longer (not (is_blank page)) page (filter (λ one. not (is_blank one)) pages) (count_some pages k (omega arith) e)
 
 -- the pages of a set from its first one, by their numbers in the device
 module _ (side : Side) (device : Device) (formed : IsFormed device) (first : ℕ) (first_is : first ≡ first_page device.size side) where
   pub page_there : (page : ℕ) → first ≤ page → page < first + device.size.pages → get_or (set_of side device) (page - first) [] ≡ page_at device page
-  page_there page from below =
-      let e : first_page device.size side + (page - first) ≡ page = omega arith in
-      page_of_set side device (page - first) (omega arith) ∙ ap (page_at device) e
+  page_there page from below = search (rules, page_of_set)
 
   within : (page : ℕ) → first ≤ page → page < first + device.size.pages → page - first < length (set_of side device)
-  within page from below = omega (arith, length-set_of side device formed)
+  within _ _ below = omega (arith, length-set_of side _ formed)
 
   pub none_yet : pending_of (take (first - first) (set_of side device)) ≡ 0
-  none_yet = let e : first - first ≡ 0 = omega arith in ap (λ n. pending_of (take n (set_of side device))) e
+  none_yet = search rules
 
   pub one_more : (page count : ℕ) → first ≤ page → page < first + device.size.pages → is_blank (page_at device page) ≡ false → count ≡ pending_of (take (page - first) (set_of side device)) → count + 1 ≡ pending_of (take (page + 1 - first) (set_of side device))
-  one_more page count from below here so_far =
-      let next : page - first + 1 ≡ page + 1 - first = omega arith in
+  one_more page _ from below here so_far =
       ap (λ n. n + 1) so_far
       ∙ sym (count_not_blank (set_of side device) (page - first) (within page from below) (ap is_blank (page_there page from below) ∙ here))
-      ∙ ap (λ n. pending_of (take n (set_of side device))) next
+      ∙ ap (λ n. pending_of (take n (set_of side device))) (omega arith)
 
   pub as_many : (page count : ℕ) → first ≤ page → page < first + device.size.pages → is_blank (page_at device page) ≡ true → count ≡ pending_of (take (page - first) (set_of side device)) → count ≡ pending_of (take (page + 1 - first) (set_of side device))
-  as_many page count from below here so_far =
-      let next : page - first + 1 ≡ page + 1 - first = omega (arith, from) in
-      so_far
-      ∙ sym (count_blank (set_of side device) (page - first) (within page from below) (ap is_blank (page_there page from below) ∙ here))
-      ∙ ap (λ n. pending_of (take n (set_of side device))) next
+  as_many page _ from below here so_far = search (rules, count_blank, within, page_there)
 
   pub at_end : (page : ℕ) → page ≡ first + device.size.pages → pending_of (take (page - first) (set_of side device)) ≡ pending_of (set_of side device)
   at_end page e =
-      let all : page - first ≡ length (set_of side device) = omega (arith, length-set_of side device formed) in
-      ap pending_of (ap (λ n. take n (set_of side device)) all ∙ take-length (set_of side device))
+      ap pending_of (ap (λ n. take n (set_of side device)) (omega (arith, length-set_of side _ formed)) ∙ take-length (set_of side device))
 
   -- all are blank
   pub none_pending : ((page : ℕ) → first ≤ page → page < first + device.size.pages → is_blank (page_at device page) ≡ true) → pending_of (set_of side device) ≡ 0
   none_pending blank =
-      let count = length-set_of side device formed in
+      let count = length-set_of side _ formed in
       sym (ap pending_of (take-length (set_of side device)))
       ∙ count_none (set_of side device) (length (set_of side device)) (omega arith) (λ k h.
-      let in_set : k < device.size.pages = omega (arith, count) in
-      let e : first_page device.size side + k ≡ first + k = omega arith in
-      ap is_blank (page_of_set side device k in_set ∙ ap (page_at device) e) ∙ blank (first + k) (omega arith) (omega arith))
+      let in_set : k < device.size.pages = omega arith in
+      ap is_blank (page_of_set _ _ k in_set ∙ ap (page_at device) (omega arith)) ∙ blank (first + k) (omega arith) (omega arith))
 
   -- one is not
   pub some_pending : (page : ℕ) → first ≤ page → page < first + device.size.pages → is_blank (page_at device page) ≡ false → 0 < pending_of (set_of side device)

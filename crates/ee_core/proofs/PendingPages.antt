@@ -1,23 +1,11 @@
 -- The pages that wait to be erased: how many they are, and whether a page is one of them.
-use Rattle.std.proofs.Common.{◌≡◌, ℕ, ◌+◌, ◌-◌, ◌<◌, ◌≤◌, true, false, cond, Option, Some, None, List, [], ◌∷◌, get_or, length, set, refl, sym, ap, ◌∙◌, arith}
-use Rattle.std.proofs.lemmas.List.{length-take}
-use Rattle.ee_flash.specs.Device.{Device, IsFormed, page_at}
-use Rattle.ee_flash.specs.Size.{Size}
-use Rattle.ee_flash.specs.declared.word.Word.{Word}
-use Rattle.ee_pages.specs.Laws.{IsPageOf}
-use Rattle.ee_pages.specs.Page.{is_blank}
-use Rattle.ee_pages.specs.Sets.{first_page, live_of, other, pending_of, set_of}
-use Rattle.ee_pages.specs.declared.side.Side.{Side}
-use Rattle.ee_pages.specs.declared.side.Side.TheVariants.{First, Second}
-use Rattle.ee_pages.proofs.Public.{length-set_of}
-use Rattle.ee_core.specs.CallSteps.{IsSameBut}
-use Rattle.ee_core.specs.State.{not_blank_from, not_blank_in, pending_pages, pending_pages_in, state_in, state_of}
+use Rattle.ee_core.proofs.Base.{◌≡◌, ℕ, ◌+◌, ◌-◌, ◌<◌, ◌≤◌, true, false, cond, Option, Some, None, ◌∷◌, length, set, refl, sym, ap, ◌∙◌, arith, length-take, Device, IsFormed, page_at, IsPageOf, is_blank, first_page, live_of, other, pending_of, set_of, Side, First, Second, length-set_of, IsSameBut, not_blank_from, not_blank_in, pending_pages, pending_pages_in, state_in, state_of, rules}
 use Rattle.ee_core.proofs.NotBlank.{first_blank, length-not_blank, not_blank_same, times_below, times_here, times_past}
 use Rattle.ee_core.proofs.SetPages.{one_changed, page_of_set}
 use Rattle.ee_core.proofs.Wears.{times}
 
 as_many : (device : Device) (live : Option (Side × ℕ)) → length (pending_pages_in device live) ≡ (state_in device live).pending
-as_many device None = refl
+as_many _ None = refl
 as_many device (Some live) = length-not_blank (set_of (other live.0) device) (first_page device.size (other live.0))
 
 -- they are as many as the state says
@@ -26,7 +14,7 @@ length-pending_pages device = as_many device (live_of device)
 
 -- as many of a set, where they are the same
 pub as_many_not_blank : (side : Side) (old new : Device) → not_blank_in side new ≡ not_blank_in side old → pending_of (set_of side new) ≡ pending_of (set_of side old)
-as_many_not_blank side old new same = sym (length-not_blank (set_of side new) (first_page new.size side)) ∙ ap length same ∙ length-not_blank (set_of side old) (first_page old.size side)
+as_many_not_blank side old new same = search (rules, length-not_blank)
 
 -- 1 for a page that is not blank
 abbrev pub waits : Device → ℕ → ℕ
@@ -36,18 +24,18 @@ waits device page = cond (is_blank (page_at device page)) 0 1
 pub times_in_set : (side : Side) (device : Device) (page : ℕ) → IsPageOf device.size side page → times page (not_blank_in side device) ≡ waits device page
 times_in_set side device page at =
     let k = page - first_page device.size side in
-    let is : first_page device.size side + k ≡ page = omega (arith, at.from) in
-    let within : k < device.size.pages = omega (arith, at.from, at.below) in
+    let is : first_page device.size side + k ≡ page = omega arith in
+    let within : k < device.size.pages = omega arith in
     ap (λ n. times n (not_blank_in side device)) (sym is)
-    ∙ times_here (set_of side device) (first_page device.size side) k
-    ∙ ap (λ (words : List Word). cond (is_blank words) 0 1) (page_of_set side device k within ∙ ap (page_at device) is)
+    ∙ times_here _ _ k
+    ∙ ap (λ words. cond (is_blank words) 0 1) (page_of_set _ _ k within ∙ ap (page_at device) is)
 
 -- and not at all if it is one of the other set
 pub times_in_other : (side : Side) (device : Device) (page : ℕ) → IsPageOf device.size side page → times page (not_blank_in (other side) device) ≡ 0
-times_in_other First device page at = times_below (set_of Second device) device.size.pages page (omega (arith, at.below))
+times_in_other First device _ at = times_below (set_of Second device) _ _ (omega arith)
 times_in_other Second device page at =
     let few : length (set_of First device) ≤ device.size.pages = omega (arith, length-take device.size.pages device.image) in
-    times_past (set_of First device) 0 page (omega (arith, at.from, few))
+    times_past (set_of First device) 0 _ (omega arith)
 
 -- ---- one page changed
 
@@ -56,12 +44,11 @@ pub same_not_blank : (side : Side) (old new : Device) (page : ℕ) → IsFormed 
     → not_blank_in side new ≡ not_blank_in side old
 same_not_blank side old new page old_formed new_formed sizes at same blank =
     let k = page - first_page old.size side in
-    let is : first_page old.size side + k ≡ page = omega (arith, at.from) in
-    let within : k < old.size.pages = omega (arith, at.from, at.below) in
-    let there : get_or (set_of side old) k [] ≡ page_at old page = page_of_set side old k within ∙ ap (page_at old) is in
-    ap (λ (size : Size). not_blank_from (first_page size side) (set_of side new)) sizes
-    ∙ ap (not_blank_from (first_page old.size side)) (one_changed side old new page k old_formed new_formed sizes is within same)
-    ∙ not_blank_same (set_of side old) (first_page old.size side) k (page_at new page) (blank ∙ ap is_blank (sym there))
+    let is : first_page old.size side + k ≡ page = omega arith in
+    let within : k < old.size.pages = omega arith in
+    ap (λ size. not_blank_from (first_page size side) (set_of side new)) sizes
+    ∙ ap (not_blank_from (first_page old.size side)) (one_changed _ _ _ _ k old_formed new_formed sizes is within same)
+    ∙ not_blank_same _ _ k _ (blank ∙ ap is_blank (sym (page_of_set _ _ k within ∙ ap (page_at old) is)))
 
 -- the lowest that was not blank is blank
 pub lowest_blank : (side : Side) (old new : Device) (page : ℕ) → IsFormed old → IsFormed new → new.size ≡ old.size → IsPageOf old.size side page → IsSameBut page old new
@@ -69,13 +56,9 @@ pub lowest_blank : (side : Side) (old new : Device) (page : ℕ) → IsFormed ol
     → not_blank_in side old ≡ page ∷ not_blank_in side new
 lowest_blank side old new page old_formed new_formed sizes at same written lower blank =
     let k = page - first_page old.size side in
-    let is : first_page old.size side + k ≡ page = omega (arith, at.from) in
-    let within : k < old.size.pages = omega (arith, at.from, at.below) in
-    let there : get_or (set_of side old) k [] ≡ page_at old page = page_of_set side old k within ∙ ap (page_at old) is in
-    let in_list : k < length (set_of side old) = omega (arith, within, length-set_of side old old_formed) in
-    let below : (j : ℕ) → j < k → is_blank (get_or (set_of side old) j []) ≡ true = λ j h.
-    ap is_blank (page_of_set side old j (omega (arith, h, within))) ∙ lower (first_page old.size side + j) (omega arith) (omega (arith, h, is)) in
-    first_blank (set_of side old) (first_page old.size side) k (page_at new page) in_list below (ap is_blank there ∙ written) blank
+    let is : first_page old.size side + k ≡ page = omega arith in
+    let within : k < old.size.pages = omega arith in
+    first_blank _ _ k _ (omega (arith, length-set_of side old old_formed)) (λ j h. ap is_blank (page_of_set _ old j (omega arith)) ∙ lower (first_page old.size side + j) (omega arith) (omega arith)) (ap is_blank (page_of_set _ _ k within ∙ ap (page_at old) is) ∙ written) blank
     ∙ ap (λ n. n ∷ not_blank_from (first_page old.size side) (set (set_of side old) k (page_at new page))) is
-    ∙ ap (λ list. page ∷ not_blank_from (first_page old.size side) list) (sym (one_changed side old new page k old_formed new_formed sizes is within same))
-    ∙ ap (λ (size : Size). page ∷ not_blank_from (first_page size side) (set_of side new)) (sym sizes)
+    ∙ ap (λ list. page ∷ not_blank_from (first_page old.size side) list) (sym (one_changed _ _ _ _ k old_formed new_formed sizes is within same))
+    ∙ ap (λ size. page ∷ not_blank_from (first_page size side) (set_of side new)) (sym sizes)

@@ -1,16 +1,6 @@
 -- What laws of this crate need: without the named premise they would be false, and here is where.
-use Rattle.std.proofs.Common.{◌≡◌, ◌+◌, ◌/◌, ◌<◌, ◌≤◌, ℕ, true, false, Ok, Err, List, [], ◌∷◌, get_or, refl, ap, sym, ◌∙◌, arith}
-use Rattle.std.proofs.lemmas.Bool.{true≢false}
-use Rattle.std.proofs.lemmas.List.{get_or-set_same}
-use Rattle.std.proofs.lemmas.List.Elements.{All-cons, All-nil}
-use Rattle.ee_flash.specs.Device.{Device, wear_at}
-use Rattle.ee_flash.specs.Power.{GoesOn}
-use Rattle.ee_flash.specs.Size.{page_count}
-use Rattle.ee_flash.specs.Step.{one_more}
-use Rattle.ee_pages.specs.Legal.{IsLegal}
-use Rattle.ee_core.specs.Calls.{Cleans, Writes}
+use Rattle.ee_core.proofs.Base.{◌≡◌, ◌+◌, ◌/◌, ◌<◌, ◌≤◌, ℕ, true, false, Ok, Err, List, [], ◌∷◌, get_or, refl, ap, sym, ◌∙◌, arith, true≢false, get_or-set_same, All-cons, All-nil, Device, wear_at, GoesOn, page_count, one_more, IsLegal, Cleans, Writes, CountsWear}
 use Rattle.ee_core.specs.Runs.{Call, Cleaned, IsRun, IsWholeRun, Wrote, is_cut, transfers}
-use Rattle.ee_core.specs.State.{CountsWear}
 use Rattle.ee_core.specs.declared.variables.WriteFault.TheVariants as write
 
 -- `runs_go_on` needs that power is not cut in the run: each write in which it is cut is a run
@@ -18,8 +8,7 @@ use Rattle.ee_core.specs.declared.variables.WriteFault.TheVariants as write
 pub runs_go_on_needs_no_cut : ((calls : List Call) (old new : Device) → IsRun calls old new → GoesOn old new)
     → (address value : ℕ) (old new : Device) → Writes old address value (Err write.Cut) new → ⊥
 runs_go_on_needs_no_cut law address value old new cut =
-    let went_on = law (Wrote address value (Err write.Cut) ∷ []) old new (new, cut, refl) in
-    true≢false (sym cut.cut.was_on ∙ sym went_on.same_power ∙ cut.cut.is_off)
+    true≢false (sym cut.cut.was_on ∙ sym (law (Wrote address value (Err write.Cut) ∷ []) old new (new, cut, refl)).same_power ∙ cut.cut.is_off)
 
 -- `no_page_wears_more` needs that no page waits at the start: each clean step that erases one is a
 -- run without a transfer in which a page wears
@@ -30,9 +19,8 @@ no_page_wears_more_needs_none_waiting law old new legal counts cleaned =
     let page = cleaned.lowest.page in
     let within = cleaned.lowest.wear.there 0 0 (omega arith) in
     let formed = legal.2.formed in
-    let run : IsWholeRun (Cleaned (Ok true) ∷ []) old new = record { run = (new, cleaned, refl); without_cuts = All-cons (λ (call : Call). is_cut call ≡ false) (Cleaned (Ok true)) [] refl (All-nil (λ (call : Call). is_cut call ≡ false)) } in
-    let few = law (Cleaned (Ok true) ∷ []) old new page run legal (omega (arith, within, formed.wear_length)) in
+    let few = law (Cleaned (Ok true) ∷ []) old new page (record { run = (new, cleaned, refl); without_cuts = All-cons (λ call. is_cut call ≡ false) _ [] refl (All-nil (λ call. is_cut call ≡ false)) }) legal (omega arith) in
     let below = counts page 0 within in
-    let more : wear_at new page ≡ one_more (wear_at old page) =
-    ap (λ (wear : List ℕ). get_or wear page 0) cleaned.lowest.wear.wear_is ∙ get_or-set_same old.wear page (one_more (wear_at old page)) 0 within in
-    absurd (omega (arith, few, below, more))
+    let more =
+    ap (λ wear. get_or wear page 0) cleaned.lowest.wear.wear_is ∙ get_or-set_same old.wear page (one_more (wear_at old page)) 0 within in
+    absurd (omega arith)

@@ -1,7 +1,7 @@
 -- The lemmas that other crates may use. The files that they stand in are this crate's own.
 pub use Rattle.ee_core.proofs.AfterCalls.{goes_on_both, goes_on_same, not_both}
 pub use Rattle.ee_core.proofs.Appending.{slot_erased}
-pub use Rattle.ee_core.proofs.CopiedMaps.{apart, changed_by-append, changed_by-other, forget-at, forget-other, live_in-nothing, made, map_to-above, map_to-below, meaning-zero, neither, put-at, put-other, same_counts, without-at, without-other}
+pub use Rattle.ee_core.proofs.CopiedMaps.{apart, changed_by-append, changed_by-other, forget-at, forget-other, live_in-nothing, made, map_to-above, map_to-below, put-at, put-other, same_counts, without-at, without-other}
 pub use Rattle.ee_core.proofs.CopiedWords.{next_element, no_words, none_between, one_further}
 pub use Rattle.ee_core.proofs.CutMaps.{cut_making, cut_map, fill_within}
 pub use Rattle.ee_core.proofs.CutMoves.{elements_front}
@@ -13,6 +13,7 @@ pub use Rattle.ee_core.proofs.Listed.{each_apart, lists_are_there_lem, names-put
 pub use Rattle.ee_core.proofs.Making.{always_on_err, few_within, fill_was, generation_proper, map_was, store_marked}
 pub use Rattle.ee_core.proofs.LiveMarks.{layout_stays}
 pub use Rattle.ee_core.proofs.MovingFacts.{few_slots}
+pub use Rattle.ee_core.proofs.Outside.{meaning-zero, meaning_outside}
 pub use Rattle.ee_core.proofs.NotBlank.{length-not_blank}
 pub use Rattle.ee_core.proofs.Nothing.{forgotten_has, still_none}
 pub use Rattle.ee_core.proofs.OpeningFacts.{opening_cut, opens}

@@ -1,28 +1,14 @@
 -- Openings and rescues that are cut, one after another.
-use Rattle.std.proofs.Common.{◌≡◌, ◌⊎◌, inl, inr, ℕ, ◌<◌, true, Option, None, Some, List, [], ◌∷◌, refl, sym, subst, ap, ◌∙◌, arith}
-use Rattle.std.proofs.lemmas.Bool.{cases_eq, cases_lt}
-use Rattle.ee_flash.specs.Device.{Device}
-use Rattle.ee_flash.specs.declared.word.Word.{Word}
-use Rattle.ee_pages.specs.Laws.{KeepsSide}
-use Rattle.ee_pages.specs.Legal.{IsLegal, IsLive}
-use Rattle.ee_pages.specs.Meaning.{meaning}
-use Rattle.ee_pages.specs.Page.{is_written}
+use Rattle.ee_core.proofs.Base.{◌≡◌, ◌⊎◌, inl, inr, ℕ, ◌<◌, true, Option, None, Some, List, [], ◌∷◌, refl, sym, subst, ap, ◌∙◌, arith, cases_eq, cases_lt, Device, Word, KeepsSide, IsLegal, IsLive, meaning, is_written, other, set_of, slots_of, Side, First, Second, held_is_rescued, held_is_rescued_side, live_is_held, live_is_rescued, one_word_costs_its_value, bad_word_leaves_held, bad_waiting_word_leaves_held, waiting_word_costs_nothing, IsCutOpening, with_power_on, state_of, rules}
 use Rattle.ee_pages.specs.Rescue.{map_of_side, rescued_map, rescued_side}
 use Rattle.ee_pages.specs.RescueLaws.{IsHeld, WentBad, IsToldApart, PutsInSet}
-use Rattle.ee_pages.specs.Sets.{other, set_of, slots_of}
-use Rattle.ee_pages.specs.declared.side.Side.{Side}
-use Rattle.ee_pages.specs.declared.side.Side.TheVariants.{First, Second}
-use Rattle.ee_pages.proofs.Public.{held_is_rescued, held_is_rescued_side, live_is_held, live_is_rescued, one_word_costs_its_value, bad_word_leaves_held, bad_waiting_word_leaves_held, waiting_word_costs_nothing}
-use Rattle.ee_core.specs.Openings.{IsCutOpening}
-use Rattle.ee_core.specs.Points.{with_power_on}
 use Rattle.ee_core.specs.Rescues.{AreCutTries, CostsNewest, IsCutRescue, IsCutTry, IsMadeStore, last_on}
-use Rattle.ee_core.specs.State.{State, state_of}
 use Rattle.ee_core.proofs.States.{state_is}
 
 -- the map of a legal image is the one that is rescued
 pub legal_map : (device : Device) → IsLegal device → (address : ℕ) → (state_of device).map address ≡ rescued_map device address
-legal_map device legal address =
-    ap (λ (state : State). state.map address) (state_is device legal.0 legal.1 legal.2) ∙ sym ((live_is_rescued device legal.0 legal.1 legal.2).2 address)
+legal_map _ legal address =
+    ap (λ state. state.map address) (state_is _ _ _ legal.2) ∙ sym ((live_is_rescued _ _ _ legal.2).2 address)
 
 -- A set is held, and this map is rescued.
 pub record Holds (device old : Device) : Type 0 where
@@ -32,26 +18,26 @@ pub record Holds (device old : Device) : Type 0 where
   pub same_map : (address : ℕ) → rescued_map device address ≡ rescued_map old address
 
 legal_holds : (device old : Device) → IsLegal device → ((address : ℕ) → (state_of device).map address ≡ rescued_map old address) → Holds device old
-legal_holds device old legal map_is = record {
+legal_holds device _ legal map_is = record {
   side = legal.0;
   generation = legal.1;
-  held = live_is_held device legal.0 legal.1 legal.2;
+  held = live_is_held _ _ _ legal.2;
   same_map = λ address. sym (legal_map device legal address) ∙ map_is address;
 }
 
 -- ---- power
 
 map_on : (device : Device) (side : Option Side) (address : ℕ) → map_of_side (with_power_on device) side address ≡ map_of_side device side address
-map_on device None address = refl
-map_on device (Some First) address = refl
-map_on device (Some Second) address = refl
+map_on _ None _ = refl
+map_on _ (Some First) _ = refl
+map_on _ (Some Second) _ = refl
 
 held_on : (device : Device) (side : Side) (generation : ℕ) → IsHeld device side generation → IsHeld (with_power_on device) side generation
-held_on device First generation held = record { live = held.live; not_left = held.not_left }
-held_on device Second generation held = record { live = held.live; not_left = held.not_left }
+held_on _ First _ held = record { live = held.live; not_left = held.not_left }
+held_on _ Second _ held = record { live = held.live; not_left = held.not_left }
 
 holds_on : (device old : Device) → Holds device old → Holds (with_power_on device) old
-holds_on device old holds = record {
+holds_on device _ holds = record {
   side = holds.side;
   generation = holds.generation;
   held = held_on device holds.side holds.generation holds.held;
@@ -68,19 +54,16 @@ after_rescue : (old new : Device) (side : Side) (generation : ℕ) → IsHeld ol
 after_rescue old new side generation held cut = elim cut.left [
   | inr has ↦ legal_holds new old has.legal has.map_is
   | inl keeps ↦
-      let mine : rescued_side old ≡ Some side = held_is_rescued_side old side generation held.live held.not_left in
-      let same : cut.side ≡ side = ap side_of (sym cut.rescues.side_is ∙ mine) in
-      let here : KeepsSide old new side = subst (λ (set : Side). KeepsSide old new set) same keeps in
-      let left = held_is_rescued old new side generation held here in
+      let same = ap side_of (sym cut.rescues.side_is ∙ (held_is_rescued_side _ _ _ held.live held.not_left)) in
+      let left = held_is_rescued _ _ _ _ held (subst (λ set. KeepsSide old new set) same keeps) in
       record { side = side; generation = generation; held = left.1; same_map = left.2 }
 ]
 
 after_opening : (old new : Device) → IsCutOpening old new → Holds new old
-after_opening old new cut =
-    legal_holds new old cut.legal (λ address. ap (λ (state : State). state.map address) cut.state_is ∙ legal_map old cut.was_legal address)
+after_opening old new cut = search (rules, legal_holds, legal_map)
 
 holds_later : (device mid old : Device) → Holds device mid → Holds mid old → Holds device old
-holds_later device mid old second first = record {
+holds_later _ _ _ second first = record {
   side = second.side;
   generation = second.generation;
   held = second.held;
@@ -92,14 +75,14 @@ after_try mid new old holds (inl rescue) = holds_on new old (holds_later new mid
 after_try mid new old holds (inr opening) = holds_on new old (holds_later new mid old (after_opening mid new opening) holds)
 
 after_tries : (cuts : List Device) (mid old : Device) → Holds mid old → AreCutTries mid cuts → Holds (last_on mid cuts) old
-after_tries [] mid old holds tries = holds
+after_tries [] _ _ holds _ = holds
 after_tries (next ∷ more) mid old holds tries = after_tries more (with_power_on next) old (after_try mid next old holds tries.0) tries.1
 
 -- ---- and then a whole one
 
 pub made_map : (last new : Device) → IsMadeStore last new → (address : ℕ) → (state_of new).map address ≡ rescued_map last address
-made_map last new (inl rescued) address = rescued.1.map_is address
-made_map last new (inr opened) address = ap (λ (state : State). state.map address) opened.state_is ∙ legal_map last opened.legal address
+made_map _ _ (inl rescued) address = rescued.1.map_is address
+made_map last _ (inr opened) address = ap (λ state. state.map address) opened.state_is ∙ legal_map last opened.legal address
 
 pub held_through_cuts : (old : Device) (side : Side) (generation : ℕ) (cuts : List Device) (new : Device) → IsHeld old side generation → AreCutTries old cuts → IsMadeStore (last_on old cuts) new
     → (address : ℕ) → (state_of new).map address ≡ rescued_map old address
@@ -114,23 +97,22 @@ module _ (old changed : Device) (side : Side) (generation page at : ℕ) (word :
   behind_cuts : ((page ≡ 0 → 1 < at) → IsHeld changed side generation) → (page ≡ 0 → at < 2 → cuts ≡ []) → (address : ℕ) → (state_of new).map address ≡ rescued_map changed address
   behind_cuts held uncut address =
       let by_held : (page ≡ 0 → 1 < at) → (state_of new).map address ≡ rescued_map changed address = λ behind. held_through_cuts changed side generation cuts new (held behind) tries made address in
-      elim (cases_eq page 0) [
+      elim (cases_eq _ 0) [
         | inr away ↦ by_held (λ here. absurd (away here))
         | inl first ↦ elim (cases_lt at 2) [
-          | inl low ↦ made_map changed new (subst (λ (all : List Device). IsMadeStore (last_on changed all) new) (uncut first low) made) address
-          | inr high ↦ by_held (λ here. omega (arith, high))
+          | inl low ↦ made_map changed new (subst (λ all. IsMadeStore (last_on changed all) new) (uncut first low) made) address
+          | inr high ↦ by_held (λ here. omega arith)
         ]
       ]
 
   had : (address : ℕ) → meaning (slots_of (set_of side old)) address ≡ (state_of old).map address
-  had address = sym (ap (λ (state : State). state.map address) (state_is old side generation live))
+  had address = search (rules, state_is)
 
   pub one_word_costs_no_more : PutsInSet old changed side page at word → WentBad at word → (page ≡ 0 → at < 2 → (is_written word ≡ true) × IsToldApart old side × (cuts ≡ []))
       → (address : ℕ) → ((state_of new).map address ≡ (state_of old).map address) ⊎ CostsNewest old new side page at address
   one_word_costs_no_more puts bad told address =
-      let found = behind_cuts (bad_word_leaves_held old changed side generation page at word live bad puts) (λ first low. (told first low).2) address in
-      let costs = one_word_costs_its_value old changed side generation page at word live bad puts (λ first low. let all = told first low in (all.0, all.1)) in
-      elim (costs.1 address) [
+      let found = behind_cuts (bad_word_leaves_held old _ _ _ page at word live bad puts) (λ first low. (told first low).2) address in
+      elim ((one_word_costs_its_value _ _ _ generation _ at word live bad puts (λ first low. let all = told first low in (all.0, all.1))).1 address) [
         | inl same ↦ inl (found ∙ same ∙ had address)
         | inr loses ↦ inr (record { in_slot = loses.in_slot; newest = loses.newest; map_is = found ∙ loses.map_is })
       ]
@@ -138,6 +120,4 @@ module _ (old changed : Device) (side : Side) (generation page at : ℕ) (word :
   pub waiting_word_costs_no_more : PutsInSet old changed (other side) page at word → WentBad at word → (page ≡ 0 → at < 2 → IsToldApart old side × (cuts ≡ []))
       → (address : ℕ) → (state_of new).map address ≡ (state_of old).map address
   waiting_word_costs_no_more puts bad told address =
-      let found = behind_cuts (bad_waiting_word_leaves_held old changed side generation page at word live bad puts) (λ first low. (told first low).1) address in
-      let costs = waiting_word_costs_nothing old changed side generation page at word live bad puts (λ first low. (told first low).0) in
-      found ∙ costs.1 address ∙ had address
+      (behind_cuts (bad_waiting_word_leaves_held old _ _ _ page at word live bad puts) (λ first low. (told first low).1) address) ∙ (waiting_word_costs_nothing old _ _ generation page at word live bad puts (λ first low. (told first low).0)).1 address ∙ had address

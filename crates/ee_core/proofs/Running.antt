@@ -1,22 +1,10 @@
 -- What each call of a run does to power, wear, pending pages and the map, and so what a run does.
-use Rattle.std.proofs.Common.{rules, length, ◌≤◌, ◌≡◌, ℕ, ◌+◌, ◌-◌, ◌*◌, Bool, true, false, cond, Ok, Err, List, [], ◌∷◌, refl, sym, ◌∙◌, ap, subst, arith}
-use Rattle.std.specs.List.{All, flat_map}
-use Rattle.std.proofs.lemmas.List.Elements.{All-head, All-tail}
-use Rattle.std.proofs.lemmas.List.Sums.{sum_by-cons}
-use Rattle.ee_flash.proofs.Public.{calls_compose}
-use Rattle.ee_flash.specs.Device.{Device}
-use Rattle.ee_flash.specs.Power.{GoesOn}
-use Rattle.ee_flash.specs.Size.{Size}
-use Rattle.ee_flash.specs.Wear.{total_wear_of}
-use Rattle.ee_pages.specs.Meaning.{Change, Map, changed_by}
+use Rattle.ee_core.proofs.Base.{rules, length, ◌≤◌, ◌≡◌, ℕ, ◌+◌, ◌-◌, ◌*◌, Bool, true, false, cond, Ok, Err, List, [], ◌∷◌, refl, sym, ◌∙◌, ap, subst, arith, All, flat_map, All-head, All-tail, sum_by-cons, calls_compose, Device, GoesOn, total_wear_of, Change, changed_by, ErasesOne, Appends, Moves, NeedsTransfer, pages_left, CountsWear, capacity, pending_pages, state_of}
 use Rattle.ee_core.proofs.CopiedMaps.{changed_by-append}
 use Rattle.ee_core.proofs.Effects.{by_effect}
 use Rattle.ee_core.proofs.PendingPages.{length-pending_pages}
 use Rattle.ee_core.proofs.Wears.{no_wear, total_rises, wears_rise}
-use Rattle.ee_core.specs.Calls.{ErasesOne}
-use Rattle.ee_core.specs.Changes.{Appends, Moves, NeedsTransfer, pages_left}
 use Rattle.ee_core.specs.Runs.{Call, Wrote, WroteAll, Forgot, Cleared, Cleaned, DidRead, AreAnsweredFrom, Follows, IsAnsweredBy, IsRun, changes_of_call, is_cut, is_single, is_transfer, transfers, IsWholeRun}
-use Rattle.ee_core.specs.State.{CountsWear, State, capacity, pending_pages, state_of}
 
 -- ---- one call
 
@@ -39,39 +27,30 @@ pub record Goes (transfer : Bool) (changes : List Change) (old new : Device) : T
   pub map_is : (state_of new).map ≡ changed_by changes (state_of old).map
 
 nothing : (old new : Device) → new ≡ old → Goes false [] old new
-nothing old new same = record {
-  power = record {
-    same_size = ap (λ (device : Device). device.size) same;
-    same_power = ap (λ (device : Device). device.on) same;
-    same_cuts = ap (λ (device : Device). device.cuts) same;
-    same_cuts_left = ap (λ (device : Device). device.cuts_left) same;
-    same_while_off = λ off. same;
-  };
+nothing _ _ same = record {
+  power = search rules;
   more = 0;
-  adds = rw same (λ counts. (counts, omega arith));
+  adds = search rules;
   few = omega arith;
   whole = λ short. refl;
-  map_is = ap (λ (device : Device). (state_of device).map) same;
+  map_is = search rules;
 }
 
 appends : (old new : Device) (change : Change) → Appends old change new → Goes false (change ∷ []) old new
-appends old new change done = record {
+appends old new _ done = record {
   power = done.goes_on;
   more = 0;
-  adds = λ counts.
-      let wear = total_rises 0 old new (no_wear old new done.no_wear) counts in
-      let pending : (state_of new).pending ≡ (state_of old).pending = ap (λ (state : State). state.pending) done.state_is in
-      (wear.0, omega (arith, wear.1, pending));
+  adds = search (rules, total_rises, no_wear);
   few = omega arith;
   whole = λ short. refl;
-  map_is = ap (λ (state : State). state.map) done.state_is;
+  map_is = search rules;
 }
 
 -- one change leaves all pages of a set
 one_left : (changes : List Change) (device : Device) → NeedsTransfer (capacity device) (state_of device) changes → length changes ≤ 1 → pages_left changes device ≡ device.size.pages
-one_left [] device needed short = absurd needed
-one_left (change ∷ []) device needed short = refl
-one_left (first ∷ second ∷ more) device needed short = absurd (omega (arith, short))
+one_left [] _ needed _ = absurd needed
+one_left (change ∷ []) _ _ _ = refl
+one_left (first ∷ _ ∷ _) device needed short = absurd (omega arith)
 
 moves : (old new : Device) (changes : List Change) → Moves old changes new → Goes true changes old new
 moves old new changes done = record {
@@ -79,52 +58,52 @@ moves old new changes done = record {
   more = pages_left changes old;
   adds = λ counts.
       let wear = total_rises (state_of old).pending old new (wears_rise (pending_pages old) (state_of old).pending old new done.wear (length-pending_pages old)) counts in
-      let pending : (state_of new).pending ≡ pages_left changes old = ap (λ (state : State). state.pending) done.state_is in
-      (wear.0, omega (arith, wear.1, pending));
+      let pending = ap (λ state. state.pending) done.state_is in
+      (wear.0, omega arith);
   few = done.few_left;
   whole = one_left changes old done.needed;
-  map_is = ap (λ (state : State). state.map) done.state_is;
+  map_is = search rules;
 }
 
 erases : (old new : Device) → ErasesOne old new → Goes false [] old new
-erases old new done = record {
+erases _ _ done = record {
   power = done.goes_on;
   more = 0;
   adds = λ counts.
-      let wear = total_rises 1 old new (wears_rise (done.lowest.page ∷ []) 1 old new done.lowest.wear refl) counts in
-      let pending : (state_of new).pending ≡ (state_of old).pending - 1 = ap (λ (state : State). state.pending) done.state_is in
-      (wear.0, omega (arith, wear.1, pending, done.some));
+      let wear = total_rises 1 _ _ (wears_rise _ 1 _ _ done.lowest.wear refl) counts in
+      let pending = ap (λ state. state.pending) done.state_is in
+      (wear.0, omega arith);
   few = omega arith;
   whole = λ short. refl;
-  map_is = ap (λ (state : State). state.map) done.state_is;
+  map_is = search rules;
 }
 
 pub goes : (call : Call) (old new : Device) → is_cut call ≡ false → Follows call old new → Goes (is_transfer call) (changes_of_call call) old new
-goes call old new whole done =
-    by_effect (λ transfer changes. Goes transfer changes old new) call old new whole done (nothing old new) (appends old new) (moves old new) (λ is. erases old new)
+goes _ old new whole done =
+    by_effect (λ transfer changes. Goes transfer changes old new) _ _ _ whole done (nothing old new) (appends old new) (moves old new) (λ is. erases old new)
 
 -- a call that isn't of a list of several makes one change at the most
 single_changes : (call : Call) → is_single call ≡ true → length (changes_of_call call) ≤ 1
-single_changes (Wrote address value (Ok written)) single = omega arith
-single_changes (Wrote address value (Err fault)) single = omega arith
-single_changes (WroteAll [] (Ok written)) single = omega arith
-single_changes (WroteAll (put ∷ []) (Ok written)) single = omega arith
-single_changes (WroteAll (first ∷ second ∷ more) (Ok written)) single = absurd (cc single)
-single_changes (WroteAll puts (Err fault)) single = omega arith
-single_changes (Forgot address (Ok written)) single = omega arith
-single_changes (Forgot address (Err fault)) single = omega arith
-single_changes (Cleared answer) single = absurd (cc single)
-single_changes (Cleaned answer) single = omega arith
-single_changes (DidRead address answer) single = omega arith
+single_changes (Wrote _ _ (Ok _)) _ = omega arith
+single_changes (Wrote _ _ (Err _)) _ = omega arith
+single_changes (WroteAll [] (Ok _)) _ = omega arith
+single_changes (WroteAll (put ∷ []) (Ok _)) _ = omega arith
+single_changes (WroteAll (first ∷ _ ∷ _) (Ok _)) single = absurd (cc single)
+single_changes (WroteAll _ (Err _)) _ = omega arith
+single_changes (Forgot _ (Ok _)) _ = omega arith
+single_changes (Forgot _ (Err _)) _ = omega arith
+single_changes (Cleared _) single = absurd (cc single)
+single_changes (Cleaned _) _ = omega arith
+single_changes (DidRead _ _) _ = omega arith
 
 answered : (call : Call) (old new : Device) → Follows call old new → IsAnsweredBy (state_of old).map call
-answered (Wrote address value answer) old new done = tt
-answered (WroteAll puts answer) old new done = tt
-answered (Forgot address answer) old new done = tt
-answered (Cleared answer) old new done = tt
-answered (Cleaned answer) old new done = tt
-answered (DidRead address (Ok value)) old new done = done.0.1
-answered (DidRead address (Err off)) old new done = tt
+answered (Wrote _ _ _) _ _ _ = tt
+answered (WroteAll _ _) _ _ _ = tt
+answered (Forgot _ _) _ _ _ = tt
+answered (Cleared _) _ _ _ = tt
+answered (Cleaned _) _ _ _ = tt
+answered (DidRead _ (Ok _)) _ _ done = done.0.1
+answered (DidRead _ (Err _)) _ _ _ = tt
 
 -- ---- a run
 
@@ -140,36 +119,36 @@ record Went (calls : List Call) (old new : Device) : Type 0 where
 
 -- what a call adds, and then what the calls after it add
 few_of_more : (transfer : Bool) (pages later_pages rest all first then : ℕ) → later_pages ≡ pages → all ≡ cond transfer 1 0 + rest → first ≤ cond transfer pages 0 → then ≤ rest * later_pages → first + then ≤ all * pages
-few_of_more true pages later_pages rest all first then same is one more = rw (is) (let later = rw same at more in grind arith)
+few_of_more true _ _ _ all first then same is one more = rw (is) (let later = rw same at more in grind arith)
 few_of_more false pages later_pages rest all first then same is one more = rw (is) (let later = rw same at more in grind arith)
 
 sum_of_more : (transfer : Bool) (pages later_pages rest all first then : ℕ) → later_pages ≡ pages → all ≡ cond transfer 1 0 + rest → first ≡ cond transfer pages 0 → then ≡ rest * later_pages → first + then ≡ all * pages
-sum_of_more true pages later_pages rest all first then same is one more = rw (is, one, more, same) (grind arith)
-sum_of_more false pages later_pages rest all first then same is one more = rw (is, one, more, same) (grind arith)
+sum_of_more true _ _ _ _ _ _ same is one more = rw (is, one, more, same) (grind arith)
+sum_of_more false _ _ _ _ _ _ same is one more = rw (is, one, more, same) (grind arith)
 
 went : (calls : List Call) (old new : Device) → IsRun calls old new → All (λ call. is_cut call ≡ false) calls → Went calls old new
 went [] old new run whole =
     let done = nothing old new run in
-    record { power = done.power; more = done.more; adds = done.adds; few = omega (arith, done.few); whole = λ singles. omega (arith, done.few); map_is = done.map_is; answers = tt }
+    record { power = done.power; more = done.more; adds = done.adds; few = omega arith; whole = λ singles. omega arith; map_is = done.map_is; answers = tt }
 went (call ∷ calls) old new run whole =
     let first = goes call old run.0 (whole 0 call (omega arith)) run.1 in
-    let rest = went calls run.0 new run.2 (All-tail (λ (one : Call). is_cut one ≡ false) call calls whole) in
-    let pages = ap (λ (size : Size). size.pages) first.power.same_size in
-    let counted = sum_by-cons (λ (one : Call). cond (is_transfer one) 1 0) call calls in
+    let rest = went calls run.0 new run.2 (All-tail (λ one. is_cut one ≡ false) _ _ whole) in
+    let pages = ap (λ size. size.pages) first.power.same_size in
+    let counted = sum_by-cons (λ one. cond (is_transfer one) 1 0) _ calls in
     record {
-      power = (calls_compose old run.0 new first.power).0 rest.power;
+      power = (calls_compose _ _ _ first.power).0 rest.power;
       more = first.more + rest.more;
       adds = λ counts.
           let later = rest.adds counts in
           let sooner = first.adds later.0 in
-          (sooner.0, omega (arith, sooner.1, later.1));
+          (sooner.0, omega arith);
       few = few_of_more (is_transfer call) old.size.pages run.0.size.pages (transfers calls) (transfers (call ∷ calls)) first.more rest.more pages counted first.few rest.few;
       whole = λ singles.
           sum_of_more (is_transfer call) old.size.pages run.0.size.pages (transfers calls) (transfers (call ∷ calls)) first.more rest.more pages counted
-          (first.whole (single_changes call (All-head (λ (one : Call). is_single one ≡ true) call calls singles)))
-          (rest.whole (All-tail (λ (one : Call). is_single one ≡ true) call calls singles));
+          (first.whole (single_changes call (All-head (λ one. is_single one ≡ true) _ _ singles)))
+          (rest.whole (All-tail (λ one. is_single one ≡ true) _ _ singles));
       map_is = rest.map_is ∙ ap (changed_by (flat_map changes_of_call calls)) first.map_is ∙ sym (changed_by-append (changes_of_call call) (flat_map changes_of_call calls) (state_of old).map);
-      answers = (answered call old run.0 run.1, subst (λ (map : Map). AreAnsweredFrom map calls) first.map_is rest.answers);
+      answers = (answered call old run.0 run.1, subst (λ map. AreAnsweredFrom map calls) first.map_is rest.answers);
     }
 
 pub runs_go_on_lem : (calls : List Call) (old new : Device) → IsWholeRun calls old new → GoesOn old new
@@ -177,15 +156,15 @@ runs_go_on_lem calls old new whole = assumption (went calls old new whole.run wh
 
 pub each_transfer_erases_a_set_lem : (calls : List Call) (old new : Device) → IsWholeRun calls old new → All (λ call. is_single call ≡ true) calls → CountsWear new
     → total_wear_of new + (state_of new).pending ≡ total_wear_of old + (state_of old).pending + transfers calls * old.size.pages
-each_transfer_erases_a_set_lem calls old new whole singles counts = search (rules, went, whole)
+each_transfer_erases_a_set_lem _ _ _ whole singles counts = search (rules, went, whole)
 
 pub no_transfer_erases_more_lem : (calls : List Call) (old new : Device) → IsWholeRun calls old new → CountsWear new
     → total_wear_of new + (state_of new).pending ≤ total_wear_of old + (state_of old).pending + transfers calls * old.size.pages
-no_transfer_erases_more_lem calls old new whole counts = search (rules, went, whole)
+no_transfer_erases_more_lem _ _ _ whole counts = search (rules, went, whole)
 
 pub clean_runs_erase_sets_lem : (calls : List Call) (old new : Device) → IsWholeRun calls old new → All (λ call. is_single call ≡ true) calls → CountsWear new → (state_of old).pending ≡ 0
     → (state_of new).pending ≡ 0 → total_wear_of new ≡ total_wear_of old + transfers calls * old.size.pages
-clean_runs_erase_sets_lem calls old new whole singles counts clean cleaned = search (rules, went, whole)
+clean_runs_erase_sets_lem _ _ _ whole singles counts clean cleaned = search (rules, went, whole)
 
 pub the_store_is_a_map_lem : (calls : List Call) (old new : Device) → IsWholeRun calls old new
     → ((state_of new).map ≡ changed_by (flat_map changes_of_call calls) (state_of old).map) × AreAnsweredFrom (state_of old).map calls

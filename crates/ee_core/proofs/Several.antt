@@ -1,18 +1,7 @@
 -- Lists of two values or more: when one is refused, and how many addresses have a value with it.
-use Rattle.std.proofs.Common.{rules, ◌≡◌, ℕ, ◌+◌, ◌<◌, ◌≤◌, true, false, Bool, cond, Option, Some, is_some, List, [], ◌∷◌, length, get_or, take, refl, sym, subst, ap, ◌∙◌, arith, suc, zero, length-append}
-use Rattle.std.specs.Prelude.{◌==◌, slice_get}
-use Rattle.std.proofs.lemmas.Bool.{ne_eqb}
-use Rattle.std.proofs.lemmas.Option.{slice_get_read}
-use Rattle.ee_codec.specs.Words.{IsAddress}
-use Rattle.ee_flash.specs.Device.{Device, IsOn}
-use Rattle.ee_pages.specs.Meaning.{Map, Put, changed_by, live_in, live_to}
-use Rattle.ee_pages.proofs.Public.{change_counts, live_to-zero, live_to-suc}
-use Rattle.ee_core.specs.Changes.{HaveNoGeneration, HaveNoPlace, NeedsTransfer, Proceeds, greatest_generation}
-use Rattle.ee_core.specs.Picture.{elements_of, map_without, put_words}
-use Rattle.ee_core.specs.Puts.{AreApart, names, puts_of}
-use Rattle.ee_core.specs.State.{State, capacity, state_of}
+use Rattle.ee_core.proofs.Base.{rules, ◌≡◌, ℕ, ◌+◌, ◌<◌, ◌≤◌, true, false, Bool, cond, Some, is_some, List, [], ◌∷◌, length, get_or, take, refl, sym, ap, arith, suc, zero, length-append, ◌==◌, slice_get, ne_eqb, slice_get_read, IsAddress, Device, IsOn, Map, Put, changed_by, live_in, live_to, change_counts, live_to-zero, live_to-suc, HaveNoGeneration, HaveNoPlace, NeedsTransfer, Proceeds, greatest_generation, elements_of, map_without, put_words, AreApart, names, puts_of, State, capacity, state_of, neither}
 use Rattle.ee_core.specs.declared.change.Put as listed
-use Rattle.ee_core.proofs.CopiedMaps.{apart, changed_by-other, neither}
+use Rattle.ee_core.proofs.CopiedMaps.{apart, changed_by-other}
 use Rattle.ee_core.proofs.Fillings.{length-put_words, map_with_more}
 use Rattle.ee_core.proofs.ShownStates.{moved_words_are_live_lem}
 
@@ -28,9 +17,9 @@ module _ (slots : ℕ) (state : State) where
   no_place (first ∷ second ∷ puts) several more = more
 
   pub some_place : (puts : List listed.Put) → 1 < length puts → with_all puts ≤ slots → ¬ HaveNoPlace slots state (puts_of puts)
-  some_place [] several fits none = absurd (omega arith)
+  some_place [] _ _ none = absurd (omega arith)
   some_place (put ∷ []) several fits none = absurd (omega arith)
-  some_place (first ∷ second ∷ puts) several fits none = omega (arith, fits, none)
+  some_place (first ∷ second ∷ puts) several fits none = omega arith
 
   pub no_generation : (puts : List listed.Put) → 1 < length puts → state.generation ≡ greatest_generation → HaveNoGeneration slots state (puts_of puts)
   no_generation [] several last = absurd (omega arith)
@@ -38,7 +27,7 @@ module _ (slots : ℕ) (state : State) where
   no_generation (first ∷ second ∷ puts) several last = last
 
   pub some_generation : (puts : List listed.Put) → 1 < length puts → ¬ (state.generation ≡ greatest_generation) → ¬ HaveNoGeneration slots state (puts_of puts)
-  some_generation [] several left none = absurd (omega arith)
+  some_generation [] _ _ none = absurd (omega arith)
   some_generation (put ∷ []) several left none = absurd (omega arith)
   some_generation (first ∷ second ∷ puts) several left none = left none
 
@@ -48,7 +37,7 @@ module _ (slots : ℕ) (state : State) where
   needs_transfer (first ∷ second ∷ puts) several = tt
 
 pub several_proceed : (device : Device) (puts : List listed.Put) → IsOn device → 1 < length puts → live_in (changed_by (puts_of puts) (state_of device).map) ≤ capacity device → ¬ ((state_of device).generation ≡ greatest_generation) → Proceeds device (puts_of puts)
-several_proceed device puts on several fits left = search (rules, some_place, some_generation)
+several_proceed _ puts on several fits left = search (rules, some_place, some_generation)
 
 -- ---- how many addresses have a value with them
 
@@ -67,22 +56,22 @@ puts_within puts map each =
     omega (arith, moved_words_are_live_lem (puts_of puts) map each, length-append (put_words (puts_of puts)) (elements_of (map_without (puts_of puts) map)), length-put_words puts)
 
 not_named : (puts : List listed.Put) (place named : ℕ) (put : listed.Put) → names (puts_of puts) named ≡ false → slice_get puts place ≡ Some put → (put.address == named) ≡ false
-not_named [] place named put none is = absurd (cc is)
-not_named (first ∷ puts) zero named put none is =
+not_named [] _ _ _ _ is = absurd (cc is)
+not_named (first ∷ _) zero named put none is =
     let same : first ≡ put = cc is in
-    ap (λ (found : listed.Put). found.address == named) (sym same) ∙ (neither (first.address == named) (names (puts_of puts) named) none).0
-not_named (first ∷ puts) (suc place) named put none is = not_named puts place named put (neither (first.address == named) (names (puts_of puts) named) none).1 is
+    search (rules, neither)
+not_named (first ∷ puts) (suc place) named put none is = not_named puts place named put (neither _ _ none).1 is
 
 -- the address of an entry is proper, and no earlier entry has it
 pub new_before : (puts : List listed.Put) (place : ℕ) (put : listed.Put) → AreApart (puts_of puts) → slice_get puts place ≡ Some put → IsAddress put.address × (names (puts_of (take place puts)) put.address ≡ false)
-new_before [] place put each is = absurd (cc is)
-new_before (first ∷ puts) zero put each is =
+new_before [] _ _ _ is = absurd (cc is)
+new_before (first ∷ _) zero put each is =
     let same : first ≡ put = cc is in
-    (subst (λ (found : listed.Put). IsAddress found.address) same each.0, refl)
+    search rules
 new_before (first ∷ puts) (suc place) put each is =
     let later = new_before puts place put each.2 is in
     let away = not_named puts place first.address put each.1 is in
-    let here : (first.address == put.address) ≡ false = ne_eqb first.address put.address (λ e. apart put.address first.address away e) in
+    let here = ne_eqb first.address put.address (λ e. apart _ _ away e) in
     (later.0, rw here later.1)
 
 module _ (map : Map) (puts : List listed.Put) (each : AreApart (puts_of puts)) (place : ℕ) (put : listed.Put) (within : place < length puts) (is : put ≡ get_or puts place put) where
@@ -92,15 +81,13 @@ module _ (map : Map) (puts : List listed.Put) (each : AreApart (puts_of puts)) (
   -- one value more
   pub one_counted : live_in (changed_by (puts_of (take (place + 1) puts)) map) ≡ live_in so_far + cond (is_some (map put.address)) 0 1
   one_counted =
-      let there = new_before puts place put each (slice_get_read puts (length puts) place put refl within is) in
+      let there = new_before puts place put each (slice_get_read _ _ _ _ refl within is) in
       let counts = change_counts (Put put.address put.value) so_far there.0 in
-      let as_before : so_far put.address ≡ map put.address = changed_by-other (puts_of (take place puts)) map put.address there.1 in
-      ap live_in (map_with_more map puts place put within is)
-      ∙ counts
-      ∙ ap (λ (held : Option ℕ). live_in so_far + cond (is_some held) 0 1) as_before
+      let as_before = changed_by-other (puts_of (take place puts)) map put.address there.1 in
+      search (rules, map_with_more)
 
 -- a list of one value
 pub one_listed : (puts : List listed.Put) (put : listed.Put) → length puts ≡ 1 → put ≡ get_or puts 0 put → puts ≡ put ∷ []
-one_listed [] put long is = absurd (omega (arith, long))
-one_listed (first ∷ []) put long is = ap (λ (one : listed.Put). one ∷ []) (sym is)
-one_listed (first ∷ second ∷ more) put long is = absurd (omega (arith, long))
+one_listed [] _ long is = absurd (omega arith)
+one_listed (first ∷ []) put long is = ap (λ one. one ∷ []) (sym is)
+one_listed (first ∷ second ∷ more) put long is = absurd (omega arith)

@@ -1,33 +1,22 @@
 -- What a live set says is the state of its device.
-use Rattle.std.proofs.Common.{rules, ◌≡◌, ℕ, List, refl, ap}
-use Rattle.std.proofs.Math.Path.{fun_ext}
-use Rattle.ee_flash.specs.Device.{Device}
-use Rattle.ee_pages.specs.Laws.{KeepsLiveSet}
-use Rattle.ee_pages.specs.Legal.{IsLive}
-use Rattle.ee_pages.specs.Meaning.{Change, Map}
-use Rattle.ee_pages.specs.Sets.{other, pending_of, set_of}
-use Rattle.ee_pages.specs.declared.side.Side.{Side}
-use Rattle.ee_pages.proofs.Public.{other_twice}
+use Rattle.ee_core.proofs.Base.{rules, ◌≡◌, ℕ, List, refl, ap, fun_ext, Device, KeepsLiveSet, IsLive, Change, Map, other, pending_of, set_of, Side, other_twice, HasMoved, Stays, State, moved_state, state_in, state_of, state_with, with_pending}
 use Rattle.ee_core.proofs.PendingPages.{as_many_not_blank}
-use Rattle.ee_core.specs.CallSteps.{HasMoved, Stays}
-use Rattle.ee_core.specs.State.{State, moved_state, state_in, state_of, state_with, with_pending}
 
 pub state_is : (device : Device) (side : Side) (generation : ℕ) → IsLive device side generation → state_of device ≡ state_with device side generation
-state_is device side generation live = ap (state_in device) live.live
+state_is device _ _ live = ap (state_in device) live.live
 
 -- a state is what it says
 abbrev pub state_from : Map → ℕ → ℕ → ℕ → State
 state_from map fill generation pending = record { map = map; fill = fill; generation = generation; pending = pending }
 
 pub same_states : (map new_map : Map) (fill new_fill generation new_generation pending new_pending : ℕ) → ((address : ℕ) → new_map address ≡ map address) → new_fill ≡ fill → new_generation ≡ generation → new_pending ≡ pending → state_from new_map new_fill new_generation new_pending ≡ state_from map fill generation pending
-same_states map new_map fill new_fill generation new_generation pending new_pending maps fills generations pendings =
-    let map_is : new_map ≡ map = fun_ext maps in
-    rw (map_is, fills, generations, pendings) refl
+same_states _ _ _ _ _ _ _ _ maps fills generations pendings =
+    rw ((fun_ext maps), fills, generations, pendings) refl
 
 module _ (old new : Device) (side : Side) (generation : ℕ) (live : IsLive old side generation) where
   -- the live set is as before, and so many pages of the other wait
   pub state_kept : KeepsLiveSet old new side generation → (pending : ℕ) → pending_of (set_of (other side) new) ≡ pending → state_of new ≡ with_pending pending (state_of old)
-  state_kept keeps pending e = search (rules, state_is, same_states)
+  state_kept keeps _ e = search (rules, state_is, same_states)
 
   -- all is as before
   pub state_stays : Stays old new side generation → state_of new ≡ state_of old
@@ -35,4 +24,4 @@ module _ (old new : Device) (side : Side) (generation : ℕ) (live : IsLive old 
 
   -- the map was moved
   pub state_moved : (changes : List Change) → HasMoved old new side generation changes → state_of new ≡ moved_state (pending_of (set_of side old)) changes (state_of old)
-  state_moved changes has = search (rules, state_is, same_states, other_twice)
+  state_moved _ has = search (rules, state_is, same_states, other_twice)

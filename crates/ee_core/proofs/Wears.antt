@@ -1,14 +1,5 @@
 -- How wear rises over several steps, page by page and in all.
-use Rattle.std.proofs.Common.{rules, ◌≡◌, ◌⊎◌, inl, inr, ℕ, ◌+◌, ◌<◌, ◌++◌, List, [], ◌∷◌, ◌≤◌, Bool, true, false, cond, eqb, length, get_or, set, min, refl, sym, subst, ap, ◌∙◌, arith}
-use Rattle.std.specs.List.{All, sum}
-use Rattle.std.proofs.lemmas.Bool.{cases_eq, cases_lt, eq-eqb, ne_eqb, true≢false}
-use Rattle.std.proofs.lemmas.List.{get_or-set_other, get_or-set_same, get_or_past, length-append, length-set}
-use Rattle.std.proofs.lemmas.List.Elements.{All-append, All-cons, All-from_get_or, All-get_or, All-head, All-nil, All-tail}
-use Rattle.std.proofs.lemmas.List.Sums.{sum_by-set}
-use Rattle.ee_flash.specs.Device.{Device, IsOn, all_ones}
-use Rattle.ee_flash.specs.Step.{Erase, IsCutIn, IsUntouched, with_page_erased, one_more}
-use Rattle.ee_flash.specs.Wear.{total_wear_of}
-use Rattle.ee_core.specs.State.{CountsWear, WearRises, Wears, worn_by}
+use Rattle.ee_core.proofs.Base.{rules, ◌≡◌, ◌⊎◌, inl, inr, ℕ, ◌+◌, ◌<◌, ◌++◌, List, [], ◌∷◌, ◌≤◌, Bool, true, false, cond, eqb, length, get_or, set, min, refl, sym, subst, ap, ◌∙◌, arith, All, sum, cases_eq, true≢false, get_or-set_other, get_or-set_same, get_or_past, length-append, length-set, All-append, All-cons, All-from_get_or, All-get_or, All-head, All-nil, All-tail, sum_by-set, Device, IsOn, all_ones, Erase, IsCutIn, IsUntouched, with_page_erased, one_more, total_wear_of, CountsWear, WearRises, Wears, worn_by}
 
 -- ---- wears as lists
 
@@ -21,115 +12,103 @@ abbrev AreThere : List ℕ → List ℕ → Type 0
 AreThere pages wear = All (λ page. page < length wear) pages
 
 length-worn_by : (pages wear : List ℕ) → length (worn_by pages wear) ≡ length wear
-length-worn_by [] wear = refl
+length-worn_by [] _ = refl
 length-worn_by (page ∷ pages) wear = length-worn_by pages (set wear page (one_more (get_or wear page 0))) ∙ length-set wear page (one_more (get_or wear page 0))
 
 worn_by-append : (pages more wear : List ℕ) → worn_by (pages ++ more) wear ≡ worn_by more (worn_by pages wear)
-worn_by-append [] more wear = refl
+worn_by-append [] _ _ = refl
 worn_by-append (page ∷ pages) more wear = worn_by-append pages more (set wear page (one_more (get_or wear page 0)))
 
 -- a count that is one more, below all ones
 below_more : (count top : ℕ) → min (count + 1) top < top → (count < top) × (min (count + 1) top ≡ count + 1)
-below_more count top h = (omega arith, omega arith)
+below_more _ _ h = (omega arith, omega arith)
 
 more_counts : (wear : List ℕ) (page : ℕ) → page < length wear → IsCounted (set wear page (one_more (get_or wear page 0))) → IsCounted wear × (sum (set wear page (one_more (get_or wear page 0))) ≡ sum wear + 1)
 more_counts wear page h counts =
     let more = one_more (get_or wear page 0) in
     let long = length-set wear page more in
-    let below : more < all_ones = subst (λ count. count < all_ones) (get_or-set_same wear page more 0 h) (All-get_or (λ count. count < all_ones) (set wear page more) page 0 (omega (arith, long)) counts) in
-    let here = below_more (get_or wear page 0) all_ones below in
-    let each : IsCounted wear = All-from_get_or (λ count. count < all_ones) wear 0 (λ k in_range. elim (cases_eq k page) [
+    let here = below_more (get_or wear page 0) all_ones (subst (λ count. count < all_ones) (get_or-set_same wear page more 0 h) (All-get_or (λ count. count < all_ones) _ _ 0 (omega arith) counts)) in
+    let each = All-from_get_or (λ count. count < all_ones) _ 0 (λ k in_range. elim (cases_eq k _) [
       | inl same ↦ subst (λ n. get_or wear n 0 < all_ones) (sym same) here.0
-      | inr other ↦ subst (λ count. count < all_ones) (get_or-set_other wear page k more 0 other) (All-get_or (λ count. count < all_ones) (set wear page more) k 0 (omega (arith, long)) counts)
+      | inr other ↦ subst (λ count. count < all_ones) (get_or-set_other wear page k more 0 other) (All-get_or (λ count. count < all_ones) _ k 0 (omega arith) counts)
     ]) in
-    (each, omega (arith, sum_by-set (λ count. count) wear page more 0 h, here.1))
+    (each, omega (arith, sum_by-set (λ count. count) _ _ more 0 h))
 
 all_count : (pages wear : List ℕ) → AreThere pages wear → IsCounted (worn_by pages wear) → IsCounted wear × (sum (worn_by pages wear) ≡ sum wear + length pages)
-all_count [] wear there counts = (counts, omega arith)
+all_count [] _ _ counts = (counts, omega arith)
 all_count (page ∷ pages) wear there counts =
-    let next = set wear page (one_more (get_or wear page 0)) in
-    let long : length next ≡ length wear = length-set wear page (one_more (get_or wear page 0)) in
-    let rest : AreThere pages next = subst (λ n. All (λ page. page < n) pages) (sym long) (All-tail (λ page. page < length wear) page pages there) in
-    let later = all_count pages next rest counts in
-    let now = more_counts wear page (All-head (λ page. page < length wear) page pages there) later.0 in
-    (now.0, omega (arith, later.1, now.1))
+    let rest = subst (λ n. All (λ page. page < n) pages) (sym (length-set wear page (one_more (get_or wear page 0)))) (All-tail (λ page. page < length wear) _ _ there) in
+    let later = all_count pages (set wear page (one_more (get_or wear page 0))) rest counts in
+    let now = more_counts wear page (All-head (λ page. page < length wear) _ _ there) later.0 in
+    (now.0, omega arith)
 
 -- ---- how often a page is worn
 
 -- how often a list names a page
 abbrev pub times : ℕ → List ℕ → ℕ
-times page [] = 0
+times _ [] = 0
 times page (here ∷ pages) = cond (eqb here page) 1 0 + times page pages
 
 -- one more, of a page that may be past the end
 worn_once : (wear : List ℕ) (page : ℕ) → get_or (set wear page (one_more (get_or wear page 0))) page 0 ≤ get_or wear page 0 + 1
-worn_once wear page = elim (cases_lt page (length wear)) [
-  | inl within ↦ rw (get_or-set_same wear page (one_more (get_or wear page 0)) 0 within) (omega arith)
-  | inr past ↦
-      let long = length-set wear page (one_more (get_or wear page 0)) in
-      rw (get_or_past (set wear page (one_more (get_or wear page 0))) page 0 (omega (arith, long))) (omega arith)
-]
+worn_once wear page = search (rules, get_or_past)
 
 worn_one : (wear : List ℕ) (here page : ℕ) → get_or (set wear here (one_more (get_or wear here 0))) page 0 ≤ get_or wear page 0 + cond (eqb here page) 1 0
-worn_one wear here page = elim (cases_eq page here) [
-  | inl same ↦ rw (same, eq-eqb here here refl) (worn_once wear here)
-  | inr other ↦ rw (get_or-set_other wear here page (one_more (get_or wear here 0)) 0 other, ne_eqb here page (λ same. other (sym same))) (omega arith)
-]
+worn_one wear here page = search (rules, worn_once)
 
 -- a page wears no more often than the list names it
 pub worn_at_most : (pages wear : List ℕ) (page : ℕ) → get_or (worn_by pages wear) page 0 ≤ get_or wear page 0 + times page pages
-worn_at_most [] wear page = omega arith
+worn_at_most [] _ _ = omega arith
 worn_at_most (here ∷ pages) wear page =
     let later = worn_at_most pages (set wear here (one_more (get_or wear here 0))) page in
     let now = worn_one wear here page in
-    omega (arith, later, now)
+    omega arith
 
 one_few : (same : Bool) (times count : ℕ) → times ≤ count → cond same 1 0 + times ≤ count + 1
-one_few true times count h = omega arith
-one_few false times count h = omega arith
+one_few true _ _ h = omega arith
+one_few false _ _ h = omega arith
 
 pub times_few : (pages : List ℕ) (page : ℕ) → times page pages ≤ length pages
-times_few [] page = omega arith
-times_few (here ∷ pages) page = let rest = one_few (eqb here page) (times page pages) (length pages) (times_few pages page) in omega (arith, rest)
+times_few [] _ = omega arith
+times_few (here ∷ pages) page = let rest = one_few (eqb here page) (times page pages) (length pages) (times_few pages page) in omega arith
 
 -- ---- wears of devices
 
 pub wears_none : (old new : Device) → new.wear ≡ old.wear → Wears [] old new
-wears_none old new same = record { there = All-nil (λ page. page < length old.wear); wear_is = same }
+wears_none old _ same = search (rules, All-nil)
 
 -- an erase of a page that was begun
 pub page_wears : (page : ℕ) (old new : Device) → page < length old.wear → new.wear ≡ (with_page_erased page old).wear → Wears (page ∷ []) old new
-page_wears page old new h wear = search (rules, All-cons, All-nil)
+page_wears _ _ _ h wear = search (rules, All-cons, All-nil)
 
 -- so is an erase that was cut with the power on
 pub cut_page_wears : (page : ℕ) (old new : Device) → page < length old.wear → IsCutIn (Erase page) old new ⊎ IsUntouched old new → IsOn old → Wears (page ∷ []) old new
-cut_page_wears page old new h (inl cut) on = page_wears page old new h cut.wear
-cut_page_wears page old new h (inr untouched) on = absurd (true≢false (sym on ∙ untouched.was_off))
+cut_page_wears page old new h (inl cut) _ = page_wears page old new h cut.wear
+cut_page_wears _ _ _ h (inr untouched) on = absurd (true≢false (sym on ∙ untouched.was_off))
 
 pub wears_both : (pages more : List ℕ) (old mid new : Device) → Wears pages old mid → Wears more mid new → Wears (pages ++ more) old new
-wears_both pages more old mid new first second =
-    let long : length mid.wear ≡ length old.wear = ap length first.wear_is ∙ length-worn_by pages old.wear in
-    record { there = All-append (λ page. page < length old.wear) pages more first.there (subst (λ n. All (λ page. page < n) more) long second.there); wear_is = second.wear_is ∙ ap (worn_by more) first.wear_is ∙ sym (worn_by-append pages more old.wear) }
+wears_both pages more old _ _ first second =
+    record { there = All-append (λ page. page < length old.wear) _ _ first.there (subst (λ n. All (λ page. page < n) more) (ap length first.wear_is ∙ length-worn_by pages old.wear) second.there); wear_is = search (rules, worn_by-append) }
 
 -- what wears nothing more
 pub wears_still : (pages : List ℕ) (old mid new : Device) → Wears pages old mid → new.wear ≡ mid.wear → Wears pages old new
-wears_still pages old mid new wears same = record { there = wears.there; wear_is = same ∙ wears.wear_is }
+wears_still _ _ _ _ wears same = search rules
 
 -- ---- so many erases
 
 pub wears_rise : (pages : List ℕ) (erases : ℕ) (old new : Device) → Wears pages old new → length pages ≡ erases → WearRises erases old new
-wears_rise pages erases old new wears count = record { pages = pages; count = count; wears = wears }
+wears_rise pages _ _ _ wears count = search rules
 
 pub no_wear : (old new : Device) → new.wear ≡ old.wear → WearRises 0 old new
 no_wear old new same = wears_rise [] 0 old new (wears_none old new same) refl
 
 pub wear_adds : (a b : ℕ) (old mid new : Device) → WearRises a old mid → WearRises b mid new → WearRises (a + b) old new
-wear_adds a b old mid new first second = record { pages = first.pages ++ second.pages; count = omega (arith, length-append first.pages second.pages, first.count, second.count); wears = wears_both first.pages second.pages old mid new first.wears second.wears }
+wear_adds a b old mid new first second = record { pages = first.pages ++ second.pages; count = omega (arith, length-append first.pages second.pages); wears = search (rules, wears_both) }
 
 -- In all, wear rose by as many as were erased, where no page of the device now was erased as
 -- often as can be counted.
 pub total_rises : (erases : ℕ) (old new : Device) → WearRises erases old new → CountsWear new → CountsWear old × (total_wear_of new ≡ total_wear_of old + erases)
-total_rises erases old new rises counts =
+total_rises _ old _ rises counts =
     let all = all_count rises.pages old.wear rises.wears.there (subst IsCounted rises.wears.wear_is counts) in
-    let total : total_wear_of new ≡ sum (worn_by rises.pages old.wear) = ap sum rises.wears.wear_is in
-    (all.0, omega (arith, total, all.1, rises.count))
+    let total = ap sum rises.wears.wear_is in
+    (all.0, omega arith)

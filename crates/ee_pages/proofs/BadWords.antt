@@ -14,13 +14,14 @@ use Rattle.ee_pages.specs.Meaning.{latest_in, later_of, meaning, says, value_sai
 use Rattle.ee_pages.specs.Page.{is_written, word_in}
 use Rattle.ee_pages.specs.Rescue.{has_begun, is_left_behind, named_generation, rescued_map, rescued_side}
 use Rattle.ee_pages.specs.RescueLaws.{IsHeld, WentBad, IsToldApart, LosesASet, LosesNewest, PutsInSet, meaning_without}
-use Rattle.ee_pages.specs.Sets.{committed_generation, is_mark, live_of, other, set_of, slots_of, word_of}
+use Rattle.ee_pages.specs.Sets.{committed_generation, is_mark, other, set_of, slots_of, word_of}
 use Rattle.ee_pages.specs.declared.side.Side.{Side}
 use Rattle.ee_pages.specs.declared.side.Side.TheVariants.{First, Second}
 use Rattle.ee_pages.proofs.Commits.{live_commits}
 use Rattle.ee_pages.proofs.InTheSet.{slots-header, slots-slot, with_word_in, word-elsewhere, word-there}
 use Rattle.ee_pages.proofs.OtherSet.{live_stays}
 use Rattle.ee_pages.proofs.LastSaid.{later-none, latest_in-append}
+use Rattle.ee_pages.proofs.SetPrograms.{same_live}
 use Rattle.ee_pages.proofs.Slots.{length-set_of, pages-set_of, row_within}
 use Rattle.ee_pages.proofs.FirstCommits.{other_twice}
 use Rattle.ee_pages.proofs.Rescues.{begun, by_rules, held_is_rescued_side, map_rescued, not_left, unwritten_is_no_mark}
@@ -50,12 +51,6 @@ any_set p (x ∷ xs) (suc k) y d e = ap (λ (b : Bool). p x || b) (any_set p xs 
 
 -- ---- what is told without the words that commit
 
-rule_two_first : (left_first left_second committed_first committed_second : Bool) (n m : ℕ) → by_rules true false left_first left_second committed_first committed_second n m ≡ Some First
-rule_two_first left_first left_second committed_first committed_second n m = refl
-
-rule_two_second : (left_first left_second committed_first committed_second : Bool) (n m : ℕ) → by_rules false true left_first left_second committed_first committed_second n m ≡ Some Second
-rule_two_second left_first left_second committed_first committed_second n m = refl
-
 rule_three_first : (begun committed_first committed_second : Bool) (n m : ℕ) → by_rules true begun false true committed_first committed_second n m ≡ Some First
 rule_three_first true committed_first committed_second n m = refl
 rule_three_first false committed_first committed_second n m = refl
@@ -81,18 +76,18 @@ told_by_headers Second device begun left (inr whole) = let rule = rule_three_sec
 
 -- ---- what the header of a set with a word that went bad says
 
-either_false : (x y : Bool) → (x || y) ≡ false → (x ≡ false) × (y ≡ false)
-either_false true y e = absurd (cc e)
-either_false false y e = (refl, e)
+pub neither : (x y : Bool) → (x || y) ≡ false → (x ≡ false) × (y ≡ false)
+neither true y e = absurd (cc e)
+neither false y e = (refl, e)
 
 none_any : {X : Type 0} (p : X → Bool) (d : X) (xs : List X) → list_any p xs ≡ false → All (λ x. p x ≡ false) xs
 none_any p d [] none = All-from_get_or (λ x. p x ≡ false) [] d (λ k h. absurd (omega arith))
-none_any p d (x ∷ xs) none = let rest = either_false (p x) (list_any p xs) none in All-cons (λ x. p x ≡ false) x xs rest.0 (none_any p d xs rest.1)
+none_any p d (x ∷ xs) none = let rest = neither (p x) (list_any p xs) none in All-cons (λ x. p x ≡ false) x xs rest.0 (none_any p d xs rest.1)
 
 any_set_none : {X : Type 0} (p : X → Bool) (xs : List X) (k : ℕ) (y : X) → p y ≡ false → list_any p xs ≡ false → list_any p (set xs k y) ≡ false
 any_set_none p [] k y e none = refl
-any_set_none p (x ∷ xs) zero y e none = let rest = either_false (p x) (list_any p xs) none in rw (e, rest.1) refl
-any_set_none p (x ∷ xs) (suc k) y e none = let rest = either_false (p x) (list_any p xs) none in rw (rest.0, any_set_none p xs k y e rest.1) refl
+any_set_none p (x ∷ xs) zero y e none = let rest = neither (p x) (list_any p xs) none in rw (e, rest.1) refl
+any_set_none p (x ∷ xs) (suc k) y e none = let rest = neither (p x) (list_any p xs) none in rw (rest.0, any_set_none p xs k y e rest.1) refl
 
 module _ (pages : List (List Word)) (page at : ℕ) (word : Word) (in_range : page < length pages) where
   abbrev changed : List (List Word)
@@ -123,10 +118,6 @@ module _ (pages : List (List Word)) (page at : ℕ) (word : Word) (in_range : pa
       let before = All-get_or (λ words. is_mark (mark_of (word_in words 3)) ≡ false) pages page [] in_range (none_any (λ words. is_mark (mark_of (word_in words 3))) [] pages none) in
       any_set_none (λ words. is_mark (mark_of (word_in words 3))) pages page _ (third_word silent before) none
 
-same_live_of : (side : Side) (old new : Device) → committed_generation (set_of side new) ≡ committed_generation (set_of side old) → set_of (other side) new ≡ set_of (other side) old → live_of new ≡ live_of old
-same_live_of First old new mine theirs = rw (mine, theirs) refl
-same_live_of Second old new mine theirs = rw (mine, theirs) refl
-
 module _ (old new : Device) (side : Side) (generation page at : ℕ) (word : Word) (live : IsLive old side generation) (bad : WentBad at word) where
   abbrev mine : List (List Word)
   mine = set_of side old
@@ -139,7 +130,7 @@ module _ (old new : Device) (side : Side) (generation page at : ℕ) (word : Wor
 
     pub bad_word_leaves_held : (page ≡ 0 → 1 < at) → IsHeld new side generation
     bad_word_leaves_held behind = record {
-      live = same_live_of side old new (ap committed_generation puts.there ∙ commit_stays mine page at word in_set behind) puts.same_other ∙ live.live;
+      live = same_live side old new (ap committed_generation puts.there ∙ commit_stays mine page at word in_set behind) puts.same_other ∙ live.live;
       not_left = ap is_left_behind puts.there ∙ left_stays mine page at word in_set bad.no_mark (not_left old side generation live);
     }
 

@@ -4,26 +4,16 @@ use Rattle.std.proofs.lemmas.Bool.{cases_eq, cases_lt, eq-eqb, eqb-false, eqb-tr
 use Rattle.std.proofs.lemmas.Grind.{drop_more_same}
 use Rattle.std.proofs.lemmas.List.{append-nil, drop-set-lt, get_or-drop, get_or-map, get_or-take, length-map, length-take-le, map-append, map-set, take_all, take_more, take_more_set}
 use Rattle.std.proofs.lemmas.List.Elements.{All-from_get_or, All-get_or, All-replicate}
-use Rattle.std.proofs.lemmas.Option.{slice_get-get_or}
-use Rattle.std.specs.List.{All, insert, slice_get, take-map}
+use Rattle.std.specs.List.{All, insert, take-map}
 use Rattle.std.specs.Prelude.{◌==◌}
 use Rattle.ee_codec.specs.Reading.{slot_of}
-use Rattle.ee_codec.specs.Words.{IsAddress, element}
+use Rattle.ee_codec.specs.Words.{IsAddress}
 use Rattle.ee_flash.specs.declared.word.Word.TheVariants.{Held}
 use Rattle.ee_pages.specs.Nearest.{IsOfAddress, Named, item_by, last_named, live_values, named_by, slot_names}
 use Rattle.ee_pages.proofs.Nearest.{last_is}
 use Rattle.ee_pages.proofs.SetPrograms.{take_of_set}
 
 -- ---- what a number says
-
-low_of_element : (address value : ℕ) → address < 65535 → element address value % 2 ^ 16 ≡ address
-low_of_element address value proper = omega (arith, proper)
-
-high_of_element : (address value : ℕ) → address < 65535 → element address value / 2 ^ 32 ≡ value
-high_of_element address value proper = omega (arith, proper)
-
-pub item_of_element : (address value : ℕ) → address < 65535 → item_by (element address value) ≡ (address, value)
-item_of_element address value proper = rw (low_of_element address value proper, high_of_element address value proper) refl
 
 -- an element or a forgetting
 pub says_by : (number : ℕ) → IsOfAddress number → number / 2 ^ 16 % 2 ^ 16 < 2 → slot_names (slot_of (Held number)) ≡ Some (named_by number)
@@ -133,9 +123,6 @@ all_of_address count = All-replicate IsOfAddress count 1 (omega arith, omega ari
 -- ---- a batch of so many numbers
 
 module _ (count : ℕ) (numbers : List ℕ) (few : count ≤ length numbers) where
-  pub length_items : length (map item_by (take count numbers)) ≡ count
-  length_items = length-map (take count numbers) item_by ∙ length-take-le count numbers few
-
   pub length_named : length (map named_by (take count numbers)) ≡ count
   length_named = length-map (take count numbers) named_by ∙ length-take-le count numbers few
 
@@ -152,16 +139,6 @@ module _ (count : ℕ) (numbers : List ℕ) (few : count ≤ length numbers) whe
       sym (named_at (room - 1) none 0 (omega (arith, full, some)))
       ∙ sym (ap (λ place. (get_or (map named_by (take count numbers)) place none).0) last)
       ∙ last_is (map named_by (take count numbers)) above none (omega (arith, length_named, full, some))
-
-  pub item_at : (place : ℕ) (default : ℕ) → place < count → slice_get (map item_by (take count numbers)) place ≡ Some (item_by (get_or numbers place default))
-  item_at place default within =
-      slice_get-get_or (map item_by (take count numbers)) place (item_by default) (omega (arith, within, length_items))
-      ∙ ap (λ (item : ℕ × ℕ). Some item) (get_or-map item_by (take count numbers) place default (item_by default) (omega (arith, within, length-take-le count numbers few)))
-      ∙ ap (λ n. Some (item_by n)) (get_or-take count numbers place default within)
-
-  -- one more behind the others
-  pub pushed : (number : ℕ) → count < length numbers → map item_by (take (count + 1) (set numbers count number)) ≡ map item_by (take count numbers) ++ item_by number ∷ []
-  pushed number room = ap (map item_by) (take_more_set numbers count number room) ∙ map-append item_by (take count numbers) (number ∷ [])
 
   -- another one at a place
   pub set_anew : (place number : ℕ) → map named_by (take count (set numbers place number)) ≡ set (map named_by (take count numbers)) place (named_by number)

@@ -1,7 +1,7 @@
 -- What steps in the set that a transfer fills make of it.
 use Rattle.ee_pages.specs.declared.state.Mark.TheVariants.{Receive}
 use Rattle.ee_pages.specs.Pushing.{slot_step}
-use Rattle.std.proofs.Common.{◌≡◌, inl, inr, ℕ, ◌+◌, Bool, true, false, ◌&&◌, List, get_or, refl, sym, subst, ap, ◌∙◌, arith, slice_set, ◌<◌, ◌*◌, ◌-◌, ◌≤◌, None}
+use Rattle.std.proofs.Common.{◌≡◌, inl, inr, ℕ, ◌+◌, true, false, List, get_or, refl, sym, subst, ap, ◌∙◌, arith, slice_set, ◌<◌, ◌*◌, ◌-◌, ◌≤◌, None}
 use Rattle.std.specs.List.{All}
 use Rattle.std.proofs.lemmas.Bool.{cases_lt}
 use Rattle.std.proofs.lemmas.Grind.{common_steps}
@@ -15,18 +15,18 @@ use Rattle.ee_flash.specs.declared.word.Word.TheVariants.{Erased, Held}
 use Rattle.ee_flash.proofs.Public.{step_changes_one_page, step_keeps_formed}
 use Rattle.ee_codec.specs.Words.{receive, IsGeneration}
 use Rattle.ee_pages.specs.Filling.{IsFilling}
-use Rattle.ee_pages.specs.Legal.{fits, is_allowed, place_of}
+use Rattle.ee_pages.specs.Legal.{fits}
 use Rattle.ee_pages.specs.Meaning.{meaning, value_said, Change, SpellsChange, map_after}
 use Rattle.ee_pages.specs.Page.{is_blank, is_written, marking}
 use Rattle.ee_pages.specs.Sets.{fill_of, first_page, front, page_of_slot, place_of_slot, set_of, slots_of, word_of}
 use Rattle.ee_pages.specs.declared.side.Side.{Side}
-use Rattle.ee_pages.specs.declared.table.Place.{Place}
-use Rattle.ee_pages.specs.declared.table.Place.TheVariants.{Committing, Receiving, Marking, Erasing, InSlot}
+use Rattle.ee_pages.specs.declared.table.Place.TheVariants.{Receiving}
 use Rattle.ee_pages.proofs.BlankWords.{blank_set}
 use Rattle.ee_pages.proofs.Front.{none_of}
 use Rattle.ee_pages.proofs.HeaderWrites.{IsHeaderWritten, first_or_further, header_written, place_of-receive}
 use Rattle.ee_pages.proofs.InTheSet.{IsObeyed, with_word_in}
 use Rattle.ee_pages.proofs.LastSaid.{latest_in-erased}
+use Rattle.ee_pages.proofs.Passes.{allowed_erased}
 use Rattle.ee_pages.proofs.SetPrograms.{was_erased, whole_in_set}
 use Rattle.ee_pages.proofs.Slots.{length-slots, page_in_range, slot_at}
 use Rattle.ee_pages.proofs.SlotWrites.{IsSlotWritten, change_written, changes}
@@ -87,21 +87,10 @@ opens_page page old new side generation count proper filling in_range behind tak
       )
 ]
 
-fits-erased : (generation : ℕ) (place : Place) → fits generation place Erased ≡ true
-fits-erased generation Committing = refl
-fits-erased generation Receiving = refl
-fits-erased generation Marking = refl
-fits-erased generation Erasing = refl
-fits-erased generation InSlot = refl
-
-and_true : (fit : Bool) → fit ≡ true → (fit && true) ≡ true
-and_true fit e = grind (arith, common_steps)
-
 -- a set of blank pages obeys the table of any generation
 blank_obeyed : (size : Size) (generation : ℕ) (pages : List (List Word)) → All (λ page. is_blank page ≡ true) pages → IsObeyed size generation pages
 blank_obeyed size generation pages blank page at in_range within =
-    ap (λ word. is_allowed size generation (front (slots_of pages)) page at word) (blank_set pages page at blank)
-    ∙ and_true (fits generation (place_of page at) Erased) (fits-erased generation (place_of page at))
+    allowed_erased size generation (front (slots_of pages)) page at (word_of pages page at) (ap is_written (blank_set pages page at blank))
 
 blank_slots : (side : Side) (device : Device) → IsFormed device → All (λ page. is_blank page ≡ true) (set_of side device) → (slot : ℕ) → is_written (get_or (slots_of (set_of side device)) slot Erased) ≡ false
 blank_slots side device formed blank slot = elim (cases_lt slot (slot_count device.size)) [

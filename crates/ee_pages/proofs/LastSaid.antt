@@ -2,7 +2,7 @@
 use Rattle.std.proofs.Common.{rules, ◌≡◌, ℕ, ◌+◌, ◌-◌, ◌*◌, ◌<◌, ◌≤◌, Option, Some, None, false, List, [], ◌∷◌, length, take, drop, ◌++◌, get_or, refl, sym, subst, ap, ◌∙◌, arith, suc, zero}
 use Rattle.std.proofs.Math.Nat.{div-mul-le_self}
 use Rattle.std.proofs.Math.Seq.{drop-cons}
-use Rattle.std.proofs.lemmas.List.{drop_all, get_or-drop, get_or-take, length-drop, length-take, length-take-le}
+use Rattle.std.proofs.lemmas.List.{get_or-drop, get_or-take, length-drop, length-take-le}
 use Rattle.std.proofs.lemmas.Simd.{chunk-drop}
 use Rattle.std.proofs.lemmas.List.Sums.{prefix_len-le-length}
 use Rattle.ee_flash.specs.Device.{Device}
@@ -52,10 +52,6 @@ latest_in-append [] more address = sym (later-none (latest_in more address))
 latest_in-append (word ∷ words) more address =
     ap (later_of (says word address)) (latest_in-append words more address)
     ∙ later-later (says word address) (latest_in words address) (latest_in more address)
-
--- behind the first words nothing of them is left
-pub latest_in-behind : (count : ℕ) (words : List Word) (address : ℕ) → latest_in (drop count (take count words)) address ≡ None
-latest_in-behind count words address = ap (λ words. latest_in words address) (drop_all count (take count words) (simp length-take (omega arith)))
 
 -- some words in a row, where those behind them say nothing
 pub latest_in-row : (start end : ℕ) (words : List Word) (address : ℕ) → start ≤ end → latest_in (drop end words) address ≡ None → latest_in (drop start words) address ≡ latest_in (take (end - start) (drop start words)) address

@@ -5,17 +5,10 @@ use Rattle.std.specs.List.{insert}
 use Rattle.std.specs.Prelude.{◌≢◌}
 use Rattle.ee_codec.specs.Reading.{slot_of}
 use Rattle.ee_codec.specs.Words.{IsAddress}
-use Rattle.ee_flash.specs.declared.word.Word.{Word}
-use Rattle.ee_flash.specs.declared.word.Word.TheVariants.{Erased, Held, Torn}
-use Rattle.ee_pages.specs.Nearest.{HasPlaces, HasSameLast, IsOfAddress, IsPlace, IsRising, Named, last_named, named_by, noted_above, slot_names, with_named}
+use Rattle.ee_flash.specs.declared.word.Word.TheVariants.{Held}
+use Rattle.ee_pages.specs.Nearest.{HasPlaces, IsOfAddress, IsPlace, IsRising, Named, last_named, named_by, noted_above, slot_names, with_named}
 use Rattle.ee_pages.proofs.BatchLists.{names_by, says_by}
 use Rattle.ee_pages.proofs.Nearest.{place_is, put_among, put_over, rising_at, kept_full, kept_none, kept_unnamed, last-at_least}
-
--- a word that holds nothing names nothing
-pub kept_empty : (room above : ℕ) (word : Word) (list : List Named) → length list ≤ room → ((number : ℕ) → word ≡ Held number → ⊥) → list ≡ take room (noted_above above (slot_names (slot_of word)) list)
-kept_empty room above Erased list few empty = kept_none room above None list few refl
-kept_empty room above Torn list few empty = kept_none room above None list few refl
-kept_empty room above (Held number) list few empty = absurd (empty number refl)
 
 module _ (room above span number : ℕ) (list : List Named) (rising : IsRising above list) (few : length list ≤ room) (places : HasPlaces room above span list) where
   behind : (name : Named) → slot_names (slot_of (Held number)) ≡ Some name → (number % 2 ^ 16 ≤ above) ⊎ (above + span < number % 2 ^ 16) → (number % 2 ^ 16 ≤ above) ⊎ ((length list ≡ room) × (last_named above list < number % 2 ^ 16))
@@ -102,11 +95,3 @@ module _ (room above : ℕ) (list : List Named) (new : Named) (through : ℕ) (r
 
   pub noted_nowhere : (0 < through → (get_or list (through - 1) (0, None)).0 ≢ new.0) → room ≤ through → 0 < new.0 → list ≡ take room (with_named new list)
   noted_nowhere other full some = kept_last room list new through few (place_of other) within full some
-
--- the addresses that have a place are the same where the last one is
-pub places_stay : (room above span : ℕ) (old new : List Named) → HasSameLast old new → HasPlaces room above span old → HasPlaces room above span new
-places_stay room above span old new same places = record {
-  free = λ h. places.free (omega (arith, h, same.same_length));
-  full = λ h. places.full (omega (arith, h, same.same_length)) ∙ sym (same.same_last above);
-  proper = places.proper;
-}

@@ -93,12 +93,12 @@ commit_after (Program page at value) old new first taken may =
           ]
     ]
 
-abbrev side_in : Option (Side × ℕ) → Side
+abbrev pub side_in : Option (Side × ℕ) → Side
 side_in None = First
 side_in (Some live) = live.0
 
 -- which of two is greater, by two tests
-abbrev by_tests : Bool → Bool → ℕ → ℕ → Option (Side × ℕ)
+abbrev pub by_tests : Bool → Bool → ℕ → ℕ → Option (Side × ℕ)
 by_tests below above first second = cond below (Some (First, first)) (cond above (Some (Second, second)) None)
 
 first_by : (below above : Bool) (first second generation : ℕ) → by_tests below above first second ≡ Some (First, generation) → greater_set (Some first) None ≡ Some (First, generation)

@@ -19,6 +19,7 @@ use Rattle.ee_pages.specs.declared.table.Place.{Place}
 use Rattle.ee_pages.specs.declared.table.Place.TheVariants.{Committing, Receiving, Marking, Erasing, InSlot}
 use Rattle.ee_pages.proofs.BlankWords.{erased_word}
 use Rattle.ee_pages.proofs.Front.{passes_on}
+use Rattle.ee_pages.proofs.InTheSet.{behind_written}
 use Rattle.ee_pages.proofs.SetPrograms.{word-in_set}
 use Rattle.ee_pages.proofs.Slots.{blank_page, get_or-slots_of, length-set_of, pages-set_of, row_within}
 
@@ -57,9 +58,6 @@ misfit generation (Held number) h written = h
 
 in_slot : (page at : ℕ) → 4 ≤ at → place_of page at ≡ InSlot
 in_slot page at h = rw (lt-ltb 3 at (omega (arith, h))) refl
-
-fitting : (fit written : Bool) (before front : ℕ) → fit ≡ true → before ≤ front → (fit && (not written || nat_le before front)) ≡ true
-fitting fit written before front is h = grind (arith, common_steps)
 
 foreign : (fit written : Bool) (before front : ℕ) → fit ≡ false → (fit && (not written || nat_le before front)) ≡ false
 foreign fit written before front isnt = rw isnt refl
@@ -131,11 +129,11 @@ module _ (device : Device) (side : Side) (page here : ℕ) (formed : IsFormed de
         let word = word_of (set_of side device) page j in
         let front_is = front (slots_of (set_of side device)) in
         elim (cases_lt j 4) [
-          | inl low ↦ fitting (fits generation (place_of page j) word) (is_written word) (slots_before device.size page j) front_is (header j low) (omega (arith, low, before))
+          | inl low ↦ behind_written (fits generation (place_of page j) word) (is_written word) (slots_before device.size page j) front_is (header j low) (omega (arith, low, before))
           | inr high ↦ elim (cases_lt j end) [
             | inl less ↦
                 let holds = ap holds_slot (word_here j) ∙ used j high less in
-                fitting (fits generation (place_of page j) word) (is_written word) (slots_before device.size page j) front_is
+                behind_written (fits generation (place_of page j) word) (is_written word) (slots_before device.size page j) front_is
                 (ap (λ place. fits generation place word) (in_slot page j high) ∙ holds_fits generation word holds) (omega (arith, high, less, reaches))
             | inr past ↦ allowed_erased device.size generation front_is page j word (ap is_written (word_here j) ∙ blank j past h)
           ]

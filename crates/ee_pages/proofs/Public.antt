@@ -10,7 +10,7 @@ pub use Rattle.ee_pages.proofs.Legal.{fill-front, slots_before_slot, slots_behin
 pub use Rattle.ee_pages.proofs.LiveCounts.{change_counts, live_within_fill, put_there}
 pub use Rattle.ee_pages.proofs.LiveSteps.{mark_keeps_live, push_takes, whole_push_takes}
 pub use Rattle.ee_pages.proofs.OtherPages.{program_leaves_written, step_keeps_other_pages, written_page}
-pub use Rattle.ee_pages.proofs.OtherSet.{other_set_keeps_side, kept_side_is_live, keeps_side_both, keeps_side_same, commit_after, commits, commits_by, elsewhere, first_word, other_set_keeps_live, programmed_word, same_set}
+pub use Rattle.ee_pages.proofs.OtherSet.{other_set_keeps_side, kept_side_is_live, keeps_side_both, keeps_side_same, commit_after, commits, commits_by, elsewhere, first_word, other_set_keeps_live, programmed_word, same_set, side_in}
 pub use Rattle.ee_pages.proofs.OwnSet.{page_of_set}
 pub use Rattle.ee_pages.proofs.ScanFaults.{legal_is_good, none_live, one_scan_fault}
 pub use Rattle.ee_pages.proofs.Slots.{blank_page, get_or-slots_of, length-set_of, length-slots, page_in_range, pages-set_of, place_in_range, slot_at, slot_below, split_by}
@@ -18,4 +18,4 @@ pub use Rattle.ee_pages.proofs.Scans.{first_below}
 pub use Rattle.ee_pages.proofs.SetPrograms.{as_it_was, word-in_set}
 pub use Rattle.ee_pages.proofs.BatchLists.{one_proper}
 pub use Rattle.ee_pages.proofs.Rescues.{held_is_rescued, held_is_rescued_side, live_is_held, live_is_rescued, map_rescued, names}
-pub use Rattle.ee_pages.proofs.BadWords.{one_word_costs_its_value, bad_word_leaves_held, bad_waiting_word_leaves_held, waiting_word_costs_nothing}
+pub use Rattle.ee_pages.proofs.BadWords.{one_word_costs_its_value, bad_word_leaves_held, bad_waiting_word_leaves_held, waiting_word_costs_nothing, neither}

@@ -19,7 +19,7 @@ use Rattle.ee_pages.specs.Sets.{committed_generation, greater_set, is_mark, live
 use Rattle.ee_pages.specs.declared.side.Side.{Side}
 use Rattle.ee_pages.specs.declared.side.Side.TheVariants.{First, Second}
 use Rattle.ee_pages.proofs.Commits.{live_commits}
-use Rattle.ee_pages.proofs.OtherSet.{live_stays}
+use Rattle.ee_pages.proofs.OtherSet.{by_tests, live_stays, side_in}
 use Rattle.ee_pages.proofs.Slots.{length-set_of}
 
 -- ---- a set that is committed
@@ -117,13 +117,6 @@ second_rescued first second begun left committed less =
     ∙ ap Some (tells_second b1 l1 (committed_generation first) n m less)
 
 -- of two that are committed the live one has the greater generation
-abbrev side_in : Option (Side × ℕ) → Side
-side_in None = First
-side_in (Some live) = live.0
-
-abbrev by_tests : Bool → Bool → ℕ → ℕ → Option (Side × ℕ)
-by_tests below above first second = cond below (Some (First, first)) (cond above (Some (Second, second)) None)
-
 first_less : (below above : Bool) (first second generation : ℕ) → by_tests below above first second ≡ Some (First, generation) → below ≡ true
 first_less true above first second generation e = refl
 first_less false true first second generation e = let sides : Second ≡ First = ap side_in e in absurd (cc sides)

@@ -56,14 +56,6 @@ record IsForeignIn (device : Device) (page at : ℕ) (side : Side) (generation :
   behind : first_page device.size side ≤ page
   first : IsFirstForeign device.size generation (set_of side device) (page - first_page device.size side) at
 
-abbrev side_in : Option (Side × ℕ) → Side
-side_in None = First
-side_in (Some live) = live.0
-
-abbrev generation_in : Option (Side × ℕ) → ℕ
-generation_in None = 0
-generation_in (Some live) = live.1
-
 at_live : (device : Device) (page at : ℕ) (side : Side) (generation : ℕ) (other : Side) (greatest : ℕ) → live_of device ≡ Some (other, greatest)
     → IsForeignIn device page at side generation → IsForeignIn device page at other greatest
 at_live device page at side generation other greatest live fault = search (rules, live)

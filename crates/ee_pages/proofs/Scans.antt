@@ -1,9 +1,9 @@
 -- What a scan has found out makes its answer.
-use Rattle.std.proofs.Common.{◌≡◌, ℕ, ◌+◌, ◌-◌, ◌<◌, ◌≤◌, Bool, Option, Some, None, true, refl, sym, subst, ap, ◌∙◌, arith}
-use Rattle.std.proofs.lemmas.Bool.{le-ltb, lt-ltb, true≢false}
+use Rattle.std.proofs.Common.{◌≡◌, ℕ, ◌+◌, ◌-◌, ◌<◌, ◌≤◌, Some, None, true, refl, sym, subst, ap, ◌∙◌, arith}
+use Rattle.std.proofs.lemmas.Bool.{le-ltb, lt-ltb}
 use Rattle.ee_flash.specs.Device.{Device, IsFormed}
 use Rattle.ee_pages.specs.Layout.{IsFirstForeign, IsLayout, IsScanFault, IsUnformatted}
-use Rattle.ee_pages.specs.Legal.{IsLegal, is_allowed_at}
+use Rattle.ee_pages.specs.Legal.{is_allowed_at}
 use Rattle.ee_pages.specs.Sets.{committed_generation, first_page, front, greater_set, live_of, page_of_slot, set_of, slots_of}
 use Rattle.ee_pages.specs.declared.find.ScanFault.TheVariants.{Foreign}
 use Rattle.ee_pages.specs.declared.side.Side.{Side}
@@ -27,19 +27,6 @@ layout_found device side generation written current formed live e allowed place 
 pub first_below : (device : Device) (side : Side) → first_page device.size side ≤ device.size.pages
 first_below device First = omega arith
 first_below device Second = omega arith
-
--- whether the live set allows a word there
-abbrev allowed_in : Device → ℕ → ℕ → Option (Side × ℕ) → Bool
-allowed_in device page at None = true
-allowed_in device page at (Some live) = is_allowed_at device.size live.1 (set_of live.0 device) page at
-
--- an image with a foreign word is not legal
-pub foreign_not_legal : (device : Device) (side : Side) (generation page at : ℕ) → live_of device ≡ Some (side, generation) → IsFirstForeign device.size generation (set_of side device) page at → ¬ IsLegal device
-foreign_not_legal device side generation page at live foreign legal =
-    let same : Some (side, generation) ≡ Some (legal.0, legal.1) = sym live ∙ legal.2.live in
-    let allowed = legal.2.allowed page at foreign.page_in_range foreign.place_in_range in
-    let here : is_allowed_at device.size generation (set_of side device) page at ≡ true = subst (λ (found : Option (Side × ℕ)). allowed_in device page at found ≡ true) (sym same) allowed in
-    true≢false (sym here ∙ foreign.foreign)
 
 -- of two sets that are committed the one with the greater generation is live
 module _ (device : Device) (first second : ℕ) (first_is : Some first ≡ committed_generation (set_of First device)) (second_is : Some second ≡ committed_generation (set_of Second device)) where

@@ -33,10 +33,6 @@ module _ (settings : List Setting) (found : List (ℕ × ℕ)) (n forgotten : �
   next : AreNextLive (state_of now).map so_far.live.0 (one ∷ drop (n + 1) found)
   next = subst (AreNextLive (state_of now).map so_far.live.0) split so_far.live.1
 
-  -- the next one has a value still
-  pub one_lives : (state_of now).map one.0 ≢ None
-  one_lives none = let some : (state_of now).map one.0 ≡ Some one.1 = next.0.1 in cc
-
   of_one : (b : Bool) (address : ℕ) → one.0 < address → All (λ a. a ≢ address) (cond b [] (one.0 ∷ []))
   of_one b address h1 = search (rules, All-nil, All-cons)
 

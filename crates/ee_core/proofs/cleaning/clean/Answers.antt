@@ -1,9 +1,4 @@
-use Rattle.std.proofs.Common.{◌≡◌, ◌<◌, refl, subst}
-use Rattle.std.proofs.lemmas.Result.{err_from_is_err_and}
-use Rattle.ee_pages.proofs.Public.{kept_side_is_live}
-use Rattle.ee_pages.specs.Laws.{IsPageOf}
-use Rattle.ee_pages.specs.Sets.{pending_of, set_of}
-use Rattle.ee_pages.specs.declared.side.Side.{Side}
+use Rattle.ee_core.proofs.Base.{◌<◌, refl, subst, err_from_is_err_and, kept_side_is_live, pending_of, set_of, Side, rules}
 use Rattle.ee_core.proofs.AfterCalls.{ends_later, goes_on_same, never_on_ok, not_both_ok, not_ok}
 use Rattle.ee_core.proofs.LowestPending.{erases_lowest, keeps_all_but_lowest}
 use Rattle.ee_core.proofs.KeptMarks.{cleaned_marked}
@@ -12,22 +7,10 @@ use Rattle.ee_core.proofs.MovingFacts.{keeps_same}
 use Rattle.ee_core.proofs.cleaning.clean.Goals as goal
 
 pub returns-in_default : goal.returns-in_default
-returns-in_default g c =
-    let old = g.F.Flash.device c.args.flash.now in
-    record {
-      keeps = keeps_same old c.args.layout.now c.requires.layout;
-      none = λ is. (subst (λ (set : Side). pending_of (set_of set old) ≡ 0) c.other.ensures c.in_default.ensures.none, refl);
-      one = λ is. absurd (not_both_ok _ refl is);
-      lowest = λ is. absurd (not_both_ok _ refl is);
-      marked = λ marked. marked;
-      some = tt;
-      cut = tt;
-      others = tt;
-      power = record { ok = goes_on_same old; cut = tt; off = tt };
-    }
+returns-in_default g c = search (rules, keeps_same, not_both_ok, goes_on_same)
 
 pub erase_other-requires-clause-page : goal.erase_other-requires-clause-page
-erase_other-requires-clause-page g c = subst (λ (set : Side). IsPageOf (g.F.Flash.device c.args.flash.now).size set c.in-Some.page) c.other.ensures c.in-Some.ensures.page
+erase_other-requires-clause-page g c = search rules
 
 pub returns : goal.returns
 returns g c =

@@ -1,5 +1,4 @@
-use Rattle.std.proofs.Common.{◌≡◌, ◌≤◌, ◌-◌, take}
-use Rattle.ee_pages.specs.Sets.{pending_of, set_of}
+use Rattle.ee_core.proofs.Base.{◌≡◌, ◌≤◌, ◌-◌, take, pending_of, set_of}
 use Rattle.ee_core.proofs.cleaning.count_pending.Given as goal
 
 abbrev pub invariant-pages : goal.invariant-pages

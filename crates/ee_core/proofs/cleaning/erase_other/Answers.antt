@@ -1,6 +1,4 @@
-use Rattle.std.proofs.Common.{refl}
-use Rattle.std.proofs.lemmas.Result.{err_from_is_err_and}
-use Rattle.ee_flash.specs.Step.{Erase}
+use Rattle.ee_core.proofs.Base.{refl, err_from_is_err_and, Erase}
 use Rattle.ee_core.proofs.AfterCalls.{ends_in_step, goes_on_same, not_both}
 use Rattle.ee_core.proofs.Erasing.{page_erased, page_erased_partly}
 use Rattle.ee_core.proofs.cleaning.erase_other.Goals as goal

@@ -1,6 +1,4 @@
-use Rattle.std.proofs.Common.{◌≡◌, ◌≤◌, ◌<◌, ℕ, true}
-use Rattle.ee_flash.specs.Device.{page_at}
-use Rattle.ee_pages.specs.Page.{is_blank}
+use Rattle.ee_core.proofs.Base.{◌≡◌, ◌≤◌, ◌<◌, ℕ, true, page_at, is_blank}
 use Rattle.ee_core.proofs.cleaning.first_pending.Given as goal
 
 abbrev pub invariant-lower : goal.invariant-lower

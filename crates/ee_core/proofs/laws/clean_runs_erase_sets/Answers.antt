@@ -1,4 +1,4 @@
-use Rattle.std.proofs.Common.{rules}
+use Rattle.ee_core.proofs.Base.{rules}
 use Rattle.ee_core.proofs.Running.{clean_runs_erase_sets_lem}
 use Rattle.ee_core.proofs.laws.clean_runs_erase_sets.Goals as goal
 

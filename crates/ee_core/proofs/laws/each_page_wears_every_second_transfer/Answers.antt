@@ -1,4 +1,4 @@
-use Rattle.std.proofs.Common.{rules}
+use Rattle.ee_core.proofs.Base.{rules}
 use Rattle.ee_core.proofs.PageWears.{each_page_wears_every_second_transfer_lem}
 use Rattle.ee_core.proofs.laws.each_page_wears_every_second_transfer.Goals as goal
 

@@ -1,4 +1,4 @@
-use Rattle.std.proofs.Common.{rules}
+use Rattle.ee_core.proofs.Base.{rules}
 use Rattle.ee_core.proofs.Running.{each_transfer_erases_a_set_lem}
 use Rattle.ee_core.proofs.laws.each_transfer_erases_a_set.Goals as goal
 

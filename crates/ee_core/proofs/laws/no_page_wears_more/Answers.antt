@@ -1,4 +1,4 @@
-use Rattle.std.proofs.Common.{rules}
+use Rattle.ee_core.proofs.Base.{rules}
 use Rattle.ee_core.proofs.PageWears.{no_page_wears_more_lem}
 use Rattle.ee_core.proofs.laws.no_page_wears_more.Goals as goal
 

@@ -1,4 +1,4 @@
-use Rattle.std.proofs.Common.{rules}
+use Rattle.ee_core.proofs.Base.{rules}
 use Rattle.ee_core.proofs.Running.{runs_go_on_lem}
 use Rattle.ee_core.proofs.laws.runs_go_on.Goals as goal
 

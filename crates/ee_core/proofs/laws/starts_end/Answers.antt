@@ -1,4 +1,4 @@
-use Rattle.std.proofs.Common.{rules}
+use Rattle.ee_core.proofs.Base.{rules}
 use Rattle.ee_core.proofs.Startable.{starts_end_lem}
 use Rattle.ee_core.proofs.laws.starts_end.Goals as goal
 

@@ -1,4 +1,4 @@
-use Rattle.std.proofs.Common.{rules}
+use Rattle.ee_core.proofs.Base.{rules}
 use Rattle.ee_core.proofs.Running.{the_store_is_a_map_lem}
 use Rattle.ee_core.proofs.laws.the_store_is_a_map.Goals as goal
 

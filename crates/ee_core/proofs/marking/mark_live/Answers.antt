@@ -1,6 +1,4 @@
-use Rattle.std.proofs.Common.{◌≡◌, ◌<◌, refl, true}
-use Rattle.ee_flash.specs.Size.{page_count}
-use Rattle.ee_pages.specs.Page.{is_marked, marking}
+use Rattle.ee_core.proofs.Base.{◌≡◌, ◌<◌, refl, true, page_count, is_marked, marking}
 use Rattle.ee_core.proofs.AfterCalls.{ends_in_step, goes_on_mark, goes_on_same, never_on_ok, not_ok, same_but}
 use Rattle.ee_core.proofs.Drawings.{sets_mark}
 use Rattle.ee_core.proofs.Marks.{live_mark_stays, mark_keeps_marks, marked_after, marks, page_in_device, proper_live}

@@ -1,27 +1,15 @@
-use Rattle.std.proofs.Common.{◌≡◌, ◌≤◌, ◌<◌, ◌+◌, ◌-◌, true, ap, arith, inl, ◌∙◌, refl, subst}
-use Rattle.ee_flash.specs.Size.{Size}
-use Rattle.ee_pages.specs.Page.{is_marked}
-use Rattle.ee_pages.specs.Sets.{first_page}
-use Rattle.ee_pages.specs.declared.state.Mark.TheVariants.{Active, Valid}
+use Rattle.ee_core.proofs.Base.{◌≡◌, ◌≤◌, ◌<◌, ◌+◌, ◌-◌, true, ap, arith, inl, ◌∙◌, refl, subst, Size, is_marked, first_page, Active, Valid, last_used, IsDrawn, picture_of, SetsPartly, rules}
 use Rattle.ee_core.proofs.AfterCalls.{ends_later, goes_on_both, goes_on_same, never_on_ok, not_ok}
 use Rattle.ee_core.proofs.Drawings.{valid_to}
 use Rattle.ee_core.proofs.MarkedSets.{active_then, other_stays, valid_next, valid_start}
 use Rattle.ee_core.proofs.Marks.{same_stays}
-use Rattle.ee_core.specs.Finished.{last_used}
-use Rattle.ee_core.specs.Picture.{IsDrawn, picture_of}
 use Rattle.ee_core.proofs.LiveMarks.{last_behind, last_in_range, last_is, layout_stays, live_marked, stays_both, valid_already, valid_behind, valid_more}
 use Rattle.ee_core.proofs.CutMarks.{active_partly, valid_partly}
 use Rattle.ee_core.proofs.Making.{always_on_err}
-use Rattle.ee_core.specs.Cuts.{SetsPartly}
 use Rattle.ee_core.proofs.marking.mark_live_set.Goals as goal
 
 pub mark_live-requires-clause-behind : goal.mark_live-requires-clause-behind
-mark_live-requires-clause-behind g c =
-    let old = g.F.Flash.device c.args.flash.now in
-    let mid = g.F.Flash.device c.pages.flash in
-    let layout = c.args.layout.now in
-    let first : first_page mid.size layout.side ≡ first_page old.size layout.side = ap (λ size. first_page size layout.side) c.pages.invariant.stays.keeps.same_size in
-    valid_behind layout mid c.pages.page (layout_stays layout old mid c.requires c.pages.invariant.stays) (omega (arith, first, c.first_page-first.ensures, c.pages.auto.page)) c.pages-test.true
+mark_live-requires-clause-behind g c = search (rules, valid_behind, layout_stays)
 
 pub pages-preserved : goal.pages-preserved
 pages-preserved g c =
@@ -54,23 +42,13 @@ mark_live-requires-2-clause-behind g c =
     last_behind c.args.layout.now mid Active (layout_stays c.args.layout.now old mid c.requires c.pages.invariant.stays) (inl refl)
 
 pub mark_live-requires-clause-layout : goal.mark_live-requires-clause-layout
-mark_live-requires-clause-layout g c = layout_stays c.args.layout.now (g.F.Flash.device c.args.flash.now) (g.F.Flash.device c.pages.flash) c.requires c.pages.invariant.stays
+mark_live-requires-clause-layout g c = search (rules, layout_stays)
 
 pub mark_live-requires-2-clause-layout : goal.mark_live-requires-2-clause-layout
-mark_live-requires-2-clause-layout g c = layout_stays c.args.layout.now (g.F.Flash.device c.args.flash.now) (g.F.Flash.device c.pages.flash) c.requires c.pages.invariant.stays
+mark_live-requires-2-clause-layout g c = search (rules, layout_stays)
 
 pub pages-init : goal.pages-init
-pages-init g c =
-    let old = g.F.Flash.device c.args.flash.now in
-    let layout = c.args.layout.now in
-    record {
-      stays = same_stays old old layout.side layout.generation c.requires.live refl;
-      valid = λ k below. absurd (omega (arith, c.first_page-first.ensures, below));
-      no_step = λ marked. refl;
-      drawn = valid_start layout.side old c.first_page-first.result c.first_page-first.ensures c.first_page-first.result refl;
-      other = refl;
-      power = goes_on_same old;
-    }
+pages-init g c = search (rules, same_stays, valid_start, goes_on_same)
 
 pub returns-in_err-mark_live : goal.returns-in_err-mark_live
 returns-in_err-mark_live g c =

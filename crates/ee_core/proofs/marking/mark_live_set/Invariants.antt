@@ -1,11 +1,4 @@
-use Rattle.std.proofs.Common.{◌≡◌, ℕ, ◌<◌, ◌+◌, ◌-◌, true}
-use Rattle.ee_flash.specs.Power.{GoesOn}
-use Rattle.ee_pages.specs.Page.{is_marked}
-use Rattle.ee_pages.specs.Sets.{first_page, other}
-use Rattle.ee_pages.specs.declared.state.Mark.TheVariants.{Valid}
-use Rattle.ee_core.specs.CallSteps.{IsSameSet, Stays}
-use Rattle.ee_core.specs.Finished.{IsLiveMarked}
-use Rattle.ee_core.specs.Picture.{IsDrawn, picture_of}
+use Rattle.ee_core.proofs.Base.{◌≡◌, ℕ, ◌<◌, ◌+◌, ◌-◌, true, GoesOn, is_marked, first_page, other, Valid, IsSameSet, Stays, IsLiveMarked, IsDrawn, picture_of}
 use Rattle.ee_core.proofs.Drawings.{valid_to}
 use Rattle.ee_core.proofs.marking.mark_live_set.Given as goal
 

@@ -1,8 +1,4 @@
-use Rattle.std.proofs.Common.{◌≡◌, ◌<◌, arith, refl, true}
-use Rattle.ee_flash.specs.Size.{page_count}
-use Rattle.ee_pages.specs.Sets.{other}
-use Rattle.ee_pages.specs.declared.state.Mark.TheVariants.{Erasing}
-use Rattle.ee_pages.specs.Page.{is_marked, marking}
+use Rattle.ee_core.proofs.Base.{◌≡◌, ◌<◌, arith, refl, true, page_count, other, Erasing, is_marked, marking}
 use Rattle.ee_core.proofs.AfterCalls.{ends_in_step, goes_on_mark, goes_on_same, never_on_ok, not_ok, same_but}
 use Rattle.ee_core.proofs.Drawings.{sets_mark}
 use Rattle.ee_core.proofs.Marks.{mark_keeps_marks, marked_after, marks, old_mark_stays, page_in_device, proper_old}

@@ -1,8 +1,4 @@
-use Rattle.std.proofs.Common.{◌≡◌, false, ap, arith, ◌∙◌, refl, sym}
-use Rattle.ee_flash.specs.Device.{page_at}
-use Rattle.ee_flash.specs.Size.{Size}
-use Rattle.ee_pages.specs.Page.{is_blank}
-use Rattle.ee_pages.specs.Sets.{first_page, other}
+use Rattle.ee_core.proofs.Base.{◌≡◌, false, ap, ◌∙◌, sym, page_at, Size, is_blank, first_page, other, rules}
 use Rattle.ee_core.proofs.AfterCalls.{ends_later, never_on_ok, not_ok}
 use Rattle.ee_core.proofs.CutMarks.{marked_all, marked_cut, marked_next, marked_start, was_done}
 use Rattle.ee_core.proofs.LiveMarks.{MarksPage, layout_stays, marked_from, marks_none, marks_one, stays_both}
@@ -13,13 +9,7 @@ use Rattle.ee_core.proofs.marking.mark_old_set.Goals.{then-not-is_blank+in_ok-ma
 use Rattle.ee_core.proofs.marking.mark_old_set.Goals as goal
 
 pub pages-init : goal.pages-init
-pages-init g c =
-    let old = g.F.Flash.device c.args.flash.now in
-    let side = c.args.layout.now.side in
-    let generation = c.args.layout.now.generation in
-    let first : c.first_page-first.result ≡ first_page old.size (other side) = c.first_page-first.ensures ∙ ap (first_page old.size) c.other.ensures in
-    let pages : c.pages-2.result ≡ old.size.pages = c.pages-2.ensures.value ∙ ap (λ (size : Size). size.pages) c.shape.ensures in
-    marked_start side generation old _ _ first pages c.requires.live
+pages-init g c = search (rules, marked_start)
 
 pub pages-preserved : goal.pages-preserved
 pages-preserved g c =
@@ -39,24 +29,10 @@ pages-preserved g c =
     marked_next side generation old _ _ first pages mid c.pages.page (g.met.F.Flash.formed c.pages.flash) c.pages.auto.page c.pages-test.true c.pages.invariant new (g.met.F.Flash.formed c.if-not-is_blank.flash) step
 
 pub is_blank-requires : goal.is_blank-requires
-is_blank-requires g c =
-    let old = g.F.Flash.device c.args.flash.now in
-    let side = c.args.layout.now.side in
-    let first : c.first_page-first.result ≡ first_page old.size (other side) = c.first_page-first.ensures ∙ ap (first_page old.size) c.other.ensures in
-    let pages : c.pages-2.result ≡ old.size.pages = c.pages-2.ensures.value ∙ ap (λ (size : Size). size.pages) c.shape.ensures in
-    page_of_device _ (other side) c.pages.page (page_reached (other side) old (g.F.Flash.device c.pages.flash) _ _ c.pages.page first pages c.pages.invariant.stays.keeps.same_size c.pages.auto.page c.pages-test.true)
+is_blank-requires g c = search (rules, page_of_device, page_reached)
 
 pub mark_old-requires : goal.mark_old-requires
-mark_old-requires g c =
-    let old = g.F.Flash.device c.args.flash.now in
-    let side = c.args.layout.now.side in
-    let first : c.first_page-first.result ≡ first_page old.size (other side) = c.first_page-first.ensures ∙ ap (first_page old.size) c.other.ensures in
-    let pages : c.pages-2.result ≡ old.size.pages = c.pages-2.ensures.value ∙ ap (λ (size : Size). size.pages) c.shape.ensures in
-    record {
-      layout = layout_stays _ _ _ c.requires c.pages.invariant.stays;
-      page = page_reached (other side) old (g.F.Flash.device c.pages.flash) _ _ c.pages.page first pages c.pages.invariant.stays.keeps.same_size c.pages.auto.page c.pages-test.true;
-      not_blank = sym c.is_blank.ensures ∙ c.if-not-is_blank.true;
-    }
+mark_old-requires g c = search (rules, layout_stays, page_reached)
 
 pub returns-in_err-mark_old : goal.returns-in_err-mark_old
 returns-in_err-mark_old g c =
@@ -87,22 +63,4 @@ returns-in_err-mark_old g c =
     }
 
 pub returns : goal.returns
-returns g c =
-    let old = g.F.Flash.device c.args.flash.now in
-    let side = c.args.layout.now.side in
-    let generation = c.args.layout.now.generation in
-    let new = g.F.Flash.device c.pages.flash in
-    let all = c.pages.invariant in
-    let first : c.first_page-first.result ≡ first_page old.size (other side) = c.first_page-first.ensures ∙ ap (first_page old.size) c.other.ensures in
-    let pages : c.pages-2.result ≡ old.size.pages = c.pages-2.ensures.value ∙ ap (λ (size : Size). size.pages) c.shape.ensures in
-    record {
-      stays = all.stays;
-      marks = all.marks;
-      live_pages = all.live;
-      marked = marked_all side generation old _ _ first pages new c.pages.page c.pages-test.false all;
-      old_pages = retired_end (other side) old _ first new c.pages.page all.stays.keeps.same_size (omega (arith, pages, c.pages-test.false, c.pages.auto.page-end)) all.drawn;
-      begun = tt;
-      live_pages_stay = tt;
-      no_step = λ marked. (refl, all.no_step marked);
-      power = record { ok = all.power; cut = tt; off = tt };
-    }
+returns g c = search (rules, marked_all, retired_end)

@@ -1,7 +1,4 @@
-use Rattle.std.proofs.Common.{subst, arith}
-use Rattle.std.specs.List.{All}
-use Rattle.std.proofs.lemmas.List.{take_all}
-use Rattle.ee_codec.specs.Words.{IsAddress}
+use Rattle.ee_core.proofs.Base.{subst, arith, All, take_all, IsAddress}
 use Rattle.ee_core.specs.declared.change.Put.{Put}
 use Rattle.ee_core.proofs.puts.first_twice.Goals as goal
 

@@ -1,7 +1,4 @@
-use Rattle.std.proofs.Common.{◌≡◌, ◌<◌, ℕ, false, take}
-use Rattle.std.specs.List.{All}
-use Rattle.ee_codec.specs.Words.{IsAddress}
-use Rattle.ee_core.specs.Puts.{is_twice}
+use Rattle.ee_core.proofs.Base.{◌≡◌, ◌<◌, ℕ, false, take, All, IsAddress, is_twice}
 use Rattle.ee_core.proofs.puts.first_twice.Given as goal
 
 abbrev pub invariant-entries : goal.invariant-entries

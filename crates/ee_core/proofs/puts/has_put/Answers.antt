@@ -1,5 +1,4 @@
-use Rattle.std.proofs.Common.{arith}
-use Rattle.std.proofs.lemmas.Grind.{common_steps}
+use Rattle.ee_core.proofs.Base.{arith, common_steps}
 use Rattle.ee_core.proofs.puts.has_put.Goals as goal
 
 pub entries-preserved : goal.entries-preserved

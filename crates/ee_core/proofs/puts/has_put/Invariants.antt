@@ -1,5 +1,4 @@
-use Rattle.std.proofs.Common.{◌≡◌, false, take}
-use Rattle.ee_core.specs.Puts.{is_put}
+use Rattle.ee_core.proofs.Base.{◌≡◌, false, take, is_put}
 use Rattle.ee_core.proofs.puts.has_put.Given as goal
 
 abbrev pub invariant-entries : goal.invariant-entries

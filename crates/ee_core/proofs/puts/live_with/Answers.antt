@@ -1,16 +1,10 @@
-use Rattle.std.proofs.Common.{◌≡◌, false, true, is_some, length, take, not, ap, sym, ◌∙◌, arith}
-use Rattle.std.proofs.Math.Seq.{take-length}
-use Rattle.ee_pages.specs.Meaning.{changed_by, live_in}
-use Rattle.ee_core.specs.CallSteps.{map_in}
-use Rattle.ee_core.specs.Puts.{puts_of}
+use Rattle.ee_core.proofs.Base.{◌≡◌, false, true, is_some, length, take, not, ap, sym, ◌∙◌, arith, take-length, changed_by, live_in, map_in, puts_of, rules}
 use Rattle.ee_core.proofs.Several.{live_few, one_counted}
 use Rattle.ee_core.proofs.puts.live_with.Goals.{then-is_none, else-is_none}
 use Rattle.ee_core.proofs.puts.live_with.Goals as goal
 
 pub overflow_add-count : goal.overflow_add-count
-overflow_add-count g c =
-    let few = live_few (changed_by (puts_of (take c.entries.put-index c.args.puts.now)) (map_in c.args.layout.now.side (g.F.Flash.device c.args.flash.now))) 65534 in
-    omega (arith, c.entries.invariant, few)
+overflow_add-count g c = search (rules, live_few)
 
 pub entries-preserved : goal.entries-preserved
 entries-preserved g c =

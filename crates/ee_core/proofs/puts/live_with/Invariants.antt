@@ -1,7 +1,4 @@
-use Rattle.std.proofs.Common.{◌≡◌, take}
-use Rattle.ee_pages.specs.Meaning.{changed_by, live_in}
-use Rattle.ee_core.specs.CallSteps.{map_in}
-use Rattle.ee_core.specs.Puts.{puts_of}
+use Rattle.ee_core.proofs.Base.{◌≡◌, take, changed_by, live_in, map_in, puts_of}
 use Rattle.ee_core.proofs.puts.live_with.Given as goal
 
 abbrev pub invariant-entries : goal.invariant-entries

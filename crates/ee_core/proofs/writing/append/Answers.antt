@@ -1,18 +1,11 @@
-use Rattle.std.proofs.Common.{arith, ◌≡◌, ◌<◌, ◌+◌, inl, refl, sym, subst, ap, ◌∙◌}
-use Rattle.std.proofs.Math.Path.{fun_ext}
-use Rattle.std.proofs.lemmas.Result.{err_from_is_err_and}
-use Rattle.ee_flash.specs.Size.{Size, slot_count}
-use Rattle.ee_pages.specs.Meaning.{map_after}
-use Rattle.ee_pages.specs.Sets.{first_page, page_of_slot, place_of_slot}
+use Rattle.ee_core.proofs.Base.{arith, ◌+◌, refl, sym, ap, ◌∙◌, fun_ext, err_from_is_err_and, map_after, map_change, number_written, page_in_range, place_in_range, rules}
 use Rattle.ee_core.proofs.AfterCalls.{ends_later, goes_on_both, goes_on_same}
 use Rattle.ee_core.proofs.Appending.{cut_after, cut_size, taken_after}
 use Rattle.ee_core.proofs.MarkedSets.{appends_word}
 use Rattle.ee_core.proofs.LiveMarks.{layout_stays}
 use Rattle.ee_core.proofs.MovingFacts.{few_slots}
-use Rattle.ee_core.specs.CallSteps.{map_change, number_written}
 use Rattle.ee_core.proofs.KeptMarks.{appended_marked}
 use Rattle.ee_core.proofs.CutMarks.{cut_marks, cut_word}
-use Rattle.ee_pages.proofs.Public.{page_in_range, place_in_range}
 use native.Mathlib.Numerals.{unary_clauses}
 use Rattle.ee_core.proofs.writing.append.Goals as goal
 
@@ -43,19 +36,7 @@ returns g c =
     }
 
 pub returns-in_err-open_page : goal.returns-in_err-open_page
-returns-in_err-open_page g c =
-    let old = g.F.Flash.device c.args.flash.now in
-    let layout = c.args.layout.now in
-    let cut = c.in_err-open_page.ensures in
-    record {
-      writes = rw (err_from_is_err_and c.from_residual.result c.from_residual.ensures.1).1 (record {
-        cut = inl cut.stays.keeps;
-        begun = cut_marks layout.side old (g.F.Flash.device c.open_page.new.flash) layout.fill (number_written c.args.change) cut.begun;
-        other = cut.other;
-        wear = cut.stays.same_wear;
-      });
-      power = ends_later _ c.from_residual.ensures.0 (goes_on_same old) cut.power;
-    }
+returns-in_err-open_page g c = search (rules, err_from_is_err_and, cut_marks, ends_later, goes_on_same)
 
 pub returns-in_err-push : goal.returns-in_err-push
 returns-in_err-push g c =
@@ -80,14 +61,7 @@ returns-in_err-push g c =
     }
 
 pub push-requires : goal.push-requires
-push-requires g c =
-    let stays = c.open_page.ensures.stays in
-    record {
-      layout = layout_stays c.args.layout.now (g.F.Flash.device c.args.flash.now) _ c.requires.layout stays;
-      free = subst (λ (size : Size). c.args.layout.now.fill < slot_count size) (sym stays.keeps.same_size) c.requires.free;
-      page = subst (λ (size : Size). c.free_slot-page.result.0 ≡ first_page size c.args.layout.now.side + page_of_slot size c.args.layout.now.fill) (sym stays.keeps.same_size) c.free_slot-page.ensures.page;
-      place = subst (λ (size : Size). c.free_slot-page.result.1 ≡ place_of_slot size c.args.layout.now.fill) (sym stays.keeps.same_size) c.free_slot-page.ensures.place;
-    }
+push-requires g c = search (rules, layout_stays)
 
 pub overflow_add-layout : goal.overflow_add-layout
 overflow_add-layout g c = omega (arith, c.requires.free, few_slots (g.F.Flash.device c.args.flash.now) c.requires.layout.live.formed)

@@ -1,35 +1,16 @@
-use Rattle.std.proofs.Common.{◌≡◌, ◌+◌, ◌-◌, inr, ap, ◌∙◌, ◌<◌, arith, refl, sym, subst}
-use Rattle.ee_flash.specs.Size.{Size}
-use Rattle.ee_pages.proofs.Public.{page_in_range}
-use Rattle.ee_pages.specs.Sets.{first_page, page_of_slot}
-use Rattle.ee_pages.specs.declared.state.Mark.TheVariants.{Active, Valid}
+use Rattle.ee_core.proofs.Base.{◌≡◌, ◌+◌, ◌-◌, ap, ◌∙◌, ◌<◌, arith, refl, sym, subst, Size, page_in_range, first_page, page_of_slot, Active, Valid, SetsMark, IsDrawn, marked_to, picture_of, IsDrawnPartly, SetsPartly, rules}
 use Rattle.ee_core.proofs.AfterCalls.{ends_later, goes_on_both, goes_on_same, never_on_ok}
 use Rattle.ee_core.proofs.Drawings.{marks_drawn}
 use Rattle.ee_core.proofs.LiveMarks.{current_below, last_behind, layout_stays, stays_both}
 use Rattle.ee_core.proofs.Marks.{same_stays}
 use Rattle.ee_core.proofs.MarkedSets.{opens_next}
-use Rattle.ee_core.specs.CallSteps.{IsReady, SetsMark}
-use Rattle.ee_core.specs.Picture.{IsDrawn, marked_to, picture_of}
 use Rattle.ee_core.proofs.OpenedPages.{first_other, further, last_is, next_behind, ready_already, ready_now, second_other, stays_in, turns}
 use Rattle.ee_core.proofs.CutMarks.{opens_partly, opens_partly_then}
 use Rattle.ee_core.proofs.Making.{always_on_err}
-use Rattle.ee_core.specs.Cuts.{IsDrawnPartly, SetsPartly}
 use Rattle.ee_core.proofs.writing.open_page.Goals as goal
 
 pub returns-then-page-layout : goal.returns-then-page-layout
-returns-then-page-layout g c =
-    let old = g.F.Flash.device c.args.flash.now in
-    let layout = c.args.layout.now in
-    let within = stays_in old layout c.requires.layout c.requires.free old.size.words refl c.args.page c.requires.page c.if-page-layout.true in
-    let ready : IsReady old layout.side layout.fill = ready_already old layout c.requires.layout c.requires.free old.size.words refl within c.requires.marked.live in
-    record {
-      stays = same_stays old old layout.side layout.generation c.requires.layout.live refl;
-      other = refl;
-      ready = ready;
-      drawn = marks_drawn layout.side old (page_of_slot old.size layout.fill) ready.valid ready.active;
-      begun = tt;
-      power = record { ok = goes_on_same old; cut = tt; off = tt };
-    }
+returns-then-page-layout g c = search (rules, stays_in, ready_already, same_stays, marks_drawn, goes_on_same)
 
 pub mark_live-requires-2-clause-behind : goal.mark_live-requires-2-clause-behind
 mark_live-requires-2-clause-behind g c =
@@ -123,13 +104,13 @@ returns g c =
     }
 
 pub mark_live-requires-clause-behind : goal.mark_live-requires-clause-behind
-mark_live-requires-clause-behind g c = last_behind c.args.layout.now (g.F.Flash.device c.args.flash.now) Valid c.requires.layout (inr refl)
+mark_live-requires-clause-behind g c = search (rules, last_behind)
 
 pub mark_live-requires-2-clause-from : goal.mark_live-requires-2-clause-from
 mark_live-requires-2-clause-from g c = omega (arith, c.requires.layout.current, ap (λ (size : Size). first_page size c.args.layout.now.side) c.mark_live.ensures.stays.keeps.same_size)
 
 pub mark_live-requires-2-clause-layout : goal.mark_live-requires-2-clause-layout
-mark_live-requires-2-clause-layout g c = layout_stays c.args.layout.now (g.F.Flash.device c.args.flash.now) _ c.requires.layout c.mark_live.ensures.stays
+mark_live-requires-2-clause-layout g c = search (rules, layout_stays)
 
 pub overflow_add-layout : goal.overflow_add-layout
 overflow_add-layout g c = omega (arith, current_below c.args.layout.now (g.F.Flash.device c.args.flash.now) c.requires.layout)

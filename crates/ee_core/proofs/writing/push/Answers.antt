@@ -1,22 +1,14 @@
-use Rattle.std.proofs.Common.{arith}
-use Rattle.std.proofs.lemmas.Result.{err_from_is_err_and}
-use Rattle.ee_pages.specs.Sets.{page_of_slot}
-use Rattle.ee_pages.proofs.Public.{page_in_range, place_in_range}
+use Rattle.ee_core.proofs.Base.{err_from_is_err_and, page_in_range, place_in_range, rules}
 use Rattle.ee_core.proofs.AfterCalls.{ends_in_step, goes_on_programmed, goes_on_same}
 use Rattle.ee_core.proofs.Appending.{pushed, pushed_partly, slot_erased}
 use Rattle.ee_core.proofs.SetPages.{page_in_device}
 use Rattle.ee_core.proofs.writing.push.Goals as goal
 
 pub program-requires-clause-page_in_range : goal.program-requires-clause-page_in_range
-program-requires-clause-page_in_range g c =
-    let old = g.F.Flash.device c.args.flash.now in
-    let layout = c.args.layout.now in
-    rw c.requires.page (page_in_device old.size layout.side (page_of_slot old.size layout.fill) (page_in_range old layout.fill c.requires.free))
+program-requires-clause-page_in_range g c = search (rules, page_in_device, page_in_range)
 
 pub program-requires-clause-place_in_range : goal.program-requires-clause-place_in_range
-program-requires-clause-place_in_range g c =
-    let within = place_in_range (g.F.Flash.device c.args.flash.now) c.args.layout.now.fill c.requires.layout.live.formed in
-    omega (arith, within, c.requires.place)
+program-requires-clause-place_in_range g c = search (rules, place_in_range)
 
 pub program-requires-clause-erased : goal.program-requires-clause-erased
 program-requires-clause-erased g c =
