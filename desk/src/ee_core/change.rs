@@ -26,14 +26,6 @@ pub enum Change {
 }
 
 impl Change {
-    /// What a transfer carries for it: its address with the value, and whether it forgets.
-    pub(crate) fn entry(self) -> (Put, bool) {
-        match self {
-            Change::Put { address, value } => (Put { address, value }, false),
-            Change::Forget { address, value } => (Put { address, value }, true),
-        }
-    }
-
     /// The number of the word that spells it, below `u64::MAX`.
     pub(crate) fn word(self) -> u64 {
         match self {

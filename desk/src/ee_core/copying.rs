@@ -69,35 +69,36 @@ fn next_given<F: Flash>(
     }
 }
 
-/// Where the next word goes. A transfer goes on from place to place, so that no word takes a
+/// How far a set is filled. A transfer goes on from place to place, so that no word takes a
 /// division.
 #[derive(Clone, Copy)]
-struct Place {
-    /// The number of the slot, counted from 0.
-    slot: usize,
-    /// Its page, counted from the device's first.
-    page: usize,
-    /// Its place in the page, behind the header.
-    at: usize,
+pub(crate) struct Place {
+    /// How many slots are filled, which is the number of the next one, counted from 0.
+    pub(crate) slot: usize,
+    /// The page of the last of them, the set's first page where none is, counted from the device's
+    /// first.
+    pub(crate) page: usize,
+    /// The place behind that slot in this page.
+    pub(crate) at: usize,
 }
 
 /// Fills the other set, which was opened, with the map after changes: the values that are put come
 /// first, in their order, and then each other live address, rising. Where they are forgotten, their
-/// addresses are left out alone. Gives how many slots that takes.
+/// addresses are left out alone. Gives how far that fills it.
 pub(crate) fn fill_set<F: Flash, C: LiveCursor>(
     flash: &mut F,
     layout: &Layout,
     puts: &[Put],
     forgets: bool,
     cursor: &mut C,
-) -> Result<usize, Cut> {
+) -> Result<Place, Cut> {
     let first = put_all(flash, layout, values_put(puts, forgets))?;
-    let count = copy_others(flash, layout, puts, first, cursor)?;
-    Ok(count)
+    let all = copy_others(flash, layout, puts, first, cursor)?;
+    Ok(all)
 }
 
-/// Writes values into the first slots of the other set, in their order. Gives the place of the next
-/// slot.
+/// Writes values into the first slots of the other set, in their order. Gives how far that fills
+/// it.
 fn put_all<F: Flash>(flash: &mut F, layout: &Layout, puts: &[Put]) -> Result<Place, Cut> {
     let mut place = first_place(flash, layout);
     for put in puts {
@@ -108,24 +109,24 @@ fn put_all<F: Flash>(flash: &mut F, layout: &Layout, puts: &[Put]) -> Result<Pla
 }
 
 /// Copies each live address but those of the changes to the other set, from this place on. Gives
-/// how many of its slots are written then.
+/// how far it is filled then.
 fn copy_others<F: Flash, C: LiveCursor>(
     flash: &mut F,
     layout: &Layout,
     puts: &[Put],
     place: Place,
     cursor: &mut C,
-) -> Result<usize, Cut> {
+) -> Result<Place, Cut> {
     let mut place = place;
     while let Some((address, value)) = cursor.next(flash, layout) {
         let carries = has_put(puts, address);
         copy_one(flash, layout, carries, &mut place, address, value)?;
     }
-    Ok(place.slot)
+    Ok(place)
 }
 
-/// Copies a live address to this place of the other set, unless it is passed over. The place
-/// becomes that of the next free slot.
+/// Copies a live address to the next slot of the other set, which is filled up to this place, unless
+/// it is passed over. The place follows.
 fn copy_one<F: Flash>(
     flash: &mut F,
     layout: &Layout,
@@ -141,8 +142,9 @@ fn copy_one<F: Flash>(
     Ok(())
 }
 
-/// Writes an address with its value into this place of the other set, as `stage` does a change.
-/// Both callers hand these over in registers, which makes firmware smaller.
+/// Writes an address with its value into the next slot of the other set, which is filled up to this
+/// place, as `stage` does a change. The place follows. Both callers hand these over in registers,
+/// which makes firmware smaller.
 #[inline(never)]
 fn stage_put<F: Flash>(
     flash: &mut F,
@@ -151,22 +153,23 @@ fn stage_put<F: Flash>(
     address: Address,
     value: u32,
 ) -> Result<(), Cut> {
-    stage(flash, layout, place, Change::Put { address, value })
+    let next = next_place(flash, layout, *place);
+    stage(flash, layout, next, Change::Put { address, value })?;
+    *place = Place {
+        slot: next.slot + 1,
+        page: next.page,
+        at: next.at + 1,
+    };
+    Ok(())
 }
 
 /// Writes a change into this place of the other set, its first free slot. A further page gets its
-/// receive word first. The place becomes that of the next slot.
-fn stage<F: Flash>(
-    flash: &mut F,
-    layout: &Layout,
-    place: &mut Place,
-    change: Change,
-) -> Result<(), Cut> {
+/// receive word first.
+fn stage<F: Flash>(flash: &mut F, layout: &Layout, place: Place, change: Change) -> Result<(), Cut> {
     if place.at == HEADER_WORDS {
-        receive(flash, layout, *place)?;
+        receive(flash, layout, place)?;
     }
-    put_in(flash, layout, *place, change)?;
-    step(flash, layout, place);
+    put_in(flash, layout, place, change)?;
     Ok(())
 }
 
@@ -182,7 +185,7 @@ fn put_in<F: Flash>(flash: &mut F, layout: &Layout, place: Place, change: Change
     Ok(())
 }
 
-/// The place of the first slot of the other set.
+/// How far a set is filled that was opened.
 fn first_place<F: Flash>(flash: &F, layout: &Layout) -> Place {
     Place {
         slot: 0,
@@ -191,13 +194,15 @@ fn first_place<F: Flash>(flash: &F, layout: &Layout) -> Place {
     }
 }
 
-/// Goes on to the next slot of the other set: one further in the page, or the first one of the next
-/// page. Behind the set's last slot it is in no page of the set.
-fn step<F: Flash>(flash: &F, layout: &Layout, place: &mut Place) {
-    place.slot += 1;
-    place.at += 1;
+/// The place of the next slot of the other set, which is filled up to this place: one further in
+/// the page, or the first one of the next page.
+fn next_place<F: Flash>(flash: &F, layout: &Layout, place: Place) -> Place {
     if place.at == flash.shape().words() {
-        place.page += 1;
-        place.at = HEADER_WORDS;
+        return Place {
+            slot: place.slot,
+            page: place.page + 1,
+            at: HEADER_WORDS,
+        };
     }
+    place
 }

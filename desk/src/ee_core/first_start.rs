@@ -2,10 +2,11 @@
 //! The call for whenever a device is switched on: it opens the store, or makes the first one.
 use crate::rattle::prelude::*;
 
-use crate::ee_core::opening::{OpenFault, make_store, open};
+use crate::ee_core::formatting::write_format;
+use crate::ee_core::opening::{OpenFault, open_on};
 use crate::ee_core::store::Store;
 use crate::ee_flash::{Cut, Flash, HEADER_WORDS, Word};
-use crate::ee_pages::ScanFault;
+use crate::ee_pages::{Layout, ScanFault};
 
 /// Opens the store of a device that is on, as `open` does, or makes the first one, as `format`
 /// does: on a device in which no set is committed and each word behind a page's header is erased or
@@ -19,15 +20,24 @@ use crate::ee_pages::ScanFault;
 /// The device and the first `OpenFault` that applies. At a fault of the scan nothing changed. After
 /// a cut the variables are as before: in a first start there are none.
 pub fn start<F: Flash>(flash: F) -> Result<Store<F>, (F, OpenFault)> {
-    let (flash, fault) = match open(flash) {
-        Ok(store) => return Ok(store),
-        Err(failed) => failed,
+    let mut flash = flash;
+    match start_on(&mut flash) {
+        Ok(layout) => Ok(Store::of(flash, layout)),
+        Err(fault) => Err((flash, fault)),
+    }
+}
+
+/// `start` in place: the layout of the store that the device becomes.
+pub fn start_on<F: Flash>(flash: &mut F) -> Result<Layout, OpenFault> {
+    let fault = match open_on(flash) {
+        Ok(layout) => return Ok(layout),
+        Err(fault) => fault,
     };
     let OpenFault::Scan(scan) = fault else {
-        return Err((flash, fault));
+        return Err(fault);
     };
-    if !is_startable(&flash, scan) {
-        return Err((flash, fault));
+    if !is_startable(flash, scan) {
+        return Err(fault);
     }
     start_anew(flash)
 }
@@ -63,9 +73,9 @@ fn page_holds<F: Flash>(flash: &F, page: usize) -> bool {
 }
 
 /// Makes the first store.
-fn start_anew<F: Flash>(flash: F) -> Result<Store<F>, (F, OpenFault)> {
-    match make_store(flash) {
-        Ok(store) => Ok(store),
-        Err((flash, Cut)) => Err((flash, OpenFault::Cut)),
+fn start_anew<F: Flash>(flash: &mut F) -> Result<Layout, OpenFault> {
+    match write_format(flash) {
+        Ok(layout) => Ok(layout),
+        Err(Cut) => Err(OpenFault::Cut),
     }
 }

@@ -7,7 +7,7 @@ use crate::ee_pages::{Layout, Mark, Side, is_blank as page_is_blank, mark};
 
 /// Erases what is not blank, makes the first set the live one with generation 1, and gives the
 /// layout.
-pub(crate) fn write_format<F: Flash>(flash: &mut F) -> Result<Layout, Cut> {
+pub fn write_format<F: Flash>(flash: &mut F) -> Result<Layout, Cut> {
     erase_all(flash)?;
     mark(flash, 0, Mark::Receive(1))?;
     mark(flash, 0, Mark::Active)?;

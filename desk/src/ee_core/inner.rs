@@ -8,6 +8,8 @@ pub use crate::ee_core::change::Change;
 pub use crate::ee_core::changing::{append_change, move_changes};
 pub use crate::ee_core::cleaning::clean;
 pub use crate::ee_core::copying::Cursor;
+pub use crate::ee_core::first_start::start_on;
+pub use crate::ee_core::formatting::write_format;
 pub use crate::ee_core::known::Known;
 pub use crate::ee_core::live_cursor::LiveCursor;
 use crate::ee_core::lookup::Lookup;

@@ -3,7 +3,6 @@
 use crate::rattle::prelude::*;
 
 use crate::ee_core::change::{Change, Put};
-use crate::ee_core::changing::{make_change, prepare};
 use crate::ee_core::cleaning::clean;
 use crate::ee_core::lookup::Lookup;
 use crate::ee_core::store::GREATEST_GENERATION;
@@ -40,21 +39,10 @@ impl<L: Lookup> Known<L> {
         if !flash.is_on() {
             return Err(WriteFault::Off);
         }
-        if self.is_full_for(flash, address) {
-            return Err(WriteFault::Full);
+        if self.layout.fill < flash.shape().slots() {
+            return self.append_value(flash, address, value);
         }
-        if self.is_spent(flash) {
-            return Err(WriteFault::Spent);
-        }
-        let put = Put { address, value };
-        let Ok(()) = prepare(flash, &self.layout, &mut self.lookup, put) else {
-            return Err(WriteFault::Memory);
-        };
-        let change = Change::Put { address, value };
-        match make_change(flash, &mut self.layout, &mut self.lookup, change) {
-            Ok(written) => Ok(written),
-            Err(Cut) => Err(WriteFault::Cut),
-        }
+        self.move_value(flash, address, value)
     }
 
     /// `Variables::forget` on the device of which this is known.
@@ -70,12 +58,19 @@ impl<L: Lookup> Known<L> {
         let Some(value) = self.lookup.value_of(flash, &self.layout, address) else {
             return Err(ForgetFault::Absent);
         };
-        if self.is_spent(flash) {
+        if self.layout.fill < flash.shape().slots() {
+            let change = Change::Forget { address, value };
+            return match self.lookup.append(flash, &mut self.layout, change) {
+                Ok(()) => Ok(Written::Appended),
+                Err(Cut) => Err(ForgetFault::Cut),
+            };
+        }
+        if self.layout.generation == GREATEST_GENERATION {
             return Err(ForgetFault::Spent);
         }
-        let change = Change::Forget { address, value };
-        match make_change(flash, &mut self.layout, &mut self.lookup, change) {
-            Ok(written) => Ok(written),
+        let put = Put { address, value };
+        match self.lookup.transfer(flash, &mut self.layout, &[put], true) {
+            Ok(()) => Ok(Written::Moved),
             Err(Cut) => Err(ForgetFault::Cut),
         }
     }
@@ -91,19 +86,52 @@ impl<L: Lookup> Known<L> {
         }
     }
 
-    /// Whether a write or forgetting must be refused since no generation is left for the transfer
-    /// that it needs.
-    fn is_spent<F: Flash>(&self, flash: &F) -> bool {
-        self.layout.fill == flash.shape().slots() && self.layout.generation == GREATEST_GENERATION
+    /// Writes a value into the first free slot.
+    #[inline(always)]
+    fn append_value<F: Flash>(
+        &mut self,
+        flash: &mut F,
+        address: Address,
+        value: u32,
+    ) -> Result<Written, WriteFault> {
+        let put = Put { address, value };
+        let Ok(()) = self.lookup.make_ready(flash, &self.layout, put) else {
+            return Err(WriteFault::Memory);
+        };
+        let change = Change::Put { address, value };
+        match self.lookup.append(flash, &mut self.layout, change) {
+            Ok(()) => Ok(Written::Appended),
+            Err(Cut) => Err(WriteFault::Cut),
+        }
     }
 
-    /// Whether the address has no value and there is no slot for one more. Live addresses are
-    /// counted only where every slot is used.
-    fn is_full_for<F: Flash>(&self, flash: &F, address: Address) -> bool {
-        let slots = flash.shape().slots();
-        if self.layout.fill < slots {
-            return false;
+    /// Writes a value with the transfer that it needs, since every slot is used.
+    fn move_value<F: Flash>(
+        &mut self,
+        flash: &mut F,
+        address: Address,
+        value: u32,
+    ) -> Result<Written, WriteFault> {
+        if self.has_no_place(flash, address) {
+            return Err(WriteFault::Full);
         }
+        if self.layout.generation == GREATEST_GENERATION {
+            return Err(WriteFault::Spent);
+        }
+        let put = Put { address, value };
+        let Ok(()) = self.lookup.make_room(flash, &self.layout, &[put]) else {
+            return Err(WriteFault::Memory);
+        };
+        let put = Put { address, value };
+        match self.lookup.transfer(flash, &mut self.layout, &[put], false) {
+            Ok(()) => Ok(Written::Moved),
+            Err(Cut) => Err(WriteFault::Cut),
+        }
+    }
+
+    /// Whether the address has no value and there is no slot for one more.
+    fn has_no_place<F: Flash>(&self, flash: &F, address: Address) -> bool {
+        let slots = flash.shape().slots();
         match self.lookup.value_of(flash, &self.layout, address) {
             Some(_) => false,
             None => self.lookup.live_count(flash, &self.layout) == slots,

@@ -55,6 +55,9 @@ pub trait Lookup {
         puts: &[Put],
     ) -> Result<(), NoMemory>;
 
+    /// Reads anew what it keeps in lent memory. It takes no more memory than it has.
+    fn read_anew<F: Flash>(&mut self, flash: &F, layout: &Layout);
+
     /// Follows a clear: it finds nothing from here on.
     fn find_nothing(&mut self);
 
@@ -141,6 +144,9 @@ impl Lookup for Slots {
     ) -> Result<(), NoMemory> {
         Ok(())
     }
+
+    #[inline(always)]
+    fn read_anew<F: Flash>(&mut self, _flash: &F, _layout: &Layout) {}
 
     #[inline(always)]
     fn find_nothing(&mut self) {}

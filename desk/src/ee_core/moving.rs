@@ -4,10 +4,10 @@ use crate::rattle::prelude::*;
 
 use crate::ee_core::change::Put;
 use crate::ee_core::cleaning::erase_other;
-use crate::ee_core::copying::{Cursor, fill_set};
+use crate::ee_core::copying::{Cursor, Place, fill_set};
 use crate::ee_core::live_cursor::LiveCursor;
 use crate::ee_core::marking::finish;
-use crate::ee_flash::{Cut, Flash, HEADER_WORDS};
+use crate::ee_flash::{Cut, Flash};
 use crate::ee_pages::{Layout, Mark, first_page, is_blank as page_is_blank, mark};
 
 /// Moves the map, with values that are put or without their addresses, where these are forgotten,
@@ -21,13 +21,12 @@ pub(crate) fn transfer<F: Flash, C: LiveCursor>(
     forgets: bool,
     cursor: &mut C,
 ) -> Result<(), Cut> {
-    let count = move_map(flash, layout, puts, forgets, cursor)?;
-    let slots = flash.shape().words() - HEADER_WORDS;
+    let filled = move_map(flash, layout, puts, forgets, cursor)?;
     *layout = Layout {
         side: layout.side.other(),
         generation: layout.generation + 1,
-        fill: count,
-        current: first_page(flash, layout.side.other()) + count.saturating_sub(1) / slots,
+        fill: filled.slot,
+        current: filled.page,
     };
     finish(flash, layout)?;
     Ok(())
@@ -46,19 +45,19 @@ pub(crate) fn transfer_by_slots<F: Flash>(
 }
 
 /// Moves the map, with what it is to carry, to the other set, and makes that one live. Gives how
-/// many slots it takes there.
+/// far that fills it.
 fn move_map<F: Flash, C: LiveCursor>(
     flash: &mut F,
     layout: &Layout,
     puts: &[Put],
     forgets: bool,
     cursor: &mut C,
-) -> Result<usize, Cut> {
+) -> Result<Place, Cut> {
     clear(flash, layout)?;
     open_set(flash, layout)?;
-    let count = fill_set(flash, layout, puts, forgets, cursor)?;
+    let filled = fill_set(flash, layout, puts, forgets, cursor)?;
     commit(flash, layout)?;
-    Ok(count)
+    Ok(filled)
 }
 
 /// Makes the other set the live one with nothing in it, as `transfer` does with a map in which
@@ -84,9 +83,7 @@ fn move_nothing<F: Flash>(flash: &mut F, layout: &Layout) -> Result<(), Cut> {
     Ok(())
 }
 
-/// Erases each page of the other set that is not blank, by rising page. Like the two below it
-/// stands in both of its callers, so that no code of one is the other's in firmware.
-#[inline(always)]
+/// Erases each page of the other set that is not blank, by rising page.
 fn clear<F: Flash>(flash: &mut F, layout: &Layout) -> Result<(), Cut> {
     let first = first_page(flash, layout.side.other());
     for page in first..first + flash.shape().pages() {
@@ -98,6 +95,7 @@ fn clear<F: Flash>(flash: &mut F, layout: &Layout) -> Result<(), Cut> {
 }
 
 /// Gives the first page of the other set, which is blank, the receive word of the next generation.
+/// Like the one below it stands in both of its callers, where it takes less code than a call.
 #[inline(always)]
 fn open_set<F: Flash>(flash: &mut F, layout: &Layout) -> Result<(), Cut> {
     let first = first_page(flash, layout.side.other());

@@ -56,12 +56,6 @@ pub fn open_on<F: Flash>(flash: &mut F) -> Result<Layout, OpenFault> {
 ///
 /// The device, off: power failed. What it held is gone in part, until a `format` ends.
 pub fn format<F: Flash>(flash: F) -> Result<Store<F>, (F, Cut)> {
-    make_store(flash)
-}
-
-/// Makes a store with nothing in it, as `format` does. A device that can be started stays one, or
-/// is the store, where power is cut.
-pub(crate) fn make_store<F: Flash>(flash: F) -> Result<Store<F>, (F, Cut)> {
     let mut flash = flash;
     match write_format(&mut flash) {
         Ok(layout) => Ok(Store::of(flash, layout)),

@@ -27,7 +27,7 @@ pub struct LentIndex<'a> {
 
 impl<'a> LentIndex<'a> {
     /// Given up: nothing was read yet.
-    fn new(room: &'a mut [Entry]) -> LentIndex<'a> {
+    pub fn new(room: &'a mut [Entry]) -> LentIndex<'a> {
         LentIndex {
             list: LentList::new(room),
             is_given_up: true,
@@ -136,6 +136,10 @@ impl<'a> Lookup for LentIndex<'a> {
         }
         self.is_given_up = enter_hidden(&mut self.list, puts, layout.fill).is_err();
         Ok(())
+    }
+
+    fn read_anew<F: Flash>(&mut self, flash: &F, layout: &Layout) {
+        self.read(flash, layout);
     }
 
     fn find_nothing(&mut self) {

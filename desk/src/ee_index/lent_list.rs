@@ -36,7 +36,7 @@ impl<'a> Listing for LentList<'a> {
     }
 
     fn find(&self, address: Address) -> Result<usize, usize> {
-        search(&self.room[..self.count], address)
+        search(self.entries(), address)
     }
 
     fn insert(&mut self, address: Address, number: usize) -> Result<(), NoMemory> {

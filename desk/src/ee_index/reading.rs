@@ -13,7 +13,10 @@ use crate::ee_pages::{Batch, Layout, LiveBatch, slot_value};
 /// The slot of an address, if a list has it.
 pub(crate) fn slot_in<L: Listing>(list: &L, address: Address) -> Option<usize> {
     match list.find(address) {
-        Ok(place) => Some(usize::from(list.entries()[place].1)),
+        Ok(place) => match list.entries().get(place) {
+            Some(entry) => Some(usize::from(entry.1)),
+            None => None,
+        },
         Err(_) => None,
     }
 }

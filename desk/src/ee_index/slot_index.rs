@@ -102,6 +102,9 @@ impl<A: Allocator + Copy> Lookup for SlotIndex<A> {
         Ok(())
     }
 
+    // It is kept in memory of its own, and stands for what it found.
+    fn read_anew<F: Flash>(&mut self, _flash: &F, _layout: &Layout) {}
+
     fn find_nothing(&mut self) {
         self.index.clear();
     }

@@ -5,7 +5,7 @@ use crate::rattle::prelude::*;
 use crate::ee_pages::batch_items::Batch;
 use crate::ee_pages::find::Layout;
 use crate::ee_pages::number::address_in;
-use crate::ee_pages::runs::{RUN, run_from};
+use crate::ee_pages::runs::{RUN, UNREAD, run_from};
 use crate::ee_pages::side::{Side, first_page};
 use crate::ee_codec::Address;
 use crate::ee_flash::{Flash, HEADER_WORDS};
@@ -73,7 +73,7 @@ fn gather_page<F: Flash>(flash: &F, side: Side, page: usize, above: u16, nearest
     let here = first_page(flash, side) + page;
     let words = flash.shape().words();
     let mut span = span_of(nearest, above);
-    let mut room = [1; RUN];
+    let mut room = [UNREAD; RUN];
     let mut at = HEADER_WORDS;
     while at < words {
         let run = run_from(flash, here, at, words, &mut room);

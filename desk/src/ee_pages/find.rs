@@ -4,7 +4,7 @@
 use crate::rattle::prelude::*;
 
 use crate::ee_pages::number::is_slot;
-use crate::ee_pages::runs::{RUN, run_from};
+use crate::ee_pages::runs::{RUN, UNREAD, run_from};
 use crate::ee_pages::side::{Side, committed, first_page, set_word};
 use crate::ee_pages::state::{blank_to, is_blank, is_torn};
 use crate::ee_pages::table::fits_header;
@@ -185,7 +185,7 @@ fn first_told(page: usize) -> usize {
 #[inline(never)]
 fn used_to<F: Flash>(flash: &F, page: usize) -> usize {
     let words = flash.shape().words();
-    let mut room = [1; RUN];
+    let mut room = [UNREAD; RUN];
     let mut at = HEADER_WORDS;
     while at < words {
         let run = run_from(flash, page, at, words, &mut room);

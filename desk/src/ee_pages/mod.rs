@@ -53,4 +53,4 @@ pub use marking::mark;
 pub use read::{latest, live_count, next_live, slot_value, slot_word, torn_slots};
 pub use rescue::{bad_words, named_generation, rescued_side};
 pub use side::{Side, first_page};
-pub use state::{Mark, State, is_blank, state_of};
+pub use state::{Mark, State, blank_to, is_blank, state_of};

@@ -6,7 +6,7 @@ use crate::rattle::prelude::*;
 use crate::ee_pages::batch::{LiveBatch, next_batch};
 use crate::ee_pages::find::Layout;
 use crate::ee_pages::number::{address_in, gives_value, says_something};
-use crate::ee_pages::runs::RUN;
+use crate::ee_pages::runs::{RUN, UNREAD};
 use crate::ee_pages::side::{Side, first_page, page_slot, set_number, set_slot};
 use crate::ee_pages::state::is_torn;
 use crate::ee_codec::Address;
@@ -124,7 +124,7 @@ fn said_in_page<F: Flash>(
     address: Address,
 ) -> Option<Option<u32>> {
     let here = first_page(flash, side) + page;
-    let mut room = [1; RUN];
+    let mut room = [UNREAD; RUN];
     let mut left = used;
     while left > 0 {
         let count = RUN.min(left);

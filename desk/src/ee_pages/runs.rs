@@ -7,6 +7,10 @@ use crate::ee_flash::Flash;
 /// How many words a loop over a page asks its flash for at once.
 pub(crate) const RUN: usize = 16;
 
+/// What stands in the room for a run before that is read: any number. Its halves are alike, since
+/// cores of 32 bits write such a number with less code.
+pub(crate) const UNREAD: u64 = 0x1_0000_0001;
+
 /// The numbers of the words of a page from a place on: up to `RUN` of them, all before
 /// `end`, and at least one.
 #[inline(always)]

@@ -2,7 +2,7 @@
 //! What a page's header says: the last word of it that is written names the state.
 use crate::rattle::prelude::*;
 
-use crate::ee_pages::runs::{RUN, run_from};
+use crate::ee_pages::runs::{RUN, UNREAD, run_from};
 use crate::ee_flash::{Flash, Word};
 
 /// What a page's header says of it. A torn mark counts as present.
@@ -63,10 +63,12 @@ pub fn is_blank<F: Flash>(flash: &F, page: usize) -> bool {
 }
 
 /// The place, from one on, of a page's first word that is written; as many as it has
-/// words where none is.
-pub(crate) fn blank_to<F: Flash>(flash: &F, page: usize, from: usize) -> usize {
+/// words where none is. Pages are numbered as for `state_of`.
+///
+/// Source: ours.
+pub fn blank_to<F: Flash>(flash: &F, page: usize, from: usize) -> usize {
     let words = flash.shape().words();
-    let mut room = [1; RUN];
+    let mut room = [UNREAD; RUN];
     let mut at = from;
     // The first run has one word, since that is written in most pages that aren't blank.
     let mut end = from + 1;

@@ -28,9 +28,19 @@ fn fill_by_reading<N: Nor>(nor: &N, page: usize, at: usize, room: &mut [u64]) {
     }
 }
 
-/// The number of the word that two numbers are: `u64::MAX` of an erased word, 0 of a torn one.
+/// The number of the word that two numbers are: `u64::MAX` of an erased word, 0 of a torn one. It
+/// looks at halves of 32 bits, as `is_whole` does, and first whether the word is held, as most are.
 fn number_of_pair(number: u64, check: u64) -> u64 {
-    if is_whole(number, check) { number } else { 0 }
+    let (low, high) = halves(number);
+    let (check_low, check_high) = halves(check);
+    if low.wrapping_add(check_low) & high.wrapping_add(check_high) == u32::MAX {
+        return if check != 0 { number } else { 0 };
+    }
+    if low & high & check_low & check_high == u32::MAX {
+        u64::MAX
+    } else {
+        0
+    }
 }
 
 /// Whether two numbers are a word that isn't torn. It looks at halves of 32 bits, which is shorter

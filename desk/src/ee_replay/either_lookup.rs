@@ -132,6 +132,13 @@ impl<A: Allocator + Copy> Lookup for EitherLookup<A> {
         }
     }
 
+    fn read_anew<F: Flash>(&mut self, flash: &F, layout: &Layout) {
+        match self {
+            EitherLookup::Slots(lookup) => lookup.read_anew(flash, layout),
+            EitherLookup::Index(lookup) => lookup.read_anew(flash, layout),
+        }
+    }
+
     fn find_nothing(&mut self) {
         match self {
             EitherLookup::Slots(lookup) => lookup.find_nothing(),
