@@ -3025,14 +3025,13 @@ static WriteResult known_move_value(Known *self, Device *flash, Address address,
     if (self->layout.generation == GREATEST_GENERATION) {
         return write_result_err(WriteFault_Spent);
     }
-    const Put put = (Put){ .address = address, .value = value };
-    const Step make_room_result = slots_make_room(flash, &self->layout, (ListOfPut){ .items = &put,
+    Put puts[1] = {(Put){ .address = address, .value = value }};
+    const Step make_room_result = slots_make_room(flash, &self->layout, (ListOfPut){ .items = puts,
             .len = 1u });
     if (make_room_result != DONE) {
         return write_result_err(WriteFault_Memory);
     }
-    const Put put_2 = (Put){ .address = address, .value = value };
-    const Step transfer_result = slots_transfer(flash, &self->layout, (ListOfPut){ .items = &put_2,
+    const Step transfer_result = slots_transfer(flash, &self->layout, (ListOfPut){ .items = puts,
             .len = 1u }, false);
     if (transfer_result == DONE) {
         return write_result_ok(Written_Moved);

@@ -62,6 +62,9 @@ class Statements(Values):
         elif value.kind == "repeat":
             local.cname = self.fresh(s.pat.name)
             self.array(value, local.cname)
+        elif value.kind == "list":
+            local.cname = self.fresh(s.pat.name)
+            self.listed(value, local.cname)
         elif self.types.is_large(value.ty):
             self.let_large(local, value)
         else:

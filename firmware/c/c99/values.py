@@ -354,9 +354,9 @@ class Values(Cases):
             self.fail(it, "a list")
         size = known(inner.ty).size
         const = self.program.find(self.program.consts, size, self.fn.module)
-        if const is None:
+        if const is None and not size.isdigit():
             self.fail(it, "an array of no constant's size")
-        count = self.writer.const(const)
+        count = self.writer.const(const) if const else f"{size}u"
         return self.literal(it.to_slice, [f".items = {self.value(inner).text}", f".len = {count}"])
 
     def value_of_tuple(self, it):
@@ -413,6 +413,13 @@ class Values(Cases):
         of_item = self.types.name(known(it.ty).args[0])
         self.emit(f"{of_item} {name}[{self.value(it.size).text}];")
         self.same_in_all(name, it)
+
+    def listed(self, it, name):
+        """A local that is an array of one value."""
+        if len(it.parts) != 1:
+            self.fail(it, "a list")
+        of_item = self.types.name(known(it.ty).args[0])
+        self.emit(f"{of_item} {name}[1] = {{{self.value(it.parts[0]).text}}};")
 
     def same_in_all(self, name, it):
         """Puts one value into each place of an array."""
