@@ -1,7 +1,7 @@
 /* ee: variables in flash, the library of ee.h as one file, for Linux on AArch64.
  *
- * sum of sources: f8d37132562cfa1b89566532cea3063a421a6aa29d78596458cc90db1ada7d67
- * sum of the text below: 59f8d47067926a026bdb954b01c36d313a6e1a1d53658662bf9153567f3f327c
+ * sum of sources: 9a07d5896eb8161be5d5fd390a6c40869254972607f62405892ea8eda017c852
+ * sum of the text below: a0016403fe2a924d52ceedbee6a0d95324fb62b31b814b5f4718eed9c12dac98
  * made by: firmware/c/assemble
  * compiler: rustc 1.96.0 (ac68faa20 2026-05-25) (built from a source tarball), LLVM 22.1.8
  * words: --target aarch64-unknown-linux-gnu --cfg feature="plain" -C panic=abort -C embed-bitcode=yes -C opt-level=s -C llvm-args=--inline-threshold=40 -C codegen-units=1 -C lto=fat --emit asm,link
@@ -3722,14 +3722,13 @@ ee_write:
 	mov	w23, #3
 	cmn	w8, #2
 	b.eq	.LBB38_15
-	and	x8, x21, #0xffff
 	add	x2, sp, #8
 	mov	x0, x19
-	orr	x8, x8, x20, lsl #32
 	mov	x1, x22
 	mov	w3, #1
 	mov	w4, wzr
-	str	x8, [sp, #8]
+	strh	w21, [sp, #8]
+	str	w20, [sp, #12]
 	bl	ee_core_moving_transfer_by_slots_Device
 	cmp	w0, #0
 	csel	w23, w23, wzr, ne

@@ -1,12 +1,12 @@
 /* ee: variables in flash, the library of ee_indexed.h as one file, for Cortex-M3, M4, M7 and M33.
  *
- * sum of sources: f8d37132562cfa1b89566532cea3063a421a6aa29d78596458cc90db1ada7d67
- * sum of the text below: c6b51890452df7e7052ef6842c5b677fe0768a5fb721f5bb16dd43bcd5521306
+ * sum of sources: 9a07d5896eb8161be5d5fd390a6c40869254972607f62405892ea8eda017c852
+ * sum of the text below: b54ce81b84f4317f82fadac187cb8d7c076a10c391b8b9a8dff2daf9083bd339
  * made by: firmware/c/assemble
  * compiler: rustc 1.96.0 (ac68faa20 2026-05-25) (built from a source tarball), LLVM 22.1.8
  * words: --target thumbv7m-none-eabi --cfg feature="index" -C panic=abort -C embed-bitcode=yes -C opt-level=s -C llvm-args=--inline-threshold=40 -C codegen-units=1 -C lto=fat --emit asm,link
  * asks of others: memcpy, memmove
- * stack: 824 bytes, and what memcpy and your functions take
+ * stack: 816 bytes, and what memcpy and your functions take
  *
  * Of firmware/rust/ee-store, which is proved, firmware/c/src, which is written by hand, and what these take of Rust's
  * own library. Change none of it here. */
@@ -2979,14 +2979,14 @@ ee_indexed_write:
 	push	{r4, r5, r6, r7, lr}
 	add	r7, sp, #12
 	push.w	{r8, r9, r10}
-	sub	sp, #24
-	mov	r6, r2
-	mov	r5, r1
+	sub	sp, #16
+	mov	r5, r2
+	mov	r6, r1
 	mov	r4, r0
 	bl	shim_calls_standing_ee_index_lent_index_LentIndex
 	cmp	r0, #0
-	bne	.LBB40_17
-	subs	r0, r5, #1
+	bne	.LBB40_15
+	subs	r0, r6, #1
 	movw	r1, #65533
 	uxth	r0, r0
 	cmp	r0, r1
@@ -3002,27 +3002,27 @@ ee_indexed_write:
 	ldrb.w	r0, [r4, #40]
 	cbnz	r0, .LBB40_5
 	mov	r0, r9
-	mov	r1, r5
+	mov	r1, r6
 	bl	ee_index_lent_list_LentList_listing_Listing_insert
 	strb.w	r0, [r4, #40]
 .LBB40_5:
-	lsls	r0, r5, #16
+	lsls	r0, r6, #16
 	mov	r1, r4
-	strd	r0, r6, [sp]
+	strd	r0, r5, [sp]
 	mov	r0, r9
 	mov	r2, r8
 	bl	ee_index_lent_index_LentIndex_ee_core_lookup_Lookup_append_Device
-	cbz	r0, .LBB40_13
-	movs	r0, #3
-	b	.LBB40_16
+	cbnz	r0, .LBB40_12
+	movs	r0, #0
+	b	.LBB40_15
 .LBB40_7:
 	movs	r0, #12
-	b	.LBB40_17
+	b	.LBB40_15
 .LBB40_8:
 	mov	r0, r9
 	mov	r1, r4
 	mov	r2, r8
-	mov	r3, r5
+	mov	r3, r6
 	bl	ee_index_lent_index_LentIndex_ee_core_lookup_Lookup_value_of_Device
 	lsls	r0, r0, #31
 	bne	.LBB40_11
@@ -3032,58 +3032,44 @@ ee_indexed_write:
 	bl	ee_index_lent_index_LentIndex_ee_core_lookup_Lookup_live_count_Device
 	cmp	r0, r10
 	bne	.LBB40_11
-	movs	r5, #1
-	b	.LBB40_15
+	movs	r0, #2
+	b	.LBB40_14
 .LBB40_11:
 	ldr.w	r0, [r8]
 	adds	r0, #2
-	bne	.LBB40_14
-	movs	r5, #2
-	b	.LBB40_15
+	bne	.LBB40_13
+.LBB40_12:
+	movs	r0, #3
+	b	.LBB40_14
 .LBB40_13:
-	movs	r0, #0
-	b	.LBB40_17
-.LBB40_14:
+	str	r5, [sp, #12]
+	add	r5, sp, #8
 	ldr	r1, [r4, #16]
-	add	r2, sp, #8
 	mov	r0, r9
+	mov	r2, r5
 	movs	r3, #1
-	strh.w	r5, [sp, #8]
-	movs	r5, #1
-	str	r6, [sp, #12]
+	strh.w	r6, [sp, #8]
+	movs	r6, #1
 	bl	ee_index_lent_index_LentIndex_ee_core_lookup_Lookup_make_room_Device
-	ldrd	r0, r1, [sp, #8]
-	add	r3, sp, #16
-	strd	r0, r1, [sp, #16]
 	movs	r0, #0
-	strd	r5, r0, [sp]
-	mov	r0, r9
 	mov	r1, r4
+	strd	r6, r0, [sp]
+	mov	r0, r9
 	mov	r2, r8
+	mov	r3, r5
 	bl	ee_index_lent_index_LentIndex_ee_core_lookup_Lookup_transfer_Device
 	cmp	r0, #0
 	it	ne
-	movne	r5, #4
-	beq	.LBB40_18
-.LBB40_15:
-	movs	r0, #3
-	cmp	r5, #1
-	it	eq
-	moveq	r0, #2
-.LBB40_16:
+	movne	r0, #3
+.LBB40_14:
 	ldr	r1, [r4, #44]
 	cmp	r1, #0
 	it	eq
 	moveq	r0, #9
-.LBB40_17:
-	add	sp, #24
+.LBB40_15:
+	add	sp, #16
 	pop.w	{r8, r9, r10}
 	pop	{r4, r5, r6, r7, pc}
-.LBB40_18:
-	lsls	r0, r5, #31
-	mov.w	r0, #0
-	bne	.LBB40_16
-	b	.LBB40_17
 	.size	ee_indexed_write, .-ee_indexed_write
 
 	.section	.text.ee_indexed_write_all,"ax",%progbits

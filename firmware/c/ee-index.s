@@ -1,12 +1,12 @@
 /* ee: variables in flash, the library of ee_indexed.h as one file, for every Cortex-M.
  *
- * sum of sources: f8d37132562cfa1b89566532cea3063a421a6aa29d78596458cc90db1ada7d67
- * sum of the text below: bb9d44a6c81182df1818f77c3c57a2b412bce631947668229b2fe57fb60b387c
+ * sum of sources: 9a07d5896eb8161be5d5fd390a6c40869254972607f62405892ea8eda017c852
+ * sum of the text below: 44b1c4032417f222f62cc453a1aac630b81ea84e1df8b1d6b446ae297f83701b
  * made by: firmware/c/assemble
  * compiler: rustc 1.96.0 (ac68faa20 2026-05-25) (built from a source tarball), LLVM 22.1.8
  * words: --target thumbv6m-none-eabi --cfg feature="index" -C panic=abort -C embed-bitcode=yes -C opt-level=s -C llvm-args=--inline-threshold=40 -C codegen-units=1 -C lto=fat --emit asm,link
  * asks of others: __aeabi_uidiv, memcpy, memmove
- * stack: 880 bytes, and what memcpy and your functions take
+ * stack: 864 bytes, and what memcpy and your functions take
  *
  * Of firmware/rust/ee-store, which is proved, firmware/c/src, which is written by hand, and what these take of Rust's
  * own library. Change none of it here. */
@@ -3549,22 +3549,19 @@ ee_indexed_start:
 ee_indexed_write:
 	push	{r4, r5, r6, r7, lr}
 	add	r7, sp, #12
-	sub	sp, #52
-	str	r2, [sp, #28]
-	mov	r4, r1
-	mov	r6, r0
+	sub	sp, #36
+	mov	r5, r2
+	mov	r6, r1
+	mov	r4, r0
 	bl	shim_calls_standing_ee_index_lent_index_LentIndex
-	mov	r5, r0
 	cmp	r0, #0
-	bne	.LBB40_23
-	str	r6, [sp, #24]
-	subs	r0, r4, #1
+	bne	.LBB40_16
+	subs	r0, r6, #1
 	uxth	r0, r0
 	ldr	r1, .LCPI40_0
 	cmp	r0, r1
 	bhi	.LBB40_7
-	str	r4, [sp, #20]
-	ldr	r4, [sp, #24]
+	str	r5, [sp, #24]
 	ldm	r4!, {r0, r1}
 	subs	r5, r1, #4
 	muls	r5, r0, r5
@@ -3576,118 +3573,94 @@ ee_indexed_write:
 	bhs	.LBB40_8
 	movs	r0, #40
 	ldrb	r0, [r4, r0]
-	mov	r5, r4
-	adds	r5, #28
+	mov	r1, r4
+	adds	r1, #28
 	cmp	r0, #0
 	bne	.LBB40_5
-	mov	r6, r4
-	adds	r6, #40
-	mov	r0, r5
-	ldr	r1, [sp, #20]
-	str	r3, [sp, #16]
+	mov	r5, r4
+	adds	r5, #40
+	mov	r0, r1
+	str	r1, [sp, #16]
+	mov	r1, r6
+	str	r3, [sp, #20]
 	bl	ee_index_lent_list_LentList_listing_Listing_insert
-	ldr	r3, [sp, #16]
-	strb	r0, [r6]
+	ldr	r1, [sp, #16]
+	ldr	r3, [sp, #20]
+	strb	r0, [r5]
 .LBB40_5:
-	ldr	r0, [sp, #20]
-	lsls	r0, r0, #16
+	lsls	r0, r6, #16
 	str	r0, [sp]
-	ldr	r0, [sp, #28]
+	ldr	r0, [sp, #24]
 	str	r0, [sp, #4]
-	mov	r0, r5
+	mov	r0, r1
 	mov	r1, r4
 	mov	r2, r3
 	bl	ee_index_lent_index_LentIndex_ee_core_lookup_Lookup_append_Device
 	cmp	r0, #0
-	beq	.LBB40_13
-	movs	r5, #3
-	b	.LBB40_21
+	bne	.LBB40_13
+	movs	r0, #0
+	b	.LBB40_16
 .LBB40_7:
-	movs	r5, #12
-	b	.LBB40_23
+	movs	r0, #12
+	b	.LBB40_16
 .LBB40_8:
-	mov	r6, r4
-	adds	r6, #28
-	mov	r0, r6
+	mov	r0, r4
+	adds	r0, #28
+	str	r0, [sp, #16]
 	mov	r1, r4
-	str	r3, [sp, #16]
+	str	r3, [sp, #20]
 	mov	r2, r3
-	ldr	r3, [sp, #20]
+	mov	r3, r6
 	bl	ee_index_lent_index_LentIndex_ee_core_lookup_Lookup_value_of_Device
 	lsls	r0, r0, #31
 	bne	.LBB40_11
 	ldrb	r2, [r4, #24]
-	mov	r0, r6
+	ldr	r0, [sp, #16]
 	mov	r1, r4
 	bl	ee_index_lent_index_LentIndex_ee_core_lookup_Lookup_live_count_Device
 	cmp	r0, r5
 	bne	.LBB40_11
-	movs	r1, #1
-	b	.LBB40_17
+	movs	r0, #2
+	b	.LBB40_14
 .LBB40_11:
-	ldr	r3, [sp, #16]
+	ldr	r1, [sp, #16]
+	ldr	r3, [sp, #20]
 	ldr	r0, [r3]
 	adds	r0, r0, #2
-	bne	.LBB40_14
-	movs	r1, #2
-	b	.LBB40_17
-.LBB40_13:
-	movs	r5, #0
-	b	.LBB40_23
-.LBB40_14:
-	mov	r5, r6
-	add	r2, sp, #32
-	ldr	r0, [sp, #20]
-	strh	r0, [r2]
-	ldr	r0, [sp, #28]
-	str	r0, [sp, #36]
-	ldr	r1, [r4, #16]
-	movs	r6, #1
-	mov	r0, r5
-	str	r5, [sp, #12]
-	mov	r3, r6
+	beq	.LBB40_13
+	add	r2, sp, #28
+	strh	r6, [r2]
+	str	r2, [sp, #12]
+	ldr	r0, [sp, #24]
+	str	r0, [sp, #32]
+	ldr	r0, [r4, #16]
+	str	r0, [sp, #24]
+	movs	r5, #1
+	mov	r6, r1
+	mov	r0, r1
+	ldr	r1, [sp, #24]
+	mov	r3, r5
 	bl	ee_index_lent_index_LentIndex_ee_core_lookup_Lookup_make_room_Device
-	ldr	r0, [sp, #36]
-	str	r0, [sp, #44]
-	ldr	r0, [sp, #32]
-	str	r0, [sp, #40]
-	movs	r5, #0
-	str	r6, [sp, #28]
-	str	r6, [sp]
-	str	r5, [sp, #4]
-	add	r3, sp, #40
-	ldr	r0, [sp, #12]
+	movs	r0, #0
+	str	r5, [sp]
+	str	r0, [sp, #4]
+	mov	r0, r6
 	mov	r1, r4
-	ldr	r2, [sp, #16]
+	ldr	r2, [sp, #20]
+	ldr	r3, [sp, #12]
 	bl	ee_index_lent_index_LentIndex_ee_core_lookup_Lookup_transfer_Device
-	movs	r1, #4
 	cmp	r0, #0
+	beq	.LBB40_14
+.LBB40_13:
+	movs	r0, #3
+.LBB40_14:
+	ldr	r1, [r4, #44]
+	cmp	r1, #0
 	bne	.LBB40_16
-	ldr	r1, [sp, #28]
+	movs	r0, #9
 .LBB40_16:
-	beq	.LBB40_24
-.LBB40_17:
-	cmp	r1, #1
-	beq	.LBB40_19
-	movs	r5, #3
-	b	.LBB40_20
-.LBB40_19:
-	movs	r5, #2
-.LBB40_20:
-	ldr	r4, [sp, #24]
-.LBB40_21:
-	ldr	r0, [r4, #44]
-	cmp	r0, #0
-	bne	.LBB40_23
-	movs	r5, #9
-.LBB40_23:
-	mov	r0, r5
-	add	sp, #52
+	add	sp, #36
 	pop	{r4, r5, r6, r7, pc}
-.LBB40_24:
-	lsls	r0, r1, #31
-	bne	.LBB40_21
-	b	.LBB40_23
 	.p2align	2
 .LCPI40_0:
 	.long	65533

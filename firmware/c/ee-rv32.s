@@ -1,7 +1,7 @@
 /* ee: variables in flash, the library of ee.h as one file, for RISC-V of 32 bits with M and C.
  *
- * sum of sources: f8d37132562cfa1b89566532cea3063a421a6aa29d78596458cc90db1ada7d67
- * sum of the text below: 7bb7c4d346208e89c287a8bebc882151ca2b547d789f699303d19e61dae225ea
+ * sum of sources: 9a07d5896eb8161be5d5fd390a6c40869254972607f62405892ea8eda017c852
+ * sum of the text below: 552b66fbb5ad85b04b1469d03ad1664b3dbb9ac92367a6e9a6e845c3158a8cbb
  * made by: firmware/c/assemble
  * compiler: rustc 1.96.0 (ac68faa20 2026-05-25) (built from a source tarball), LLVM 22.1.8
  * words: --target riscv32imc-unknown-none-elf --cfg feature="plain" -C panic=abort -C embed-bitcode=yes -C opt-level=s -C llvm-args=--inline-threshold=40 -C codegen-units=1 -C lto=fat --emit asm,link
@@ -3358,9 +3358,9 @@ ee_write:
 	li	s1, 3
 	j	.LBB38_18
 .LBB38_17:
-	sw	s4, 0(sp)
-	sw	s2, 4(sp)
-	mv	a2, sp
+	sh	s4, 4(sp)
+	sw	s2, 8(sp)
+	addi	a2, sp, 4
 	li	a3, 1
 	mv	a0, s0
 	mv	a1, s3

@@ -1,7 +1,7 @@
 /* ee: variables in flash, the library of ee.h as one file, for Cortex-M3, M4, M7 and M33.
  *
- * sum of sources: f8d37132562cfa1b89566532cea3063a421a6aa29d78596458cc90db1ada7d67
- * sum of the text below: ffe43ecc74160abff1a0cc5661f1dffa7b2544f58a3daa3ec93fdcaf83ba1bd1
+ * sum of sources: 9a07d5896eb8161be5d5fd390a6c40869254972607f62405892ea8eda017c852
+ * sum of the text below: 4c6cc924ad7498e8d5fd5e367508e9f2837d5369c6fdd4d750028b873eb55ec8
  * made by: firmware/c/assemble
  * compiler: rustc 1.96.0 (ac68faa20 2026-05-25) (built from a source tarball), LLVM 22.1.8
  * words: --target thumbv7m-none-eabi --cfg feature="plain" -C panic=abort -C embed-bitcode=yes -C opt-level=s -C llvm-args=--inline-threshold=40 -C codegen-units=1 -C lto=fat --emit asm,link
@@ -3180,12 +3180,13 @@ ee_write:
 	b	.LBB38_16
 .LBB38_15:
 	movs	r0, #0
-	add	r2, sp, #8
+	add	r2, sp, #12
 	str	r0, [sp]
 	mov	r0, r4
 	mov	r1, r8
 	movs	r3, #1
-	strd	r6, r11, [sp, #8]
+	str.w	r11, [sp, #16]
+	strh.w	r6, [sp, #12]
 	bl	ee_core_moving_transfer_by_slots_Device
 	cmp	r0, #0
 	it	ne

@@ -1,7 +1,7 @@
 /* ee: variables in flash, the library of ee.h as one file, for Linux on x86-64.
  *
- * sum of sources: f8d37132562cfa1b89566532cea3063a421a6aa29d78596458cc90db1ada7d67
- * sum of the text below: 00db2c893f7add916c2db2ada61b3a49e9e4520352e2d7baa6ef7b629b9fd93c
+ * sum of sources: 9a07d5896eb8161be5d5fd390a6c40869254972607f62405892ea8eda017c852
+ * sum of the text below: 722d224e5d87e15919d768c7261b835903413d58183f382687307b8f1f81372d
  * made by: firmware/c/assemble
  * compiler: rustc 1.96.0 (ac68faa20 2026-05-25) (built from a source tarball), LLVM 22.1.8
  * words: --target x86_64-unknown-linux-gnu --cfg feature="plain" -C panic=abort -C embed-bitcode=yes -C opt-level=s -C llvm-args=--inline-threshold=40 -C codegen-units=1 -C lto=fat --emit asm,link
@@ -3895,11 +3895,9 @@ ee_write:
 	movl	$3, %r12d
 	cmpl	$-2, 40(%rbx)
 	je	.LBB38_13
-	shlq	$32, %r14
-	movzwl	%r15w, %eax
-	orq	%r14, %rax
 	leaq	16(%rsp), %rdx
-	movq	%rax, (%rdx)
+	movw	%r15w, (%rdx)
+	movl	%r14d, 4(%rdx)
 	movl	$1, %ecx
 	movq	%rbx, %rdi
 	movq	%r13, %rsi

@@ -1,12 +1,12 @@
 /* ee: variables in flash, the library of ee.h as one file, for every Cortex-M.
  *
- * sum of sources: f8d37132562cfa1b89566532cea3063a421a6aa29d78596458cc90db1ada7d67
- * sum of the text below: a497e6ea4f23a8e0de844d06accf1fb29bff374b4fde961f1b76a87bd3c03303
+ * sum of sources: 9a07d5896eb8161be5d5fd390a6c40869254972607f62405892ea8eda017c852
+ * sum of the text below: 6c46e76a9072b791fdd8dfd56826a8c16f2ab2daaf67a6b61aa070ff514f0e22
  * made by: firmware/c/assemble
  * compiler: rustc 1.96.0 (ac68faa20 2026-05-25) (built from a source tarball), LLVM 22.1.8
  * words: --target thumbv6m-none-eabi --cfg feature="plain" -C panic=abort -C embed-bitcode=yes -C opt-level=s -C llvm-args=--inline-threshold=40 -C codegen-units=1 -C lto=fat --emit asm,link
  * asks of others: __aeabi_uidiv, memcpy
- * stack: 832 bytes, and what memcpy and your functions take
+ * stack: 824 bytes, and what memcpy and your functions take
  *
  * Of firmware/rust/ee-store, which is proved, firmware/c/src, which is written by hand, and what these take of Rust's
  * own library. Change none of it here. */
@@ -3712,8 +3712,8 @@ ee_start:
 ee_write:
 	push	{r4, r5, r6, r7, lr}
 	add	r7, sp, #12
-	sub	sp, #44
-	str	r2, [sp, #28]
+	sub	sp, #36
+	str	r2, [sp, #24]
 	mov	r4, r1
 	mov	r6, r0
 	bl	shim_calls_standing_ee_core_lookup_Slots
@@ -3725,7 +3725,7 @@ ee_write:
 	ldr	r1, .LCPI38_0
 	cmp	r0, r1
 	bhi	.LBB38_13
-	str	r4, [sp, #24]
+	str	r4, [sp, #20]
 	mov	r4, r6
 	ldr	r2, [r6]
 	ldr	r0, [r6, #4]
@@ -3746,20 +3746,20 @@ ee_write:
 	adds	r3, r2, r3
 	adds	r5, r3, #4
 	adds	r2, r1, #1
-	str	r2, [sp, #20]
+	str	r2, [sp, #16]
 	movs	r2, #4
 	cmp	r3, r0
 	beq	.LBB38_7
 	mov	r2, r5
 .LBB38_7:
-	ldr	r5, [sp, #20]
+	ldr	r5, [sp, #16]
 	beq	.LBB38_9
 	mov	r5, r1
 .LBB38_9:
 	ldr	r0, [r4, #8]
 	bne	.LBB38_20
-	str	r5, [sp, #12]
-	str	r2, [sp, #16]
+	str	r5, [sp, #8]
+	str	r2, [sp, #12]
 	movs	r2, #2
 	bl	ee_pages_marking_mark_Device
 	movs	r5, #3
@@ -3767,15 +3767,15 @@ ee_write:
 	bne	.LBB38_23
 	ldr	r0, [r4, #8]
 	movs	r2, #1
-	ldr	r1, [sp, #20]
+	ldr	r1, [sp, #16]
 	bl	ee_pages_marking_mark_Device
 	cmp	r0, #0
 	bne	.LBB38_23
 	ldr	r0, [r4, #8]
-	ldr	r6, [sp, #28]
-	ldr	r1, [sp, #24]
-	ldr	r2, [sp, #16]
-	ldr	r5, [sp, #12]
+	ldr	r6, [sp, #24]
+	ldr	r1, [sp, #20]
+	ldr	r2, [sp, #12]
+	ldr	r5, [sp, #8]
 	b	.LBB38_21
 .LBB38_13:
 	movs	r5, #12
@@ -3785,7 +3785,7 @@ ee_write:
 	adds	r1, #12
 	mov	r0, r4
 	mov	r6, r1
-	ldr	r2, [sp, #24]
+	ldr	r2, [sp, #20]
 	bl	ee_pages_read_latest_Device
 	lsls	r0, r0, #31
 	bne	.LBB38_17
@@ -3800,13 +3800,13 @@ ee_write:
 	ldr	r0, [r6]
 	adds	r0, r0, #2
 	beq	.LBB38_22
-	ldr	r0, [sp, #28]
-	str	r0, [sp, #36]
+	add	r2, sp, #28
+	ldr	r0, [sp, #20]
+	strh	r0, [r2]
 	ldr	r0, [sp, #24]
 	str	r0, [sp, #32]
 	movs	r0, #0
 	str	r0, [sp]
-	add	r2, sp, #32
 	movs	r3, #1
 	mov	r0, r4
 	mov	r1, r6
@@ -3816,8 +3816,8 @@ ee_write:
 	mov	r5, r0
 	b	.LBB38_23
 .LBB38_20:
-	ldr	r6, [sp, #28]
-	ldr	r1, [sp, #24]
+	ldr	r6, [sp, #24]
+	ldr	r1, [sp, #20]
 .LBB38_21:
 	str	r1, [sp]
 	str	r6, [sp, #4]
@@ -3841,7 +3841,7 @@ ee_write:
 	movs	r5, #0
 .LBB38_26:
 	mov	r0, r5
-	add	sp, #44
+	add	sp, #36
 	pop	{r4, r5, r6, r7, pc}
 	.p2align	2
 .LCPI38_0:

@@ -118,12 +118,11 @@ impl<L: Lookup> Known<L> {
         if self.layout.generation == GREATEST_GENERATION {
             return Err(WriteFault::Spent);
         }
-        let put = Put { address, value };
-        let Ok(()) = self.lookup.make_room(flash, &self.layout, &[put]) else {
+        let puts = [Put { address, value }];
+        let Ok(()) = self.lookup.make_room(flash, &self.layout, &puts) else {
             return Err(WriteFault::Memory);
         };
-        let put = Put { address, value };
-        match self.lookup.transfer(flash, &mut self.layout, &[put], false) {
+        match self.lookup.transfer(flash, &mut self.layout, &puts, false) {
             Ok(()) => Ok(Written::Moved),
             Err(Cut) => Err(WriteFault::Cut),
         }
