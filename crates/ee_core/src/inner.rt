@@ -1,6 +1,6 @@
-//! The parts of a call, for `ee_index` alone, whose look-up makes each change by them; and those of
-//! a store, for `ee_index` and `ee_replay`, which change the look-up, and arm the device in memory
-//! that a store keeps.
+//! The parts of a call, for `ee_index` alone, whose look-up makes each change by them; those of a
+//! store, for `ee_index` and `ee_replay`, which change the look-up, and arm the device in memory
+//! that a store keeps; and openings in place, for `ee_replay` and the C library.
 ghost use Rattle.std.specs.Prelude.{◌≡◌};
 ghost use Rattle.ee_core.specs.Known.{Knows};
 
