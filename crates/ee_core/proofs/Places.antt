@@ -1,5 +1,5 @@
 -- A place goes on from slot to slot of a set.
-use Rattle.ee_core.proofs.Base.{rules, ◌≡◌, ◌≢◌, ℕ, ◌+◌, ◌-◌, ◌*◌, ◌<◌, ◌≤◌, ◌/◌, ◌%◌, arith, div-mul-add, mod-mul-add, Size, Side, Stands, Place}
+use Rattle.ee_core.proofs.Base.{rules, ◌≡◌, ◌≢◌, ℕ, ◌+◌, ◌*◌, ◌<◌, ◌≤◌, ◌/◌, ◌%◌, arith, div-mul-add, mod-mul-add, Size, Side, Stands, Place}
 
 -- one further within a row
 within_row : (n m : ℕ) → n % m + 1 < m → ((n + 1) / m ≡ n / m) × ((n + 1) % m ≡ n % m + 1)
