@@ -1,5 +1,5 @@
 -- Steps that went on, one after another.
-use Rattle.ee_core.proofs.Base.{◌≡◌, ◌≢◌, ◌⊎◌, inl, inr, ℕ, Bool, ap, false, true, refl, sym, ◌∙◌, Result, Ok, Err, IsErr, OnOk, true≢false, Device, IsOff, IsOn, page_at, Ends, GoesOn, IsCutIn, IsUntouched, Program, Step, device_after, is_marked, marking, IsStep, step_keeps_other_pages, Mark, calls_compose, rules}
+use Rattle.ee_core.proofs.Base.{◌≡◌, ◌≢◌, ◌⊎◌, inl, inr, ℕ, Bool, ap, false, true, refl, sym, Result, Ok, Err, IsErr, OnOk, true≢false, Device, IsOff, IsOn, page_at, Ends, GoesOn, IsCutIn, IsUntouched, Program, Step, device_after, is_marked, marking, IsStep, step_keeps_other_pages, Mark, calls_compose, rules}
 
 pub goes_on_same : (device : Device) → GoesOn device device
 goes_on_same _ = search rules
@@ -18,17 +18,17 @@ never_on_ok X (Err _) _ = tt
 -- an error that is passed on, behind steps that went on
 pub ends_later : {T E S F : Type 0} {error : F} {old mid new : Device} (result : Result T E) → IsErr result → GoesOn old mid → Ends {T = S} (Err error) mid new → Ends result old new
 ends_later (Ok _) is _ _ = absurd (true≢false (sym is))
-ends_later {old = old} {mid = mid} {new = new} (Err _) _ on ends = record { ok = tt; cut = λ was. (calls_compose _ _ _ on).1 (ends.cut (on.same_power ∙ was)); off = λ was. ends.off (on.same_power ∙ was) ∙ on.same_while_off was }
+ends_later {old = old} {mid = mid} {new = new} (Err _) _ on ends = record { ok = tt; cut = search (rules, calls_compose); off = search rules }
 
 -- power cut in a step, behind steps that went on
 pub ends_in_step : {T E : Type 0} {old mid new : Device} (step : Step) (result : Result T E) → IsErr result → GoesOn old mid → IsCutIn step mid new ⊎ IsUntouched mid new → Ends result old new
 ends_in_step _ (Ok _) is _ _ = absurd (true≢false (sym is))
 ends_in_step {old = old} {mid = mid} {new = new} _ (Err _) _ on (inl cut) = record {
   ok = tt;
-  cut = λ was. (calls_compose _ _ _ on).1 (record { was_on = cut.was_on; is_off = cut.is_off; same_size = cut.same_size; one_more_cut = cut.cuts; one_less_left = cut.cuts_left });
-  off = λ was. absurd (not_both mid cut.was_on (on.same_power ∙ was));
+  cut = search (rules, calls_compose);
+  off = search (rules, not_both);
 }
-ends_in_step {mid = mid} _ (Err _) _ on (inr none) = record { ok = tt; cut = λ was. absurd (not_both mid (on.same_power ∙ was) none.was_off); off = λ was. none.same ∙ on.same_while_off was }
+ends_in_step {mid = mid} _ (Err _) _ on (inr none) = record { ok = tt; cut = search (rules, not_both); off = search rules }
 
 -- a word that was programmed
 pub goes_on_programmed : {new : Device} (page at value : ℕ) (old : Device) → IsOn old → new ≡ device_after (Program page at value) old → GoesOn old new

@@ -1,5 +1,5 @@
 -- The other set at the start of a transfer, whose pages are erased one after another.
-use Rattle.ee_core.proofs.Base.{◌≡◌, ◌⊎◌, inl, inr, ℕ, ◌+◌, ◌-◌, ◌<◌, ◌≤◌, true, false, [], ◌∷◌, length, take, get_or, subst, ap, ◌∙◌, arith, All, cases_eq, Device, IsFormed, page_at, GoesOn, IsPartlyErased, KeepsSide, is_blank, first_page, other, set_of, Side, keeps_side_both, length-set_of, IsSameBut, ErasesPartly, Wears, not_blank_from, not_blank_in, rules}
+use Rattle.ee_core.proofs.Base.{◌≡◌, ◌⊎◌, ℕ, ◌+◌, ◌-◌, ◌<◌, ◌≤◌, true, false, [], ◌∷◌, length, take, get_or, subst, ap, arith, All, Device, IsFormed, page_at, GoesOn, IsPartlyErased, KeepsSide, is_blank, first_page, other, set_of, Side, keeps_side_both, length-set_of, IsSameBut, ErasesPartly, Wears, not_blank_from, not_blank_in, rules}
 use Rattle.ee_core.proofs.AfterCalls.{goes_on_both}
 use Rattle.ee_core.proofs.Cuts.{erases_partly}
 use Rattle.ee_core.proofs.ErasedPages.{all_wear, wears_next, wears_to}
@@ -41,14 +41,8 @@ module _ (side : Side) (old : Device) (first pages : ℕ) (formed : IsFormed old
     cleared_next new keeps step =
         record {
           keeps = keeps_side_both _ _ _ _ so_far.keeps keeps;
-          blank = λ k low high. elim (cases_eq k _) [
-            | inl here ↦ ap (λ n. is_blank (page_at new n)) here ∙ step.blank
-            | inr away ↦ ap is_blank (step.others k away) ∙ so_far.blank k low (omega arith)
-          ];
-          rest = λ k either. elim either [
-            | inl low ↦ step.others k (λ e. omega arith) ∙ so_far.rest k (inl low)
-            | inr high ↦ step.others k (λ e. omega arith) ∙ so_far.rest k (inr (omega arith))
-          ];
+          blank = search rules;
+          rest = search rules;
           wear = subst (λ n. Wears (not_blank_from first (take n (set_of (other side) old))) old new) (omega arith) (wears_next _ _ _ page _ mid _ at within there so_far.wear step.wear);
           goes = goes_on_both _ _ _ so_far.goes step.power;
         }

@@ -1,5 +1,5 @@
 -- Maps that are copied address by address, and how many addresses have a value in them.
-use Rattle.ee_core.proofs.Base.{◌≡◌, inl, inr, ℕ, ◌<◌, ◌≤◌, Bool, true, false, Some, None, List, [], ◌∷◌, ◌++◌, refl, sym, ap, ◌∙◌, arith, suc, zero, ◌||◌, ◌==◌, fun_ext, cases_Bool, eqb-true, Change, Forget, Map, Put, changed_by, map_after, live_in, live_to, IsNextLive, live_to-zero, live_to-suc, address_of, map_to, replaced_map, HasChange, map_without, names, neither, rules}
+use Rattle.ee_core.proofs.Base.{◌≡◌, inl, inr, ℕ, ◌<◌, ◌≤◌, Bool, true, false, Some, None, List, [], ◌∷◌, ◌++◌, refl, sym, ap, ◌∙◌, arith, suc, zero, ◌||◌, ◌==◌, fun_ext, cases_Bool, Change, Forget, Map, Put, changed_by, map_after, live_in, live_to, IsNextLive, live_to-zero, live_to-suc, address_of, map_to, replaced_map, HasChange, map_without, names, neither, rules}
 
 -- maps that say the same have as many addresses with a value
 pub same_counts : (first second : Map) → ((address : ℕ) → first address ≡ second address) → live_in first ≡ live_in second
@@ -106,9 +106,7 @@ changed_by-at [] _ _ _ e = absurd (cc e)
 changed_by-at (change ∷ changes) first second address e = elim (cases_Bool _) [
   | inl later ↦ changed_by-at changes (map_after change first) (map_after change second) address later
   | inr none ↦
-      changed_by-other changes (map_after change first) address none
-      ∙ changed-at change first second address (sym (eqb-true (address_of change) address (the_first (address_of change == address) (names changes address) e none)))
-      ∙ sym (changed_by-other changes (map_after change second) address none)
+      search (rules, changed_by-other, changed-at, the_first)
 ]
 
 pub without-other : (changes : List Change) (map : Map) (address : ℕ) → names changes address ≡ false → map_without changes map address ≡ map address
@@ -122,7 +120,7 @@ without-at [] _ _ e = absurd (cc e)
 without-at (change ∷ changes) map address e = elim (cases_Bool _) [
   | inl later ↦ without-at changes (map_after (Forget (address_of change)) map) address later
   | inr none ↦
-      without-other changes (map_after (Forget (address_of change)) map) address none ∙ forget-at map (address_of change) address (sym (eqb-true (address_of change) address (the_first (address_of change == address) (names changes address) e none)))
+      search (rules, without-other, forget-at, the_first)
 ]
 
 -- the changes, and then each other address, are the map after the changes

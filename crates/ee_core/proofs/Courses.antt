@@ -1,5 +1,5 @@
 -- Live addresses that are gone over in batches.
-use Rattle.ee_core.proofs.Base.{◌≡◌, inl, inr, ℕ, ◌+◌, ◌<◌, ◌≤◌, Option, Some, None, List, [], ◌∷◌, length, drop, take, get_or, refl, sym, subst, ap, ◌∙◌, arith, suc, zero, cases_lt, drop_all, drop_more, All-head, All-tail, All, IfSome, IsAddress, Map, AreLiveThrough, IsNextLive, IsNoneLive, last_of}
+use Rattle.ee_core.proofs.Base.{◌≡◌, inl, inr, ℕ, ◌+◌, ◌<◌, ◌≤◌, Option, Some, None, List, [], ◌∷◌, length, drop, take, get_or, refl, sym, subst, ap, ◌∙◌, arith, suc, zero, cases_lt, drop_all, drop_more, All-head, All-tail, All, IfSome, IsAddress, Map, AreLiveThrough, IsNextLive, IsNoneLive, last_of, rules}
 use Rattle.ee_core.specs.Course.{GoesOver}
 
 module _ (map : Map) (from above : ℕ) (none : IsNoneLive map from (Some above)) where
@@ -38,7 +38,7 @@ module _ (map : Map) (from above : ℕ) (none : IsNoneLive map from (Some above)
   -- so does a batch
   pub live_behind : (found : List (ℕ × ℕ)) (through : Option ℕ) → AreLiveThrough map above found through → AreLiveThrough map from found through
   live_behind [] through live = record { next = tt; rest = none_behind through live.rest; further = further_behind through live.further }
-  live_behind (first ∷ _) through live = record { next = (next_behind (Some first) live.next.0, live.next.1); rest = live.rest; further = further_behind through live.further }
+  live_behind (first ∷ _) through live = record { next = search (rules, next_behind); rest = live.rest; further = further_behind through live.further }
 
 -- the address taken last
 last_taken : (items : List (ℕ × ℕ)) (n above : ℕ) (d : ℕ × ℕ) → n < length items → last_of above (take (suc n) items) ≡ (get_or items n d).0
@@ -53,7 +53,7 @@ first_ready map above _ _ ready through is over =
     let all = subst (λ l. GoesOver map record { after = above; ready = l; through = through }) is over in (
       all.next.0,
       All-head (λ found. IsAddress found.0) _ _ all.proper,
-      record { next = all.next.1; rest = all.rest; proper = All-tail (λ found. IsAddress found.0) _ _ all.proper },
+      record { next = all.next.1; rest = all.rest; proper = search (rules, All-tail) },
     )
 
 -- what taking the next address that is ready gives and leaves
@@ -72,7 +72,7 @@ one_taken map above items _ through n found same h is over =
     let e : n + 1 ≡ suc n = omega arith in
     let moved = ap (λ m. last_of 0 (take m items)) e ∙ last_taken items n 0 found within ∙ ap (λ one. one.0) (sym here) in
     let all = first_ready map above found (drop (n + 1) items) (drop n items) through (drop_more _ n _ within ∙ ap (λ one. one ∷ drop (n + 1) items) (sym here)) over in
-    record { next = all.0; proper = all.1; moved = moved; over = subst (λ m. GoesOver map record { after = m; ready = drop (n + 1) items; through = through }) (sym moved) all.2 }
+    record { next = all.0; proper = all.1; moved = moved; over = search (rules, moved) }
 
 -- a further batch, where all of one was given
 pub further : (map : Map) (after : ℕ) (items more : List (ℕ × ℕ)) (through last : Option ℕ) (n to : ℕ) → length items ≤ n → through ≡ Some to

@@ -1,5 +1,5 @@
 -- What a clear makes of a state, whole or cut, from what its transfer leaves.
-use Rattle.ee_core.proofs.Base.{◌≡◌, ◌⊎◌, ℕ, ◌+◌, ◌≤◌, Some, None, List, [], ◌∷◌, refl, sym, subst, ap, ◌∙◌, arith, fun_ext, Device, GoesOn, IsCut, KeepsLiveSet, IsLive, Change, Forget, changed_by, live_in, meaning, first_page, live_of, other, pending_of, set_of, slots_of, Side, HasMoved, Moves, ErasesPartly, MovesPartly, IsDrawn, filled_set, is_used, moved_words, picture_of, retired_pages, each_forgotten, Wears, not_blank_in, state_of, used_pages_in, used_pages_of, rules}
+use Rattle.ee_core.proofs.Base.{◌≡◌, ◌⊎◌, ℕ, ◌+◌, ◌≤◌, Some, None, List, [], ◌∷◌, refl, sym, subst, ap, ◌∙◌, fun_ext, Device, GoesOn, IsCut, KeepsLiveSet, IsLive, Change, Forget, changed_by, live_in, meaning, first_page, live_of, other, pending_of, set_of, slots_of, Side, HasMoved, Moves, ErasesPartly, MovesPartly, IsDrawn, filled_set, is_used, moved_words, picture_of, retired_pages, each_forgotten, Wears, not_blank_in, state_of, used_pages_in, used_pages_of, rules}
 use Rattle.ee_core.proofs.Making.{pending_was}
 use Rattle.ee_core.proofs.Nothing.{all_forgotten, none_live, none_moved}
 use Rattle.ee_core.proofs.States.{state_is, state_kept, state_moved}
@@ -49,11 +49,11 @@ module _ (old new : Device) (side : Side) (generation : ℕ) (live : live_of old
 
     all_moves : Empties old new → ShowsCleared old new side generation → Moves old all new
     all_moves done shows = record {
-      proceeds = record { on = done.may.on; accepted = record { has_place = λ none. absurd (omega (arith, all_counted)); not_spent = done.may.not_last } };
+      proceeds = search (rules, all_counted);
       goes_on = done.goes_on;
       needed = tt;
       few_left = done.few_left;
-      state_is = done.state_is ∙ sym (rw (all_counted, ap (λ changes. changed_by changes (state_of old).map) (sym same) ∙ none_left) refl);
+      state_is = search (rules, all_counted, none_left);
       live_is = done.live_is;
       image = (
         side,

@@ -1,5 +1,5 @@
 -- What erasing a page of the set that is not live leaves.
-use Rattle.ee_core.proofs.Base.{◌≡◌, ◌⊎◌, inl, ℕ, ◌<◌, false, length, ap, arith, Device, IsFormed, IsOn, page_at, IsStep, Erase, IsCutIn, IsUntouched, MayFollow, with_page_erased, IsPageOf, KeepsSide, is_blank, other, Side, other_set_keeps_side, erase_lowers_pending, step_keeps_other_pages, whole_erase_lowers_pending, IsSameBut, PageErased, PageErasedPartly, rules}
+use Rattle.ee_core.proofs.Base.{◌≡◌, ◌⊎◌, inl, ℕ, ◌<◌, false, length, arith, Device, IsFormed, IsOn, page_at, IsStep, Erase, IsCutIn, IsUntouched, MayFollow, with_page_erased, IsPageOf, KeepsSide, is_blank, other, Side, other_set_keeps_side, erase_lowers_pending, step_keeps_other_pages, whole_erase_lowers_pending, IsSameBut, PageErased, PageErasedPartly, rules}
 use Rattle.ee_core.proofs.Cuts.{erase_partly}
 use Rattle.ee_core.proofs.SetPages.{page_of_device}
 use Rattle.ee_core.proofs.Wears.{cut_page_wears, page_wears}
@@ -21,13 +21,7 @@ module _ (page : ℕ) (old new : Device) (side : Side) (formed : IsFormed old) (
   page_erased not_blank on done =
       let whole = inl (record { was_on = on; done = done }) in
       let lowers = whole_erase_lowers_pending _ _ _ _ at not_blank (erasing whole) done in
-      record {
-        keeps = keeps whole;
-        others = others_stay whole;
-        blank = lowers.1;
-        one_less = lowers.0;
-        wear = page_wears _ _ _ has_wear (ap (λ device. device.wear) done);
-      }
+      search (rules, keeps, others_stay, page_wears, has_wear)
 
   pub page_erased_partly : is_blank (page_at old page) ≡ false → IsCutIn (Erase page) old new ⊎ IsUntouched old new → PageErasedPartly old new side page
   page_erased_partly not_blank cut = search (rules, keeps, others_stay, erase_partly, erase_lowers_pending, erasing, cut_page_wears, has_wear)

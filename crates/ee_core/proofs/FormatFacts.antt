@@ -1,5 +1,5 @@
 -- What formatting does: it erases what is not blank, and then commits the first set.
-use Rattle.ee_core.proofs.Base.{◌≡◌, ◌≢◌, ℕ, ◌+◌, ◌<◌, ◌≤◌, true, false, [], length, replicate, refl, sym, ap, ◌∙◌, arith, All, true≢false, get_or-replicate, get_or-set_other, get_or-set_same, length-replicate, All-from_get_or, Device, IsFormed, IsOn, page_at, GoesOn, page_count, with_page_erased, Erased, is_blank, is_written, blank_page, IsSameBut, Wears, rules}
+use Rattle.ee_core.proofs.Base.{◌≡◌, ℕ, ◌+◌, ◌<◌, ◌≤◌, true, false, [], length, replicate, refl, ap, ◌∙◌, arith, All, get_or-replicate, get_or-set_other, get_or-set_same, length-replicate, All-from_get_or, Device, IsFormed, IsOn, page_at, GoesOn, page_count, with_page_erased, Erased, is_blank, is_written, blank_page, IsSameBut, Wears, rules}
 use Rattle.ee_core.proofs.AfterCalls.{goes_on_same}
 use Rattle.ee_core.proofs.ErasedPages.{blank_wears, written_wears}
 use Rattle.ee_core.proofs.NotBlank.{named}
@@ -16,7 +16,7 @@ pub blank_already : (device : Device) (page : ℕ) → is_blank (page_at device 
 blank_already device page blank = record { others = λ k apart. refl; blank = blank; wear = blank_wears page (page_at device page) _ blank; power = goes_on_same _ }
 
 erase_goes_on : (page : ℕ) (old new : Device) → IsOn old → new ≡ with_page_erased page old → GoesOn old new
-erase_goes_on _ _ _ on done = rw done (record { same_size = refl; same_power = refl; same_cuts = refl; same_cuts_left = refl; same_while_off = λ off. absurd (true≢false (sym on ∙ off)) })
+erase_goes_on _ _ _ on done = rw done (record { same_size = refl; same_power = refl; same_cuts = refl; same_cuts_left = refl; same_while_off = search rules })
 
 pub blanks_page : (page : ℕ) (mid new : Device) → IsFormed mid → page < page_count mid.size → is_blank (page_at mid page) ≡ false → IsOn mid → new ≡ with_page_erased page mid → BlanksPage mid new page
 blanks_page page mid new formed h written on done =

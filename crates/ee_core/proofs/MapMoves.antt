@@ -1,5 +1,5 @@
 -- What a transfer leaves, from what its steps leave.
-use Rattle.ee_core.proofs.Base.{◌≡◌, inl, inr, ℕ, ◌+◌, ◌-◌, List, [], length, refl, sym, subst, ap, ◌∙◌, arith, fun_ext, Device, IsFormed, Word, IsCommitted, IsFilling, KeepsSide, IsLayout, Change, changed_by, live_in, meaning, fill_of, other, page_of_slot, pending_of, set_of, slots_of, Layout, Side, keeps_side_both, other_twice, HasMoved, Holds, IsSameSet, Stays, map_in, AddsPartly, IsDrawnPartly, MovesMapPartly, MovesPartly, IsMarked, ShowsCutMarks, ShowsMarks, IsDrawn, blank_picture, filled_set, is_used, moved_words, picture_of, retired_pages, each_forgotten, Wears, not_blank_in, rules}
+use Rattle.ee_core.proofs.Base.{◌≡◌, inl, inr, ℕ, ◌+◌, ◌-◌, List, [], length, refl, subst, ap, ◌∙◌, arith, fun_ext, Device, IsFormed, Word, IsCommitted, IsFilling, KeepsSide, IsLayout, Change, changed_by, live_in, fill_of, other, page_of_slot, set_of, slots_of, Layout, Side, keeps_side_both, other_twice, HasMoved, Holds, IsSameSet, Stays, map_in, AddsPartly, IsDrawnPartly, MovesMapPartly, MovesPartly, IsMarked, ShowsCutMarks, ShowsMarks, IsDrawn, blank_picture, filled_set, is_used, moved_words, picture_of, retired_pages, each_forgotten, Wears, not_blank_in, rules}
 use Rattle.ee_core.specs.Transfers.{Filled, FilledPartly, IsNewlyOpened, MapMoved, MapMovedPartly, OtherCleared, OtherCommitted, OtherCommittedPartly, OtherOpened, OtherOpenedPartly, SetMoved}
 use Rattle.ee_core.proofs.CutMoves.{filled_partly, marked_partly, retires_partly}
 use Rattle.ee_core.proofs.Cuts.{drawn_before}
@@ -55,7 +55,7 @@ module _ (old opened : Device) (layout : Layout) (opens : IsOpened old opened la
   nothing_filled = record {
     keeps = opens.keeps;
     filling = opens.opened.filling;
-    map_is = λ address. opens.opened.nothing address ∙ sym (all_forgotten (slots_of (set_of layout.side old)) address);
+    map_is = search (rules, all_forgotten);
     as_many = refl;
     each_once = none_live (slots_of (set_of layout.side old));
     holds = opens.holds;
@@ -75,7 +75,7 @@ module _ (old opened : Device) (layout : Layout) (opens : IsOpened old opened la
           filling = fills.filling;
           map_is = fills.map_is;
           as_many = omega arith;
-          each_once = once ∙ ap (λ map. live_in (changed_by changes map)) same_map;
+          each_once = search (rules, same_map);
           holds = fills.adds.new_pages [] refl opens.holds;
           wear = wears_still _ _ _ _ opens.wear fills.wear;
         }
@@ -97,10 +97,10 @@ module _ (old filled new : Device) (layout : Layout) (changes : List Change) (wo
   has_moved : IsSameSet layout.side filled new → IsCommitted filled new (other layout.side) (layout.generation + 1) → HasMoved old new layout.side layout.generation changes
   has_moved same committed = record {
     live = committed.live;
-    same_size = committed.same_size ∙ fills.keeps.same_size;
-    map_is = λ address. ap (λ slots. meaning slots address) committed.same_slots ∙ fills.map_is address;
-    fill_is = ap fill_of committed.same_slots ∙ fills.filling.fill ∙ fills.each_once;
-    pending_is = ap pending_of (same ∙ fills.keeps.same_set);
+    same_size = search rules;
+    map_is = search rules;
+    fill_is = search rules;
+    pending_is = search rules;
   }
 
   pub is_moved : OtherCommitted filled new layout → MapMoved old new layout changes words count
@@ -108,8 +108,8 @@ module _ (old filled new : Device) (layout : Layout) (changes : List Change) (wo
     moved = has_moved done.same_set done.committed;
     as_many = fills.as_many;
     each_once = fills.each_once;
-    new_pages = commits _ _ _ _ _ fills.keeps.formed done.committed.same_size done.sets fills.holds;
-    live_pages = same_drawn _ _ _ (done.committed.same_size ∙ fills.keeps.same_size) (done.same_set ∙ fills.keeps.same_set);
+    new_pages = search (rules, commits);
+    live_pages = search (rules, same_drawn);
     wear = wears_still _ _ _ _ fills.wear done.wear;
   }
 
@@ -159,9 +159,8 @@ module _ (old mid new : Device) (layout : Layout) (side : Side) (changes : List 
         as_many = moves.as_many;
         layout_is = layout_stays _ _ _ found stays;
         other_set = to;
-        marked = subst (λ set. IsMarked new set) to marked;
-        new_pages = subst (λ size. IsDrawn (other layout.side) new (filled_set size (layout.generation + 1) words)) moves.moved.same_size
-            (filled_up _ _ new _ _ stays_there.keeps.same_size moves.new_pages fill shown.live_pages);
+        marked = search rules;
+        new_pages = search (rules, filled_up, stays_there, fill);
         old_pages = all_retired _ _ _ new formed moves.moved.live.formed moves.moved.same_size stays_there.keeps.same_size moves.live_pages
             (subst (λ set. IsDrawn set new (retired_pages (is_used set mid) (picture_of set mid))) (other_twice _) shown.old_pages);
         wear = wears_still _ _ _ _ moves.wear stays.same_wear;

@@ -71,7 +71,7 @@ old_mark_stays page old new _ _ live of written (inr taken) =
     let kept = other_set_keeps_live _ _ _ _ _ live taken of ((λ first one. cc), (λ first zero. cc)) in
     record {
       keeps = kept.0;
-      same_pending = same_not_blank _ _ _ _ live.formed kept.0.live.formed kept.0.same_size of (λ p apart. step_keeps_other_pages _ _ _ p taken apart) ((elim (program_leaves_written _ 3 _ _ _ taken) [ | inl same ↦ ap (λ image. is_blank (get_or image page [])) same ∙ written | inr more ↦ more ]) ∙ sym written);
+      same_pending = same_not_blank _ _ _ _ live.formed kept.0.live.formed kept.0.same_size of (λ p apart. step_keeps_other_pages _ _ _ p taken apart) ((elim (program_leaves_written _ 3 _ _ _ taken) [ inl same ↦ ap (λ image. is_blank (get_or image page [])) same ∙ written | inr more ↦ more ]) ∙ sym written);
       same_wear = search (rules, program_keeps_wear);
     }
 

@@ -66,7 +66,7 @@ pub times_here : (pages : List (List Word)) (number k : ℕ) → times (number +
 times_here [] _ k = refl
 times_here (words ∷ pages) number zero =
     let e : number + 0 ≡ number = omega arith in
-    rw e (named_once (is_blank words) number _ (times_below pages (number + 1) number (omega arith)))
+    search (rules, named_once, times_below)
 times_here (words ∷ pages) number (suc k) =
     named_before (is_blank words) number (number + suc k) _ (λ same. omega arith) ∙ ap (λ n. times n (not_blank_from (number + 1) pages)) (omega arith) ∙ times_here pages (number + 1) k
 

@@ -1,6 +1,6 @@
 -- A map of which every address is forgotten: nothing has a value in it, and no word is copied of
 -- it.
-use Rattle.ee_core.proofs.Base.{◌≡◌, inl, inr, ℕ, ◌+◌, ◌<◌, ◌≤◌, Bool, true, false, cond, Option, None, List, [], refl, ap, ◌∙◌, arith, subst, length, suc, zero, ◌==◌, slice_index_or, Contains, cases_eq, cases_lt, Word, Change, Forget, Map, changed_by, live_in, map_after, meaning, HasChange, map_without, moved_words, put_words, each_forgotten, rules}
+use Rattle.ee_core.proofs.Base.{◌≡◌, inl, inr, ℕ, ◌+◌, ◌<◌, ◌≤◌, Bool, true, false, cond, Option, None, List, [], refl, ap, ◌∙◌, arith, subst, length, suc, zero, ◌==◌, slice_index_or, Contains, cases_eq, Word, Change, Forget, Map, changed_by, live_in, map_after, meaning, HasChange, map_without, moved_words, put_words, each_forgotten, rules}
 use Rattle.ee_core.specs.Picture.{elements_to}
 use Rattle.ee_core.specs.Puts.{forgets_from}
 use Rattle.ee_core.proofs.CopiedMaps.{forget-at, live_in-nothing}
@@ -28,10 +28,7 @@ forgotten_in first (suc more) map address from below = elim (cases_eq _ _) [
 pub all_forgotten : (slots : List Word) (address : ℕ) → changed_by each_forgotten (meaning slots) address ≡ None
 all_forgotten slots address = elim (cases_eq _ 0) [
   | inl zeroth ↦ still_none 1 65534 (meaning slots) address (ap (meaning slots) zeroth ∙ meaning-zero slots)
-  | inr some ↦ elim (cases_lt address 65535) [
-    | inl below ↦ forgotten_in 1 65534 (meaning slots) address (omega arith) (omega arith)
-    | inr above ↦ still_none 1 65534 (meaning slots) address (meaning-above slots _ above)
-  ]
+  | inr some ↦ search (rules, forgotten_in, still_none, meaning-above)
 ]
 
 -- no address has a value in it

@@ -89,7 +89,7 @@ module _ (old : Device) (layout : Layout) (found : IsLayout old layout) (free : 
   ready_already within was =
       let inside = subst (λ n. (layout.fill ≡ 0) ⊎ (layout.fill % (n - 4) ≢ 0)) words_is within in
       let e = same_place layout.fill (old.size.words - 4) some_slots inside ∙ last_is in
-      record { valid = λ page below. was.valid page (subst (λ n. page < n) e below); active = ap (λ n. is_marked old (first_page old.size layout.side + n) Active) e ∙ was.active }
+      search rules
 
   pub current_of : IsPageOf old.size layout.side layout.current
   current_of = search (rules, page_in_range, slot_below)

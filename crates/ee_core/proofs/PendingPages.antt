@@ -26,16 +26,14 @@ times_in_set side device page at =
     let k = page - first_page device.size side in
     let is : first_page device.size side + k ≡ page = omega arith in
     let within : k < device.size.pages = omega arith in
-    ap (λ n. times n (not_blank_in side device)) (sym is)
-    ∙ times_here _ _ k
-    ∙ ap (λ words. cond (is_blank words) 0 1) (page_of_set _ _ k within ∙ ap (page_at device) is)
+    search (rules, times_here, page_of_set)
 
 -- and not at all if it is one of the other set
 pub times_in_other : (side : Side) (device : Device) (page : ℕ) → IsPageOf device.size side page → times page (not_blank_in (other side) device) ≡ 0
 times_in_other First device _ at = times_below (set_of Second device) _ _ (omega arith)
 times_in_other Second device page at =
     let few : length (set_of First device) ≤ device.size.pages = omega (arith, length-take device.size.pages device.image) in
-    times_past (set_of First device) 0 _ (omega arith)
+    search (rules, times_past)
 
 -- ---- one page changed
 

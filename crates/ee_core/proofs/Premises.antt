@@ -1,6 +1,6 @@
 -- What laws of this crate need: without the named premise they would be false, and here is where.
-use Rattle.ee_core.proofs.Base.{◌≡◌, ◌+◌, ◌/◌, ◌<◌, ◌≤◌, ℕ, true, false, Ok, Err, List, [], ◌∷◌, get_or, refl, ap, sym, ◌∙◌, arith, true≢false, get_or-set_same, All-cons, All-nil, Device, wear_at, GoesOn, page_count, one_more, IsLegal, Cleans, Writes, CountsWear}
-use Rattle.ee_core.specs.Runs.{Call, Cleaned, IsRun, IsWholeRun, Wrote, is_cut, transfers}
+use Rattle.ee_core.proofs.Base.{◌+◌, ◌/◌, ◌<◌, ◌≤◌, ℕ, true, Ok, Err, List, [], ◌∷◌, get_or, refl, ap, sym, ◌∙◌, arith, true≢false, get_or-set_same, All-cons, All-nil, Device, wear_at, GoesOn, page_count, one_more, IsLegal, Cleans, Writes, CountsWear, rules}
+use Rattle.ee_core.specs.Runs.{Call, Cleaned, IsRun, IsWholeRun, Wrote, transfers}
 use Rattle.ee_core.specs.declared.variables.WriteFault.TheVariants as write
 
 -- `runs_go_on` needs that power is not cut in the run: each write in which it is cut is a run
@@ -19,7 +19,7 @@ no_page_wears_more_needs_none_waiting law old new legal counts cleaned =
     let page = cleaned.lowest.page in
     let within = cleaned.lowest.wear.there 0 0 (omega arith) in
     let formed = legal.2.formed in
-    let few = law (Cleaned (Ok true) ∷ []) old new page (record { run = (new, cleaned, refl); without_cuts = All-cons (λ call. is_cut call ≡ false) _ [] refl (All-nil (λ call. is_cut call ≡ false)) }) legal (omega arith) in
+    let few = law (Cleaned (Ok true) ∷ []) old new page (record { run = (new, cleaned, refl); without_cuts = search (rules, All-cons, All-nil) }) legal (omega arith) in
     let below = counts page 0 within in
     let more =
     ap (λ wear. get_or wear page 0) cleaned.lowest.wear.wear_is ∙ get_or-set_same old.wear page (one_more (wear_at old page)) 0 within in

@@ -1,6 +1,6 @@
 -- Openings and rescues that are cut, one after another.
 use Rattle.ee_core.proofs.Base.{◌≡◌, ◌⊎◌, inl, inr, ℕ, ◌<◌, true, Option, None, Some, List, [], ◌∷◌, refl, sym, subst, ap, ◌∙◌, arith, cases_eq, cases_lt, Device, Word, KeepsSide, IsLegal, IsLive, meaning, is_written, other, set_of, slots_of, Side, First, Second, held_is_rescued, held_is_rescued_side, live_is_held, live_is_rescued, one_word_costs_its_value, bad_word_leaves_held, bad_waiting_word_leaves_held, waiting_word_costs_nothing, IsCutOpening, with_power_on, state_of, rules}
-use Rattle.ee_pages.specs.Rescue.{map_of_side, rescued_map, rescued_side}
+use Rattle.ee_pages.specs.Rescue.{map_of_side, rescued_map}
 use Rattle.ee_pages.specs.RescueLaws.{IsHeld, WentBad, IsToldApart, PutsInSet}
 use Rattle.ee_core.specs.Rescues.{AreCutTries, CostsNewest, IsCutRescue, IsCutTry, IsMadeStore, last_on}
 use Rattle.ee_core.proofs.States.{state_is}
@@ -22,7 +22,7 @@ legal_holds device _ legal map_is = record {
   side = legal.0;
   generation = legal.1;
   held = live_is_held _ _ _ legal.2;
-  same_map = λ address. sym (legal_map device legal address) ∙ map_is address;
+  same_map = search (rules, legal_map);
 }
 
 -- ---- power
@@ -40,8 +40,8 @@ holds_on : (device old : Device) → Holds device old → Holds (with_power_on d
 holds_on device _ holds = record {
   side = holds.side;
   generation = holds.generation;
-  held = held_on device holds.side holds.generation holds.held;
-  same_map = λ address. map_on device (rescued_side device) address ∙ holds.same_map address;
+  held = search (rules, held_on);
+  same_map = search (rules, map_on);
 }
 
 -- ---- a cut
@@ -67,7 +67,7 @@ holds_later _ _ _ second first = record {
   side = second.side;
   generation = second.generation;
   held = second.held;
-  same_map = λ address. second.same_map address ∙ first.same_map address;
+  same_map = search rules;
 }
 
 after_try : (mid new old : Device) → Holds mid old → IsCutTry mid new → Holds (with_power_on new) old
@@ -88,7 +88,7 @@ pub held_through_cuts : (old : Device) (side : Side) (generation : ℕ) (cuts : 
     → (address : ℕ) → (state_of new).map address ≡ rescued_map old address
 held_through_cuts old side generation cuts new held tries made address =
     let all = after_tries cuts old old (record { side = side; generation = generation; held = held; same_map = λ a. refl }) tries in
-    made_map (last_on old cuts) new made address ∙ all.same_map address
+    search (rules, made_map)
 
 -- ---- from an image as a store leaves it
 
@@ -114,7 +114,7 @@ module _ (old changed : Device) (side : Side) (generation page at : ℕ) (word :
       let found = behind_cuts (bad_word_leaves_held old _ _ _ page at word live bad puts) (λ first low. (told first low).2) address in
       elim ((one_word_costs_its_value _ _ _ generation _ at word live bad puts (λ first low. let all = told first low in (all.0, all.1))).1 address) [
         | inl same ↦ inl (found ∙ same ∙ had address)
-        | inr loses ↦ inr (record { in_slot = loses.in_slot; newest = loses.newest; map_is = found ∙ loses.map_is })
+        | inr loses ↦ search rules
       ]
 
   pub waiting_word_costs_no_more : PutsInSet old changed (other side) page at word → WentBad at word → (page ≡ 0 → at < 2 → IsToldApart old side × (cuts ≡ []))
