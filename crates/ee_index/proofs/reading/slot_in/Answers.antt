@@ -1,14 +1,10 @@
-use Rattle.std.proofs.Common.{sym, ap, ◌∙◌, ℕ, Some}
+use Rattle.std.proofs.Common.{sym, rules}
 use Rattle.std.proofs.lemmas.List.{get_or_default}
-use Rattle.ee_index.specs.Entries.{StandsAt}
 use Rattle.ee_index.proofs.InOrder.{none_found, slot_found}
 use Rattle.ee_index.proofs.reading.slot_in.Goals as goal
 
 pub returns-in-Ok : goal.returns-in-Ok
-returns-in-Ok g c =
-    let here : StandsAt c.entries.result.now c.args.address c.in-Ok.place = rw c.entries.ensures.entries c.in-Ok.ensures.found in
-    let read = get_or_default c.entries.result.now c.in-Ok.place c.index-entries-place.result (0, 0) here.within in
-    rw (← c.entries.ensures.entries) (ap (λ (slot : ℕ). Some slot) (c.from.ensures ∙ ap (λ (entry : ℕ × ℕ). entry.1) read) ∙ sym (slot_found c.entries.result.now c.args.address c.in-Ok.place here))
+returns-in-Ok g c = search (rules, get_or_default, slot_found)
 
 pub returns-in-Err : goal.returns-in-Err
-returns-in-Err g c = sym (none_found (g.L.Listing.list c.args.list.now) c.args.address _ c.in-Err.ensures.absent)
+returns-in-Err g c = sym (none_found _ _ _ c.in-Err.ensures.absent)
