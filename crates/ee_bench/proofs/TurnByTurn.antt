@@ -1,5 +1,5 @@
 -- Turns one after another, and what they come to.
-use Rattle.std.proofs.Common.{◌≡◌, ℕ, ◌+◌, ◌<◌, ◌++◌, Bool, Option, Some, None, List, [], ◌∷◌, length, take, get_or, refl, sym, ap, ◌∙◌, subst}
+use Rattle.std.proofs.Common.{◌≡◌, ℕ, ◌+◌, ◌<◌, ◌++◌, Bool, Option, Some, None, List, [], ◌∷◌, length, take, get_or, refl, rules}
 use Rattle.std.specs.List.{filter_map}
 use Rattle.std.proofs.lemmas.List.{map-append, take_more}
 use Rattle.std.proofs.lemmas.List.Elements.{filter_map-append}
@@ -16,8 +16,8 @@ pub record HasMet (start : Device) (events : List Event) (log : List Answer) (ke
   pub turns_are : AreTurns turns (closed_point start) point
 
 one_more_turn : (turns : List Turn) (turn : Turn) (old between new : Point) → AreTurns turns old between → IsTurn turn between new → AreTurns (turns ++ turn ∷ []) old new
-one_more_turn [] turn old between new same last = (new, subst (λ (point : Point). IsTurn turn point new) same last, refl)
-one_more_turn (first ∷ turns) turn old between new run last = (run.0, run.1, one_more_turn turns turn run.0 between new run.2 last)
+one_more_turn [] turn old between new same last = search rules
+one_more_turn (_ ∷ turns) turn _ between new run last = (run.0, run.1, one_more_turn turns turn run.0 between new run.2 last)
 
 -- what is noted of a turn
 abbrev pub noted_of : Option Bool → List Bool
@@ -25,8 +25,8 @@ noted_of None = []
 noted_of (Some found) = found ∷ []
 
 note_found : (event : Event) (answer : Answer) (found : Option Bool) → filter_map (λ (one : Turn). one.found) (record { event = event; answer = answer; found = found } ∷ []) ≡ noted_of found
-note_found event answer None = refl
-note_found event answer (Some found) = refl
+note_found _ _ None = refl
+note_found _ _ (Some _) = refl
 
 one_noted : (turn : Turn) → filter_map (λ (one : Turn). one.found) (turn ∷ []) ≡ noted_of turn.found
 one_noted turn = note_found turn.event turn.answer turn.found
@@ -35,13 +35,8 @@ pub one_met : (start : Device) (events : List Event) (log : List Answer) (kept :
     → IsTurn turn point next → HasMet start (events ++ turn.event ∷ []) (log ++ turn.answer ∷ []) (kept ++ noted_of turn.found) next
 one_met start events log kept point next turn met last = record {
   turns = met.turns ++ turn ∷ [];
-  told = record {
-    events_are = map-append (λ (one : Turn). one.event) met.turns (turn ∷ []) ∙ ap (λ (l : List Event). l ++ turn.event ∷ []) met.told.events_are;
-    log_is = map-append (λ (one : Turn). one.answer) met.turns (turn ∷ []) ∙ ap (λ (l : List Answer). l ++ turn.answer ∷ []) met.told.log_is;
-    kept_is = filter_map-append (λ (one : Turn). one.found) met.turns (turn ∷ [])
-        ∙ ap (λ (l : List Bool). l ++ filter_map (λ (one : Turn). one.found) (turn ∷ [])) met.told.kept_is ∙ ap (λ (l : List Bool). kept ++ l) (one_noted turn);
-  };
-  turns_are = one_more_turn met.turns turn (closed_point start) point next met.turns_are last;
+  told = search (rules, map-append, filter_map-append, one_noted);
+  turns_are = search (rules, one_more_turn);
 }
 
 -- what the next event of the list comes to
@@ -50,5 +45,5 @@ pub next_met : (start : Device) (events : List Event) (i : ℕ) (event : Event) 
     → IsTurn (record { event = event; answer = answer; found = found }) point next → new_log ≡ log ++ answer ∷ [] → new_kept ≡ kept ++ noted_of found
     → HasMet start (take (i + 1) events) new_log new_kept next
 next_met start events i event log new_log kept new_kept answer found point next met within is turn log_is kept_is =
-    let more : take (i + 1) events ≡ take i events ++ event ∷ [] = take_more events i event within ∙ ap (λ (one : Event). take i events ++ one ∷ []) (sym is) in
+    let more : take (i + 1) events ≡ take i events ++ event ∷ [] = search (rules, take_more) in
     rw (more, log_is, kept_is) (one_met start (take i events) log kept point next (record { event = event; answer = answer; found = found }) met turn)

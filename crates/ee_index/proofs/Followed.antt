@@ -1,5 +1,5 @@
 -- An index that follows a change is one of the slots behind it.
-use Rattle.std.proofs.Common.{◌≡◌, ℕ, ◌+◌, ◌<◌, Bool, List, [], arith, get_or, length, subst, sym}
+use Rattle.std.proofs.Common.{◌≡◌, ℕ, ◌+◌, ◌<◌, Bool, List, [], arith, get_or, length, subst, sym, rules}
 use Rattle.std.specs.Bool.{if◌then◌else◌}
 use Rattle.ee_flash.specs.Device.{Device}
 use Rattle.ee_flash.specs.declared.word.Word.TheVariants.{Erased}
@@ -27,7 +27,7 @@ use Rattle.ee_index.proofs.Indexing.{slot_within, used_within}
 module _ (old new : Device) (layout moved : Layout) (puts : List listed.Put) (forgets : Bool) (held : List (ℕ × ℕ))
     (each : AreApart (changes_of_puts puts forgets)) (room : IsRoomFor (slots_by layout old) (if forgets then [] else puts) (slot_for held)) where
   pub gone_over : IsIndexBesideHidden (slots_by layout old) (slot_for held)
-  gone_over = record { indexes = room.indexes; proper = held_proper (slots_by layout old) puts forgets held each room }
+  gone_over = search (rules, held_proper)
 
   module _ (done : SetMoved old new layout moved (changes_of_puts puts forgets) (moved_words (changes_of_puts puts forgets) (map_in layout.side old))) where
     pub numbers_few : AreInOrder held → length (if forgets then [] else puts) + length held < 65536
@@ -43,8 +43,7 @@ module _ (old new : Device) (layout moved : Layout) (puts : List listed.Put) (fo
         λ place h. filled_slot (other layout.side) new old.size (layout.generation + 1) place words done.moved.live.formed done.moved.same_size
         (slot_within new moved done.layout_is place (omega (arith, h, done.as_many))) done.new_pages in
         let indexes = moved_index (slots_by layout old) puts forgets held each room after numbered.left numbered.left_is done.moved.map_is numbered.ordered there in
-        subst (λ (side : Side). IsIndex (slots_of (set_of side new)) (slot_for followed)) (sym done.other_set)
-        (subst (λ (entries : List (ℕ × ℕ)). IsIndex after (slot_for entries)) (sym numbered.numbered) indexes)
+        search rules
 
 module _ (old new : Device) (layout after : Layout) (change : declared.Change) (held : List (ℕ × ℕ)) (found : IsLayout old layout) (free : layout.fill < slot_count old.size)
     (ready : IsReadyFor (slots_by layout old) (map_change change) layout.fill (slot_for held)) (done : ChangeWritten old new layout after change) where

@@ -1,7 +1,7 @@
 -- What an append makes of an index: its slot is the first free one, and each other slot is as
 -- before.
-use Rattle.std.proofs.Common.{◌≡◌, ◌≢◌, ◌⊎◌, inl, inr, ℕ, ◌<◌, Option, Some, None, List, get_or, refl, sym, ap, ◌∙◌, arith, rules}
-use Rattle.std.proofs.lemmas.Bool.{cases_eq, cases_lt, ne_eqb}
+use Rattle.std.proofs.Common.{◌≡◌, ◌≢◌, ◌⊎◌, inl, inr, ℕ, ◌<◌, Some, List, get_or, refl, sym, ap, ◌∙◌, arith, rules}
+use Rattle.std.proofs.lemmas.Bool.{cases_eq, cases_lt}
 use Rattle.std.proofs.lemmas.Grind.{common_steps}
 use Rattle.std.proofs.lemmas.List.{get_or_past}
 use Rattle.ee_flash.specs.Device.{Device, IsFormed}
@@ -19,8 +19,7 @@ use Rattle.ee_core.specs.Picture.{IsDrawn, Picture, marked_to, picture_of, with_
 use Rattle.ee_core.specs.declared.change.Change as declared
 use Rattle.ee_core.specs.declared.change.Change.TheVariants as kinds
 use Rattle.ee_core.proofs.Public.{slot_erased, with_word-elsewhere, with_word-there, page_of_set}
-use Rattle.ee_index.specs.Index.{IsIndex, index_for_change, said_at, says_value, without_forgotten}
-use Rattle.ee_index.proofs.Indexing.{stands}
+use Rattle.ee_index.specs.Index.{IsIndex, index_for_change, without_forgotten}
 
 -- a slot, as its set is drawn
 pub drawn_slot : (side : Side) (device : Device) (picture : Picture) (slot : ℕ) → IsFormed device → slot < slot_count device.size → IsDrawn side device picture → get_or (slots_of (set_of side device)) slot Erased ≡ picture (page_of_slot device.size slot) (place_of_slot device.size slot)
@@ -28,7 +27,7 @@ drawn_slot side device picture slot formed h drawn = search (rules, page_in_rang
 
 -- no mark stands in the place of a slot
 unmarked : (last : ℕ) (picture : Picture) (page at : ℕ) → 3 < at → marked_to last picture page at ≡ picture page at
-unmarked last picture page at h = rw (ne_eqb at 2 (λ e. omega (arith, e)), ne_eqb at 1 (λ e. omega (arith, e))) refl
+unmarked last picture page at h = search rules
 
 slots_apart : (size : Size) (slot fill : ℕ) → slot ≢ fill → (page_of_slot size slot ≢ page_of_slot size fill) ⊎ (place_of_slot size slot ≢ place_of_slot size fill)
 slots_apart size slot fill apart = search (rules, cases_eq, split_by)
@@ -41,7 +40,7 @@ module _ (side : Side) (old new : Device) (generation fill number : ℕ) (live :
       ∙ ap (λ (size : Size). with_change old.size fill number (picture_of side old) (page_of_slot size slot) (place_of_slot size slot)) sizes
 
   pub slot_filled : get_or (slots_of (set_of side new)) fill Erased ≡ Held number
-  slot_filled = in_both fill free ∙ with_word-there (page_of_slot old.size fill) (place_of_slot old.size fill) (Held number) (marked_to (page_of_slot old.size fill) (picture_of side old)) (page_of_slot old.size fill) (place_of_slot old.size fill) refl refl
+  slot_filled = search (rules, in_both, with_word-there)
 
   pub slot_was_free : get_or (slots_of (set_of side old)) fill Erased ≡ Erased
   slot_was_free =
@@ -56,8 +55,7 @@ module _ (side : Side) (old new : Device) (generation fill number : ℕ) (live :
         ∙ unmarked (page_of_slot old.size fill) (picture_of side old) (page_of_slot old.size slot) (place_of_slot old.size slot) (omega arith)
         ∙ sym (drawn_slot side old (picture_of side old) slot live.formed within (λ page at h inside. refl))
     | inr past ↦
-        get_or_past (slots_of (set_of side new)) slot Erased (omega (arith, length-slots side new formed, ap slot_count sizes))
-        ∙ sym (get_or_past (slots_of (set_of side old)) slot Erased (omega (arith, length-slots side old live.formed)))
+        search (rules, get_or_past, length-slots)
   ]
 
 -- the word of a change says it
@@ -68,7 +66,7 @@ SaysChange word (Forget address) = Unit {0}
 -- the word that spells it does
 pub says_spelled : (change : declared.Change) (word : Word) → word ≡ Held (number_written change) → SpellsChange (number_written change) (map_change change) → SaysChange word (map_change change)
 says_spelled (kinds.Put address value) word e spells = search (rules, common_steps, slot_of-element)
-says_spelled (kinds.Forget address value) word e spells = tt
+says_spelled (kinds.Forget _ _) _ _ _ = tt
 
 -- what an index has behind a change in the slot of this number
 abbrev pub left_by : Change → ℕ → Map → Map
@@ -77,45 +75,12 @@ left_by (Forget address) number index = map_after (Forget address) index
 
 module _ (slots after : List Word) (fill : ℕ) (index : Map) (was_free : get_or slots fill Erased ≡ Erased)
     (others : (slot : ℕ) → slot ≢ fill → get_or after slot Erased ≡ get_or slots slot Erased) (indexes : IsIndex slots index) where
-  -- a slot that the index had says what it said
-  says_still : (address : ℕ) (slot : Option ℕ) → index address ≡ slot → said_at after slot address ≡ said_at slots slot address
-  says_still address None e = refl
-  says_still address (Some slot) e = search (rules, stands)
-
-  module _ (change : Change) (there : SaysChange (get_or after fill Erased) change) (map : (address : ℕ) → meaning after address ≡ map_after change (meaning slots) address) where
-    elsewhere : (address : ℕ) → left_by change fill index address ≡ index address → map_after change (meaning slots) address ≡ meaning slots address → said_at after (left_by change fill index address) address ≡ says_value (meaning after address)
-    elsewhere address same kept =
-        ap (λ slot. said_at after slot address) same
-        ∙ says_still address (index address) refl
-        ∙ indexes address
-        ∙ ap says_value (sym (map address ∙ kept))
-
   pub appended_index : (change : Change) → SaysChange (get_or after fill Erased) change → ((address : ℕ) → meaning after address ≡ map_after change (meaning slots) address) → IsIndex after (left_by change fill index)
-  appended_index (Put named value) there map address = elim (cases_eq named address) [
-    | inl same ↦
-        let slot : left_by (Put named value) fill index address ≡ Some fill = grind (arith, common_steps, same) in
-        let held : meaning after address ≡ Some value = map address ∙ grind (arith, common_steps, same) in
-        rw (slot, held) (ap (λ said. Some said) (rw same at there))
-    | inr apart ↦
-        elsewhere (Put named value) there map address (grind (arith, common_steps, apart)) (grind (arith, common_steps, apart))
-  ]
-  appended_index (Forget named) there map address = elim (cases_eq named address) [
-    | inl same ↦
-        let slot : left_by (Forget named) fill index address ≡ None = grind (arith, common_steps, same) in
-        let held : meaning after address ≡ None = map address ∙ grind (arith, common_steps, same) in
-        rw (slot, held) refl
-    | inr apart ↦
-        elsewhere (Forget named) there map address (grind (arith, common_steps, apart)) (grind (arith, common_steps, apart))
-  ]
+  appended_index (Put named value) there map address = search rules
+  appended_index (Forget named) there map address = search rules
 
 -- an index follows as it is made ready and an address that is forgotten leaves it
 pub follows_change : (slots : List Word) (change : Change) (fill : ℕ) (before ready after : Map) → ((address : ℕ) → ready address ≡ index_for_change change fill before address) → ((address : ℕ) → after address ≡ without_forgotten change ready address)
     → IsIndex slots (left_by change fill before) → IsIndex slots after
-follows_change slots (Put named value) fill before ready after first then indexes address = ap (λ slot. said_at slots slot address) (then address ∙ first address) ∙ indexes address
-follows_change slots (Forget named) fill before ready after first then indexes address = ap (λ slot. said_at slots slot address) (then address ∙ same) ∙ indexes address
-  where
-    same : map_after (Forget named) ready address ≡ map_after (Forget named) before address
-    same = elim (cases_eq named address) [
-      | inl here ↦ grind (arith, common_steps, here)
-      | inr apart ↦ let was = first address in grind (arith, common_steps, apart, was)
-    ]
+follows_change slots (Put named value) fill before ready after first then indexes address = search rules
+follows_change slots (Forget named) fill before ready after first then indexes address = search rules

@@ -1,5 +1,5 @@
 -- What an index finds is what the map of its slots says.
-use Rattle.std.proofs.Common.{◌≡◌, ◌+◌, ◌∙◌, Bool, true, false, ℕ, Result, Ok, Err, OnOk, is_err, Some, List, [], arith, get_or, length, refl, subst, sym}
+use Rattle.std.proofs.Common.{◌≡◌, ◌+◌, ◌∙◌, Bool, true, false, ℕ, Result, Ok, Err, OnOk, is_err, Some, List, [], arith, get_or, length, refl, rules}
 use Rattle.std.specs.Bool.{if◌then◌else◌}
 use Rattle.std.specs.List.Sorted.{IsStrictlySortedBy}
 use Rattle.std.specs.Map.{keys_of}
@@ -17,7 +17,7 @@ use Rattle.ee_core.specs.State.{state_of}
 use Rattle.ee_core.specs.declared.change.Change as declared
 use Rattle.ee_core.specs.declared.change.Change.TheVariants as kinds
 use Rattle.ee_core.specs.declared.change.Put as listed
-use Rattle.ee_core.proofs.Public.{map_was, same_counts}
+use Rattle.ee_core.proofs.Public.{same_counts}
 use Rattle.ee_index.specs.Index.{AddsAddresses, HasIndex, IsIndex, IsReadyFor, IsRoomFor, slot_for}
 use Rattle.ee_flash.specs.declared.word.Word.{Word}
 use Rattle.ee_index.proofs.IndexedRooms.{room_as_it_is}
@@ -25,11 +25,11 @@ use Rattle.ee_index.proofs.IndexedStores.{alike_held, entries_live, value_held}
 
 -- what a store keeps, of its parts
 pub has_index : (device : Device) (layout : Layout) (entries : List (ℕ × ℕ)) → IsLayout device layout → IsIndex (slots_of (set_of layout.side device)) (slot_for entries) → HasIndex device layout entries
-has_index device layout entries found indexes = record { found = found; indexes = indexes }
+has_index _ _ _ found indexes = record { found = found; indexes = indexes }
 
 module _ (device : Device) (layout : Layout) (entries : List (ℕ × ℕ)) (kept : HasIndex device layout entries) where
   same_map : (address : ℕ) → (state_of device).map address ≡ map_in layout.side device address
-  same_map address = map_was device device layout.side layout.generation kept.found.live address
+  same_map address = search rules
 
   pub value_found : (address number value : ℕ) → slot_for entries address ≡ Some number
       → ((named said : ℕ) → says (get_or (slots_of (set_of layout.side device)) number Erased) named ≡ Some (Some said) → value ≡ said) → Some value ≡ map_in layout.side device address
@@ -47,30 +47,30 @@ module _ (device : Device) (layout : Layout) (entries : List (ℕ × ℕ)) (kept
 -- it is ready for a change in the first free slot
 pub ready_for : (slots : List Word) (fill : ℕ) (index : Map) (change : declared.Change) → fill ≡ fill_of slots
     → IsReadyToMake (IsIndex slots index) (λ address. IsReadyFor slots (Put address 0) (fill_of slots) index) change → IsReadyFor slots (map_change change) fill index
-ready_for slots fill index (kinds.Put address value) fill_is given = subst (λ fill. IsReadyFor slots (Put address value) fill index) (sym fill_is) given
-ready_for slots fill index (kinds.Forget address value) fill_is given = (index, given, λ address. refl)
+ready_for slots fill index (kinds.Put address value) fill_is given = search rules
+ready_for _ _ index (kinds.Forget address _) _ given = (index, given, λ address. refl)
 
 -- it has room for a transfer
 pub room_for : (device : Device) (layout : Layout) (entries : List (ℕ × ℕ)) (puts : List listed.Put) (forgets : Bool) → IsLayout device layout
     → HasRoomToMove (IsIndex (slots_of (set_of layout.side device)) (slot_for entries)) (λ puts. IsRoomFor (slots_of (set_of layout.side device)) puts (slot_for entries)) puts forgets
     → IsRoomFor (slots_of (set_of layout.side device)) (if forgets then [] else puts) (slot_for entries)
-room_for device layout entries puts true found given = room_as_it_is device layout entries (has_index device layout entries found given)
-room_for device layout entries puts false found given = given
+room_for device layout entries puts true found given = search (rules, room_as_it_is, has_index)
+room_for _ _ _ _ false _ given = given
 
 -- ---- where an index may be given up
 
 -- what holds of an answer that is good holds of one that is no error
 pub given_ok : {T E X : Type 0} (result : Result T E) → is_err result ≡ false → OnOk result X → X
-given_ok (Ok value) is given = given
+given_ok (Ok _) _ given = given
 given_ok (Err error) is given = absurd (cc is)
 
 pub kept_ready : (G fits : Type 0) (ready : ℕ → Type 0) (change : declared.Change) → G → IsReadyToMake (G → fits) (λ address. G → ready address) change → IsReadyToMake fits ready change
-kept_ready G fits ready (kinds.Put address value) kept given = given kept
-kept_ready G fits ready (kinds.Forget address value) kept given = given kept
+kept_ready G _ _ (kinds.Put _ _) kept given = given kept
+kept_ready G _ _ (kinds.Forget _ _) kept given = given kept
 
 pub kept_room : (G fits : Type 0) (room : List listed.Put → Type 0) (puts : List listed.Put) (forgets : Bool) → G → HasRoomToMove (G → fits) (λ puts. G → room puts) puts forgets → HasRoomToMove fits room puts forgets
-kept_room G fits room puts true kept given = given kept
-kept_room G fits room puts false kept given = given kept
+kept_room G _ _ _ true kept given = given kept
+kept_room G _ _ _ false kept given = given kept
 
 -- it has room for a transfer, where it is not given up
 pub kept_room_for : (G : Type 0) (device : Device) (layout : Layout) (entries : List (ℕ × ℕ)) (puts : List listed.Put) (forgets : Bool) → IsLayout device layout
@@ -82,5 +82,5 @@ kept_room_for G device layout entries puts forgets found given kept =
 
 -- an index that was kept followed, and one that was given up was read anew
 pub kept_or_read : {X : Type 0} (was is : Bool) → (was ≡ false → X) → (was ≡ true → is ≡ false → X) → is ≡ false → X
-kept_or_read true is followed read kept = read refl kept
-kept_or_read false is followed read kept = followed refl
+kept_or_read true _ _ read kept = read refl kept
+kept_or_read false _ followed _ _ = followed refl

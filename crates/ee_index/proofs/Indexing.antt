@@ -1,5 +1,5 @@
 -- How an index of the live addresses is read, made and kept.
-use Rattle.std.proofs.Common.{◌≡◌, ℕ, ◌+◌, ◌<◌, ◌≤◌, Option, Some, None, List, [], ◌∷◌, length, take, drop, get_or, refl, sym, ap, ◌∙◌, arith, suc, rules}
+use Rattle.std.proofs.Common.{◌≡◌, ℕ, ◌+◌, ◌<◌, ◌≤◌, Option, Some, None, List, [], length, take, drop, get_or, refl, sym, ap, ◌∙◌, arith, suc, rules}
 use Rattle.std.proofs.Math.Seq.{take-suc}
 use Rattle.std.proofs.lemmas.Bool.{cases_eq, cases_lt}
 use Rattle.std.proofs.lemmas.Grind.{common_steps}
@@ -29,7 +29,7 @@ IndexesTo slots count index = (address : ℕ) → said_at slots (index address) 
 latest_further : (slots : List Word) (count address : ℕ) → count < length slots → latest_in (take (count + 1) slots) address ≡ later_of (latest_in (take count slots) address) (says (get_or slots count Erased) address)
 latest_further slots count address h =
     let e : count + 1 ≡ suc count = omega arith in
-    rw (e, take-suc slots count Erased h) (latest_in-append (take count slots) (get_or slots count Erased ∷ []) address ∙ ap (later_of (latest_in (take count slots) address)) (last_alone (says (get_or slots count Erased) address)))
+    rw (e, take-suc slots count Erased h) search (rules, latest_in-append)
   where
     last_alone : (said : Option (Option ℕ)) → later_of said None ≡ said
     last_alone said = refl
@@ -40,19 +40,16 @@ module _ (slots : List Word) (count address : ℕ) (index : Map) (before : Optio
       → said_at slots (index_with_slot slot count index address) address ≡ says_value (value_said (later_of before (slot_says slot address)))
   one_entered (Element named value) e = search (rules, cases_eq, common_steps)
   one_entered (Forgotten named value) e = search (rules, cases_eq, common_steps)
-  one_entered Free e = kept
-  one_entered Spoiled e = kept
-  one_entered Foreign e = kept
+  one_entered Free _ = kept
+  one_entered Spoiled _ = kept
+  one_entered Foreign _ = kept
 
 pub enters : (slots : List Word) (count : ℕ) (index after : Map) → count < length slots → ((address : ℕ) → after address ≡ index_with_slot (slot_of (get_or slots count Erased)) count index address) → IndexesTo slots count index → IndexesTo slots (count + 1) after
-enters slots count index after h is kept address =
-    ap (λ slot. said_at slots slot address) (is address)
-    ∙ one_entered slots count address index (latest_in (take count slots) address) (kept address) (slot_of (get_or slots count Erased)) refl
-    ∙ ap (λ said. says_value (value_said said)) (sym (latest_further slots count address h))
+enters slots count index after h is kept address = search (rules, one_entered, latest_further)
 
 module _ (device : Device) (layout : Layout) (found : IsLayout device layout) where
   pub used_within : layout.fill ≤ slot_count device.size
-  used_within = omega (arith, found.fill, few_within device layout.side found.live.formed)
+  used_within = search (rules, few_within)
 
   -- a slot that is used is one of the slots
   pub slot_within : (number : ℕ) → number < layout.fill → number < slot_count device.size
@@ -60,10 +57,10 @@ module _ (device : Device) (layout : Layout) (found : IsLayout device layout) wh
 
   -- and so few that two bytes hold its number
   pub fill_small : layout.fill < 65536
-  fill_small = omega (arith, used_within, few_slots device found.live.formed)
+  fill_small = search (rules, used_within, few_slots)
 
   pub slot_listed : (number : ℕ) → number < layout.fill → number < length (slots_of (set_of layout.side device))
-  slot_listed number h = omega (arith, used_within, length-slots layout.side device found.live.formed)
+  slot_listed number h = search (rules, used_within, length-slots)
 
   -- the used slots say all
   pub all_used_said : (address : ℕ) → meaning (take layout.fill (slots_of (set_of layout.side device))) address ≡ meaning (slots_of (set_of layout.side device)) address
@@ -98,15 +95,15 @@ stands_if slots address number None is e = absurd (cc e)
 stands_if slots address number (Some value) is e = search (rules, listed_if_said)
 
 pub nothing_if : (slots : List Word) (address : ℕ) (held : Option ℕ) → said_at slots None address ≡ says_value held → held ≡ None
-nothing_if slots address None e = refl
+nothing_if _ _ None _ = refl
 nothing_if slots address (Some value) e = absurd (cc e)
 
 module _ (slots : List Word) (index : Map) (indexes : IsIndex slots index) where
   pub stands : (address number : ℕ) → index address ≡ Some number → Stands slots address number
-  stands address number e = stands_if slots address number (meaning slots address) refl (ap (λ slot. said_at slots slot address) (sym e) ∙ indexes address)
+  stands address number e = search (rules, stands_if)
 
   pub has_none : (address : ℕ) → index address ≡ None → meaning slots address ≡ None
-  has_none address e = nothing_if slots address (meaning slots address) (ap (λ slot. said_at slots slot address) (sym e) ∙ indexes address)
+  has_none address e = search rules
 
   pub next_some : (above address number value : ℕ) → IsNextLive index above (Some (address, number)) → ((named said : ℕ) → says (get_or slots number Erased) named ≡ Some (Some said) → value ≡ said) → IsNextLive (meaning slots) above (Some (address, value))
   next_some above address number value next is = search (rules, has_none, stands)

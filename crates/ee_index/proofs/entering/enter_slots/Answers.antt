@@ -1,31 +1,27 @@
-use Rattle.std.proofs.Common.{◌≡◌, ℕ, arith, ap, ◌∙◌, get_or}
+use Rattle.std.proofs.Common.{◌≡◌, ℕ, arith, ap, ◌∙◌, get_or, rules}
 use Rattle.ee_flash.specs.declared.word.Word.TheVariants.{Erased}
 use Rattle.ee_codec.specs.Reading.{slot_of}
-use Rattle.ee_codec.specs.declared.slot.Slot.{Slot}
 use Rattle.ee_pages.specs.Sets.{set_of, slots_of}
 use Rattle.ee_index.specs.Index.{index_with_slot, slot_for}
-use Rattle.ee_index.proofs.Indexing.{enters, fill_small, indexes_all, indexes_none, slot_listed, slot_within}
+use Rattle.ee_index.proofs.Indexing.{enters, fill_small, indexes_all, slot_listed, slot_within}
 use Rattle.ee_index.proofs.entering.enter_slots.Goals as goal
 
 pub slot_word-requires : goal.slot_word-requires
-slot_word-requires g c = slot_within (g.F.Flash.device c.args.flash.now) c.args.layout.now c.requires.layout c.loop-number.number c.loop-number-test.true
+slot_word-requires g c = search (rules, slot_within)
 
 pub enter-requires : goal.enter-requires
-enter-requires g c = let small = fill_small (g.F.Flash.device c.args.flash.now) c.args.layout.now c.requires.layout in omega (arith, c.loop-number-test.true, small)
-
-pub loop-number-init : goal.loop-number-init
-loop-number-init g c = indexes_none _ (g.L.Listing.list c.args.list.now) c.requires.none
+enter-requires g c = search (rules, fill_small)
 
 pub loop-number-preserved : goal.loop-number-preserved
 loop-number-preserved g c =
     let device = g.F.Flash.device c.args.flash.now in
     let slots = slots_of (set_of c.args.layout.now.side device) in
     let said : c.read_slot.result ≡ slot_of (get_or slots c.loop-number.number Erased) = c.read_slot.ensures.exact ∙ ap slot_of c.slot_word.ensures in
-    let entering = λ (address : ℕ). c.in_ok-enter.ensures address ∙ ap (λ (slot : Slot). index_with_slot slot c.loop-number.number (slot_for (g.L.Listing.list c.loop-number.list)) address) said in
-    search (enters slots c.loop-number.number (slot_for (g.L.Listing.list c.loop-number.list)) (slot_for (g.L.Listing.list c.enter.new.list))
-    (slot_listed device c.args.layout.now c.requires.layout c.loop-number.number c.loop-number-test.true) entering c.loop-number.invariant)
+    let entering = λ (address : ℕ). c.in_ok-enter.ensures address ∙ ap (λ slot. index_with_slot slot c.loop-number.number (slot_for (g.L.Listing.list c.loop-number.list)) address) said in
+    search (enters slots c.loop-number.number _ _
+    (slot_listed device _ c.requires.layout c.loop-number.number c.loop-number-test.true) entering c.loop-number.invariant)
 
 pub returns : goal.returns
 returns g c =
     let full : c.loop-number.number ≡ c.args.layout.now.fill = omega (arith, c.loop-number-test.false, c.loop-number.auto.number-end) in
-    indexes_all (g.F.Flash.device c.args.flash.now) c.args.layout.now (slot_for (g.L.Listing.list c.loop-number.list)) c.loop-number.number c.requires.layout full c.loop-number.invariant
+    indexes_all _ _ _ c.loop-number.number c.requires.layout full c.loop-number.invariant

@@ -7,4 +7,4 @@ pub returns : goal.returns
 returns c =
     let facts = c.binary_search_by_key.ensures in
     let by_key = facts.position (λ entry. entry.0) (answers_always _ _ _ (λ f a r g called. search rules)) in
-    searched c.args.entries.now c.requires c.args.address _ facts.bound by_key
+    searched _ c.requires _ _ facts.bound by_key

@@ -1,7 +1,6 @@
-use Rattle.std.proofs.Common.{List, subst, sym}
+use Rattle.std.proofs.Common.{subst, sym}
 use Rattle.ee_core.specs.Openings.{Opens}
 use Rattle.ee_core.proofs.Public.{layout_stays, opening_cut, opens}
-use Rattle.ee_flash.specs.declared.word.Word.{Word}
 use Rattle.ee_index.specs.Index.{IsIndex, slot_for}
 use Rattle.ee_index.proofs.indexed.open_indexed.Goals as goal
 
@@ -29,5 +28,5 @@ store_of-requires g c =
     record {
       store = opened.store;
       layout = λ on. layout_stays c.in-Ok.layout old new found ended.stays;
-      fits = λ on. subst (λ (slots : List Word). IsIndex slots (slot_for c.in-Ok-index_of.index.index)) (sym ended.stays.keeps.same_slots) c.in-Ok-index_of.ensures;
+      fits = λ on. subst (λ slots. IsIndex slots (slot_for c.in-Ok-index_of.index.index)) (sym ended.stays.keeps.same_slots) c.in-Ok-index_of.ensures;
     }

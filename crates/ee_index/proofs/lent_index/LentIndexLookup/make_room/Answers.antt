@@ -1,4 +1,4 @@
-use Rattle.std.proofs.Common.{◌∙◌, sym}
+use Rattle.std.proofs.Common.{◌∙◌, sym, rules}
 use Rattle.ee_index.proofs.IndexedLookups.{given_ok, has_index}
 use Rattle.ee_index.proofs.IndexedRooms.{room_made}
 use Rattle.ee_index.proofs.Indexing.{fill_small}
@@ -7,8 +7,8 @@ use Rattle.ee_index.proofs.lent_index.LentIndexLookup.make_room.Goals as goal
 pub returns-clause-room : goal.returns-clause-room
 returns-clause-room g c = λ kept.
     let device = g.F.Flash.device c.args._flash.now in
-    room_made device c.args.layout.now c.args.self.now.list (has_index device c.args.layout.now c.args.self.now.list c.requires.layout (c.requires.fits c.if-self.false)) c.args.puts.now c.enter_hidden.new.list c.enter_hidden.ensures.shown
-    (given_ok c.enter_hidden.result (sym c.is_err-self.ensures.value ∙ kept) c.enter_hidden.ensures.there)
+    room_made device _ _ (has_index device _ _ c.requires.layout (c.requires.fits c.if-self.false)) _ _ c.enter_hidden.ensures.shown
+    (given_ok _ (sym c.is_err-self.ensures.value ∙ kept) c.enter_hidden.ensures.there)
 
 pub enter_hidden-requires : goal.enter_hidden-requires
-enter_hidden-requires g c = fill_small (g.F.Flash.device c.args._flash.now) c.args.layout.now c.requires.layout
+enter_hidden-requires g c = search (rules, fill_small)

@@ -1,4 +1,3 @@
-use Rattle.std.proofs.Common.{◌≡◌, false}
 use Rattle.ee_index.proofs.Followed.{gone_over, index_followed, numbers_few}
 use Rattle.ee_index.proofs.IndexedLookups.{kept_or_read, kept_room_for}
 use Rattle.ee_index.proofs.lent_index.LentIndexLookup.transfer.Goals as goal
@@ -7,23 +6,23 @@ pub cursor-cursor-requires-clause-index : goal.cursor-cursor-requires-clause-ind
 cursor-cursor-requires-clause-index g c = λ kept.
     let old = g.F.Flash.device c.args.flash.now in
     let held = c.args.self.now.list in
-    gone_over old old c.args.layout.now c.args.layout.now c.args.puts.now c.args.forgets held c.requires.apart
-    (kept_room_for (c.args.self.now.is_given_up ≡ false) old c.args.layout.now held c.args.puts.now c.args.forgets c.requires.layout c.requires.room kept)
+    gone_over old old c.args.layout.now c.args.layout.now _ _ held c.requires.apart
+    (kept_room_for _ old _ held _ _ c.requires.layout c.requires.room kept)
 
 pub follow-requires-clause-few : goal.follow-requires-clause-few
 follow-requires-clause-few g c = λ kept.
     let old = g.F.Flash.device c.args.flash.now in
     let held = c.args.self.now.list in
-    numbers_few old (g.F.Flash.device c.move_changes.new.flash) c.args.layout.now c.move_changes.new.layout c.args.puts.now c.args.forgets held c.requires.apart
-    (kept_room_for (c.args.self.now.is_given_up ≡ false) old c.args.layout.now held c.args.puts.now c.args.forgets c.requires.layout c.requires.room kept)
+    numbers_few old _ _ _ _ _ held c.requires.apart
+    (kept_room_for _ old _ held _ _ c.requires.layout c.requires.room kept)
     c.in_ok-move_changes.ensures.set_moved (c.cursor-cursor.ensures.ordered kept)
 
 pub returns-clause-fits : goal.returns-clause-fits
 returns-clause-fits g c = λ on.
     let old = g.F.Flash.device c.args.flash.now in
     let held = c.args.self.now.list in
-    kept_or_read c.args.self.now.is_given_up c.follow.new.self.is_given_up
-    (λ kept. index_followed old (g.F.Flash.device c.move_changes.new.flash) c.args.layout.now c.move_changes.new.layout c.args.puts.now c.args.forgets held c.requires.apart
-    (kept_room_for (c.args.self.now.is_given_up ≡ false) old c.args.layout.now held c.args.puts.now c.args.forgets c.requires.layout c.requires.room kept)
-    c.in_ok-move_changes.ensures.set_moved c.follow.new.self.list (c.follow.ensures.followed kept))
+    kept_or_read _ _
+    (λ kept. index_followed old _ _ _ _ _ held c.requires.apart
+    (kept_room_for _ old _ held _ _ c.requires.layout c.requires.room kept)
+    c.in_ok-move_changes.ensures.set_moved _ (c.follow.ensures.followed kept))
     c.follow.ensures.read

@@ -1,6 +1,6 @@
-use Rattle.std.proofs.Common.{[], arith, refl}
+use Rattle.std.proofs.Common.{rules}
 use Rattle.ee_index.proofs.InOrder.{none_ordered}
 use Rattle.ee_index.proofs.lent_list.LentList.clear.Goals as goal
 
 pub invariant_of-self : goal.invariant_of-self
-invariant_of-self c = (omega arith, none_ordered [] refl)
+invariant_of-self c = search (rules, none_ordered)

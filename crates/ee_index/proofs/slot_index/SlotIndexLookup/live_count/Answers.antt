@@ -4,5 +4,5 @@ use Rattle.ee_index.proofs.slot_index.SlotIndexLookup.live_count.Goals as goal
 
 pub returns : goal.returns
 returns g c =
-    let kept = has_index (g.F.Flash.device c.args.flash.now) c.args.layout.now c.args.self.now.index c.requires.layout c.requires.fits in
-    ap length c.entries.ensures.entries ∙ live_found (g.F.Flash.device c.args.flash.now) c.args.layout.now c.args.self.now.index kept c.entries.ensures.ordered
+    let kept = has_index _ _ _ c.requires.layout c.requires.fits in
+    ap length c.entries.ensures.entries ∙ live_found _ _ _ kept c.entries.ensures.ordered

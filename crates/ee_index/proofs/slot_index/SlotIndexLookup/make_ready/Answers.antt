@@ -1,4 +1,4 @@
-use Rattle.std.proofs.Common.{ℕ, subst}
+use Rattle.std.proofs.Common.{subst, rules}
 use Rattle.ee_pages.specs.Meaning.{Put}
 use Rattle.ee_pages.specs.Sets.{set_of, slots_of}
 use Rattle.ee_index.specs.Index.{IsReadyFor, slot_for}
@@ -7,8 +7,8 @@ use Rattle.ee_index.proofs.slot_index.SlotIndexLookup.make_ready.Goals as goal
 
 pub returns-clause-ready : goal.returns-clause-ready
 returns-clause-ready g c =
-    subst (λ (fill : ℕ). IsReadyFor (slots_of (set_of c.args.layout.now.side (g.F.Flash.device c.args.flash.now))) (Put c.args.put.address 0) fill (slot_for c.insert.new.self)) c.requires.layout.fill
+    subst (λ fill. IsReadyFor (slots_of (set_of c.args.layout.now.side (g.F.Flash.device c.args.flash.now))) (Put c.args.put.address 0) fill (slot_for c.insert.new.self)) c.requires.layout.fill
     (slot_for c.args.self.now.index, c.requires.fits, c.in-Ok.ensures.entered)
 
 pub insert-requires : goal.insert-requires
-insert-requires g c = record { small = fill_small (g.F.Flash.device c.args.flash.now) c.args.layout.now c.requires.layout }
+insert-requires g c = search (rules, fill_small)
