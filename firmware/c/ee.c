@@ -493,17 +493,6 @@ typedef struct LayoutOrCut {
     Layout value;
 } LayoutOrCut;
 
-typedef struct OpenRefusal {
-    Device first;
-    OpenFault second;
-} OpenRefusal;
-
-typedef struct OpenResult {
-    bool ok;
-    Store value;
-    OpenRefusal error;
-} OpenResult;
-
 typedef struct LayoutOrOpenFault {
     bool ok;
     Layout value;
@@ -538,16 +527,6 @@ typedef struct UsedResult {
     uint32_t value;
     uint32_t error;
 } UsedResult;
-
-typedef struct FormatRefusal {
-    Device first;
-} FormatRefusal;
-
-typedef struct FormatResult {
-    bool ok;
-    Store value;
-    FormatRefusal error;
-} FormatResult;
 
 /* What makes a value of a type with a tag. */
 static inline MaybeAddress maybe_address_none(void) {
@@ -779,18 +758,6 @@ static inline LayoutOrCut layout_or_cut_ok(Layout value) {
     return (LayoutOrCut){ .ok = true, .value = value };
 }
 
-static inline OpenResult open_result_ok(Store value) {
-    return (OpenResult){ .ok = true, .value = value, .error = { .first = { .power = NULL,
-            .shape = { .pages = 0u, .words = 0u } }, .second = { .tag = OpenFault_Scan,
-            .scan = { .tag = ScanFault_Unformatted, .page = 0u, .at = 0u } } } };
-}
-
-static inline OpenResult open_result_err(OpenRefusal error) {
-    return (OpenResult){ .ok = false, .value = { .flash = { .power = NULL, .shape = { .pages = 0u,
-            .words = 0u } }, .known = { .layout = { .side = Side_First, .generation = 0u,
-            .fill = 0u, .current = 0u } } }, .error = error };
-}
-
 static inline LayoutOrOpenFault layout_or_open_fault_ok(Layout value) {
     return (LayoutOrOpenFault){ .ok = true, .value = value, .error = { .tag = OpenFault_Scan,
             .scan = { .tag = ScanFault_Unformatted, .page = 0u, .at = 0u } } };
@@ -860,17 +827,6 @@ static inline LiveSetResult live_set_result_ok(LiveSet value) {
 
 static inline ScanFault scan_fault_two_live(void) {
     return (ScanFault){ .tag = ScanFault_TwoLive, .page = 0u, .at = 0u };
-}
-
-static inline FormatResult format_result_ok(Store value) {
-    return (FormatResult){ .ok = true, .value = value, .error = { .first = { .power = NULL,
-            .shape = { .pages = 0u, .words = 0u } } } };
-}
-
-static inline FormatResult format_result_err(FormatRefusal error) {
-    return (FormatResult){ .ok = false, .value = { .flash = { .power = NULL,
-            .shape = { .pages = 0u, .words = 0u } }, .known = { .layout = { .side = Side_First,
-            .generation = 0u, .fill = 0u, .current = 0u } } }, .error = error };
 }
 
 /* By hand. The difference, 0 where it would be less. */
@@ -1082,10 +1038,7 @@ static uint32_t store_live_count(const Store *self);
 static MaybeLive store_next_live(const Store *self, MaybeAddress after);
 static LayoutOrCut write_format(Device *flash);
 static Step erase_all(Device *flash);
-static OpenResult opening_open(Device flash);
 static LayoutOrOpenFault open_on(Device *flash);
-static FormatResult opening_format(Device flash);
-static OpenResult first_start_start(Device flash);
 static LayoutOrOpenFault start_on(Device *flash);
 static bool is_startable(const Device *flash, ScanFault fault);
 static bool holds_none(const Device *flash);
@@ -3267,22 +3220,6 @@ static Step erase_all(Device *flash) {
 /* ---- ee_core/opening.rs: How a store comes to be: opened from a legal image, or made anew on
  * any device. */
 
-/* Opens the store of a legal image, on a device that is on, and sets the marks that a cut left to
- * set. The variables are as before. Where no mark was left it takes no step.
- *
- * Errors:
- *
- * The device and the first `OpenFault` that applies. */
-static OpenResult opening_open(Device flash) {
-    const LayoutOrOpenFault open_on_result = open_on(&flash);
-    if (open_on_result.ok) {
-        const Layout layout = open_on_result.value;
-        return open_result_ok(store_of(flash, layout));
-    }
-    const OpenFault fault = open_on_result.error;
-    return open_result_err((OpenRefusal){ .first = flash, .second = fault });
-}
-
 /* `open` in place: the layout of the store that the device becomes. */
 static LayoutOrOpenFault open_on(Device *flash) {
     Layout layout;
@@ -3299,42 +3236,8 @@ static LayoutOrOpenFault open_on(Device *flash) {
     return layout_or_open_fault_err(open_fault_cut());
 }
 
-/* Makes a store with nothing in it, of a device that is on: each page that is not blank is erased,
- * by rising page, and the first set becomes the live set with generation 1.
- *
- * Errors:
- *
- * The device, off: power failed. What it held is gone in part, until a `format` ends. */
-static FormatResult opening_format(Device flash) {
-    const LayoutOrCut write_format_result = write_format(&flash);
-    if (write_format_result.ok) {
-        const Layout layout = write_format_result.value;
-        return format_result_ok(store_of(flash, layout));
-    }
-    return format_result_err((FormatRefusal){ .first = flash });
-}
-
 /* ---- ee_core/first_start.rs: The call for whenever a device is switched on: it opens the
  * store, or makes the first one. */
-
-/* Opens the store of a device that is on, as `open` does, or makes the first one, as `format`
- * does: on a device in which no set is committed and each word behind a page's header is erased or
- * torn. So it is the call to make whenever the device is switched on: a first start in which power
- * is cut is made again, and no word that may be a value is ever erased.
- *
- * Errors:
- *
- * The device and the first `OpenFault` that applies. At a fault of the scan nothing changed. After
- * a cut the variables are as before: in a first start there are none. */
-static OpenResult first_start_start(Device flash) {
-    const LayoutOrOpenFault start_on_result = start_on(&flash);
-    if (start_on_result.ok) {
-        const Layout layout = start_on_result.value;
-        return open_result_ok(store_of(flash, layout));
-    }
-    const OpenFault fault = start_on_result.error;
-    return open_result_err((OpenRefusal){ .first = flash, .second = fault });
-}
 
 /* `start` in place: the layout of the store that the device becomes. */
 static LayoutOrOpenFault start_on(Device *flash) {
@@ -3698,14 +3601,15 @@ static ee_result opening_ended(ee_store *memory, ee_result status) {
     return ended;
 }
 
-/* Keeps what an opening gave, and gives its status. */
-static ee_result keep_opened(ee_store *memory, const OpenResult *answer) {
+/* Keeps the store of a device that an opening gave this, and gives its status. */
+static ee_result keep_opened(ee_store *memory, const Device *device,
+        const LayoutOrOpenFault *answer) {
     if (answer->ok) {
-        memory->memory.parts.store = answer->value;
+        memory->memory.parts.store = store_of(*device, answer->value);
         return EE_OK;
     }
-    if (answer->error.second.tag == OpenFault_Scan) {
-        return scan_status(answer->error.second.scan);
+    if (answer->error.tag == OpenFault_Scan) {
+        return scan_status(answer->error.scan);
     }
     return EE_DRIVER;
 }
@@ -3727,10 +3631,9 @@ static ee_result looked_through(const Device *device) {
  * of
  * page 0, or but those of page 0 where an erase clears first. */
 static bool holds_more(const Device *device, bool clears_first) {
-    for (uint32_t at = clears_first ? device->shape.words : 2u; at < device->shape.words; at++) {
-        if (is_written(device_word(device, 0u, at))) {
-            return true;
-        }
+    const uint32_t from = clears_first ? device->shape.words : 2u;
+    if (blank_to(device, 0u, from) != device->shape.words) {
+        return true;
     }
     for (uint32_t page = 1u; page < 2u * device->shape.pages; page++) {
         if (!state_is_blank(device, page)) {
@@ -3748,8 +3651,8 @@ ee_result ee_open(ee_store *store, const ee_flash *flash) {
     }
     status = looked_through(&device);
     if (status == EE_OK) {
-        const OpenResult answer = opening_open(device);
-        status = keep_opened(store, &answer);
+        const LayoutOrOpenFault answer = open_on(&device);
+        status = keep_opened(store, &device, &answer);
     }
     return opening_ended(store, status);
 }
@@ -3765,8 +3668,8 @@ ee_result ee_start(ee_store *store, const ee_flash *flash) {
     status = looked_through(&device);
     if (status == EE_OK) {
         const bool holds = flash->pairs != 0u && holds_more(&device, flash->pairs == 2u);
-        const OpenResult answer = holds ? opening_open(device) : first_start_start(device);
-        status = keep_opened(store, &answer);
+        const LayoutOrOpenFault answer = holds ? open_on(&device) : start_on(&device);
+        status = keep_opened(store, &device, &answer);
     }
     return opening_ended(store, status);
 }
@@ -3780,11 +3683,11 @@ ee_result ee_format(ee_store *store, const ee_flash *flash) {
     if (status != EE_OK) {
         return status;
     }
-    const FormatResult answer = opening_format(device);
+    const LayoutOrCut answer = write_format(&device);
     if (!answer.ok) {
         return opening_ended(store, EE_DRIVER);
     }
-    store->memory.parts.store = answer.value;
+    store->memory.parts.store = store_of(device, answer.value);
     return opening_ended(store, EE_OK);
 }
 

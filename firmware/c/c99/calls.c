@@ -64,14 +64,15 @@ static ee_result opening_ended(ee_store *memory, ee_result status) {
     return ended;
 }
 
-/* Keeps what an opening gave, and gives its status. */
-static ee_result keep_opened(ee_store *memory, const OpenResult *answer) {
+/* Keeps the store of a device that an opening gave this, and gives its status. */
+static ee_result keep_opened(ee_store *memory, const Device *device,
+        const LayoutOrOpenFault *answer) {
     if (answer->ok) {
-        memory->memory.parts.store = answer->value;
+        memory->memory.parts.store = store_of(*device, answer->value);
         return EE_OK;
     }
-    if (answer->error.second.tag == OpenFault_Scan) {
-        return scan_status(answer->error.second.scan);
+    if (answer->error.tag == OpenFault_Scan) {
+        return scan_status(answer->error.scan);
     }
     return EE_DRIVER;
 }
@@ -92,10 +93,9 @@ static ee_result looked_through(const Device *device) {
 /* Whether a word is written that a first start which was cut doesn't leave: any but the first two of
  * page 0, or but those of page 0 where an erase clears first. */
 static bool holds_more(const Device *device, bool clears_first) {
-    for (uint32_t at = clears_first ? device->shape.words : 2u; at < device->shape.words; at++) {
-        if (is_written(device_word(device, 0u, at))) {
-            return true;
-        }
+    const uint32_t from = clears_first ? device->shape.words : 2u;
+    if (blank_to(device, 0u, from) != device->shape.words) {
+        return true;
     }
     for (uint32_t page = 1u; page < 2u * device->shape.pages; page++) {
         if (!state_is_blank(device, page)) {
@@ -113,8 +113,8 @@ ee_result ee_open(ee_store *store, const ee_flash *flash) {
     }
     status = looked_through(&device);
     if (status == EE_OK) {
-        const OpenResult answer = opening_open(device);
-        status = keep_opened(store, &answer);
+        const LayoutOrOpenFault answer = open_on(&device);
+        status = keep_opened(store, &device, &answer);
     }
     return opening_ended(store, status);
 }
@@ -130,8 +130,8 @@ ee_result ee_start(ee_store *store, const ee_flash *flash) {
     status = looked_through(&device);
     if (status == EE_OK) {
         const bool holds = flash->pairs != 0u && holds_more(&device, flash->pairs == 2u);
-        const OpenResult answer = holds ? opening_open(device) : first_start_start(device);
-        status = keep_opened(store, &answer);
+        const LayoutOrOpenFault answer = holds ? open_on(&device) : start_on(&device);
+        status = keep_opened(store, &device, &answer);
     }
     return opening_ended(store, status);
 }
@@ -144,11 +144,11 @@ ee_result ee_format(ee_store *store, const ee_flash *flash) {
     if (status != EE_OK) {
         return status;
     }
-    const FormatResult answer = opening_format(device);
+    const LayoutOrCut answer = write_format(&device);
     if (!answer.ok) {
         return opening_ended(store, EE_DRIVER);
     }
-    store->memory.parts.store = answer.value;
+    store->memory.parts.store = store_of(device, answer.value);
     return opening_ended(store, EE_OK);
 }
 

@@ -22,11 +22,11 @@ ORDER = {
 }
 # What the parts by hand call.
 ROOTS = [
-    ("opening", "open"), ("opening", "format"), ("first_start", "start"),
+    ("opening", "open_on"), ("formatting", "write_format"), ("first_start", "start_on"), ("Store", "of"),
     ("rescuing", "rescue_uncounted"), ("rescue", "bad_words"), ("low_pair", "first_low"),
     *[("Store", name) for name in "write write_all forget clear clean_step read next_live slots fill "
       "generation live_count pending torn_slots".split()],
-    ("Pairs", "word"), ("Pairs", "run"), ("Pairs", "program"), ("state", "is_blank"),
+    ("Pairs", "word"), ("Pairs", "run"), ("Pairs", "program"), ("state", "is_blank"), ("state", "blank_to"),
     ("Shape", "new"), ("Address", "new"),
 ]
 # Methods of Rust's own, where a source uses them.
