@@ -1,6 +1,6 @@
 /* ee: variables in flash, the library of ee.h as one file, for Linux on AArch64.
  *
- * sum of sources: 9a07d5896eb8161be5d5fd390a6c40869254972607f62405892ea8eda017c852
+ * sum of sources: 9f364ea7b734fbca6c7c5c007cb54f6f224e548cfa17f552a42e540169808ce2
  * sum of the text below: a0016403fe2a924d52ceedbee6a0d95324fb62b31b814b5f4718eed9c12dac98
  * made by: firmware/c/assemble
  * compiler: rustc 1.96.0 (ac68faa20 2026-05-25) (built from a source tarball), LLVM 22.1.8

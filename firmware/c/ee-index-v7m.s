@@ -1,6 +1,6 @@
 /* ee: variables in flash, the library of ee_indexed.h as one file, for Cortex-M3, M4, M7 and M33.
  *
- * sum of sources: 9a07d5896eb8161be5d5fd390a6c40869254972607f62405892ea8eda017c852
+ * sum of sources: 9f364ea7b734fbca6c7c5c007cb54f6f224e548cfa17f552a42e540169808ce2
  * sum of the text below: b54ce81b84f4317f82fadac187cb8d7c076a10c391b8b9a8dff2daf9083bd339
  * made by: firmware/c/assemble
  * compiler: rustc 1.96.0 (ac68faa20 2026-05-25) (built from a source tarball), LLVM 22.1.8

@@ -1,6 +1,6 @@
 /* ee: variables in flash, the library of ee_indexed.h as one file, for every Cortex-M.
  *
- * sum of sources: 9a07d5896eb8161be5d5fd390a6c40869254972607f62405892ea8eda017c852
+ * sum of sources: 9f364ea7b734fbca6c7c5c007cb54f6f224e548cfa17f552a42e540169808ce2
  * sum of the text below: 44b1c4032417f222f62cc453a1aac630b81ea84e1df8b1d6b446ae297f83701b
  * made by: firmware/c/assemble
  * compiler: rustc 1.96.0 (ac68faa20 2026-05-25) (built from a source tarball), LLVM 22.1.8

@@ -1,6 +1,6 @@
 /* ee: variables in flash, the library of ee.h as one file, for RISC-V of 32 bits with M and C.
  *
- * sum of sources: 9a07d5896eb8161be5d5fd390a6c40869254972607f62405892ea8eda017c852
+ * sum of sources: 9f364ea7b734fbca6c7c5c007cb54f6f224e548cfa17f552a42e540169808ce2
  * sum of the text below: 552b66fbb5ad85b04b1469d03ad1664b3dbb9ac92367a6e9a6e845c3158a8cbb
  * made by: firmware/c/assemble
  * compiler: rustc 1.96.0 (ac68faa20 2026-05-25) (built from a source tarball), LLVM 22.1.8

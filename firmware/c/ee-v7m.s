@@ -1,6 +1,6 @@
 /* ee: variables in flash, the library of ee.h as one file, for Cortex-M3, M4, M7 and M33.
  *
- * sum of sources: 9a07d5896eb8161be5d5fd390a6c40869254972607f62405892ea8eda017c852
+ * sum of sources: 9f364ea7b734fbca6c7c5c007cb54f6f224e548cfa17f552a42e540169808ce2
  * sum of the text below: 4c6cc924ad7498e8d5fd5e367508e9f2837d5369c6fdd4d750028b873eb55ec8
  * made by: firmware/c/assemble
  * compiler: rustc 1.96.0 (ac68faa20 2026-05-25) (built from a source tarball), LLVM 22.1.8

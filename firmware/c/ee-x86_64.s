@@ -1,6 +1,6 @@
 /* ee: variables in flash, the library of ee.h as one file, for Linux on x86-64.
  *
- * sum of sources: 9a07d5896eb8161be5d5fd390a6c40869254972607f62405892ea8eda017c852
+ * sum of sources: 9f364ea7b734fbca6c7c5c007cb54f6f224e548cfa17f552a42e540169808ce2
  * sum of the text below: 722d224e5d87e15919d768c7261b835903413d58183f382687307b8f1f81372d
  * made by: firmware/c/assemble
  * compiler: rustc 1.96.0 (ac68faa20 2026-05-25) (built from a source tarball), LLVM 22.1.8

@@ -74,8 +74,8 @@ pub use value::{NoAddress, Value};
 pub mod proved {
     pub use crate::ee_core::inner::{open_on, start_on, store_of, write_format, Known};
     pub use crate::ee_core::{
-        bad_words, rescue_uncounted, ClearFault, ForgetFault, Lookup, OpenFault, RescueFault,
-        Slots, Store, Variables, WriteAllFault, WriteFault,
+        bad_words, format, open, rescue, rescue_uncounted, ClearFault, ForgetFault, Lookup,
+        OpenFault, RescueFault, Slots, Store, Variables, WriteAllFault, WriteFault,
     };
     pub use crate::ee_flash::{Cut, Flash};
     pub use crate::ee_index::{Entry, LentIndex};
