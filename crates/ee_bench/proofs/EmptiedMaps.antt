@@ -20,7 +20,8 @@ told map (Some found) false zeroth next e = search rules
 pub told_empty : (device : Device) (layout : Layout) (found : Option (ℕ × ℕ)) (none : Bool)
     → IsLayout device layout → IsNextLive (meaning (slots_of (set_of layout.side device))) 0 found
     → is_some found ≡ not none
-    → (none ≡ true → IsEmptied (state_of device).map) × (IsEmptied (state_of device).map → none ≡ true)
+    → (none ≡ true → IsEmptied (state_of device).map)
+    × (IsEmptied (state_of device).map → none ≡ true)
 told_empty device layout found none layout_is next e =
     let slots = slots_of (set_of layout.side device) in
     let map : (state_of device).map ≡ meaning slots = search rules in

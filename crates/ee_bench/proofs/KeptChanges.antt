@@ -37,7 +37,8 @@ use Rattle.ee_bench.specs.declared.event.Event.TheVariants.{Clean, Clear, Forget
 
 -- ---- a change that met a cut
 
-put_again : (map : Map) (named value address : ℕ) → map named ≡ Some value → map address ≡ map_after (meaning.Put named value) map address
+put_again : (map : Map) (named value address : ℕ) → map named ≡ Some value
+    → map address ≡ map_after (meaning.Put named value) map address
 put_again map named value address there = search (rules, cases_eq, put-at, put-other)
 
 put_lost : (old new : Map) (named value : ℕ)
@@ -46,14 +47,18 @@ put_lost : (old new : Map) (named value : ℕ)
 put_lost _ _ _ _ (inl same) _ = same
 put_lost old new named value (inr done) lost = search rules
 
-forget_lost : (old new : Map) (named : ℕ) → (new ≡ old) ⊎ (new ≡ map_after (meaning.Forget named) old) → (new named ≡ None → ⊥) → new ≡ old
+forget_lost : (old new : Map) (named : ℕ)
+    → (new ≡ old) ⊎ (new ≡ map_after (meaning.Forget named) old) → (new named ≡ None → ⊥)
+    → new ≡ old
 forget_lost _ _ _ (inl same) _ = same
 forget_lost old new named (inr done) lost = search rules
 
 -- values that the map has already change nothing
-puts_again : (puts : List listed.Put) (map : Map) → HasAll puts map → changed_by (puts_of puts) map ≡ map
+puts_again : (puts : List listed.Put) (map : Map) → HasAll puts map
+    → changed_by (puts_of puts) map ≡ map
 puts_again [] _ _ = refl
-puts_again (put ∷ puts) map there = search (rules, fun_ext, put_again, (puts_again puts map there.1))
+puts_again (put ∷ puts) map there =
+    search (rules, fun_ext, put_again, (puts_again puts map there.1))
 
 puts_found : (old new : Map) (puts : List listed.Put)
     → (new ≡ old) ⊎ (new ≡ changed_by (puts_of puts) old) → HasAll puts new
@@ -69,20 +74,23 @@ puts_lost old new puts once (inr done) lost = search (rules, lists_are_there_lem
 -- a map in which nothing has a value is as it is with each address forgotten
 clear_kept : (held : Bool) (old new : Device) → IsCutClear old new
     → (held ≡ true → IsEmptied (state_of new).map) → (IsEmptied (state_of new).map → held ≡ true)
-    → (state_of new).map ≡ changed_by (kept_by Clear (NotCleared clear.Cut) (Some held)) (state_of old).map
+    → (state_of new).map
+    ≡ changed_by (kept_by Clear (NotCleared clear.Cut) (Some held)) (state_of old).map
 clear_kept true old new cut emptied found = search (rules, cut_clearing, fun_ext, still_none)
 clear_kept false old new cut emptied found = search rules
 
 -- ---- one turn
 
 -- what a turn does, from an image that is legal where it matters
-pub record Does (serving : Bool) (event : Event) (answer : Answer) (found : Option Bool) (old new : Device) : Type 0 where
+pub record Does (serving : Bool) (event : Event) (answer : Answer) (found : Option Bool)
+    (old new : Device) : Type 0 where
   pub cuts_are : new.cuts ≡ cond (tells_of_a_cut answer) (one_more old.cuts) old.cuts
   pub serves : serves_after serving answer ≡ true → IsOn new × IsStore new
   pub legal : IsLegal old → IsLegal new
   pub no_scan_fault : IsLegal old → is_scan_fault answer ≡ false
   pub value : IsValueIn (state_of old).map event answer
-  pub map_is : IsLegal old → (state_of new).map ≡ changed_by (kept_by event answer found) (state_of old).map
+  pub map_is : IsLegal old
+      → (state_of new).map ≡ changed_by (kept_by event answer found) (state_of old).map
 
 -- a call in which power was not cut
 whole : (call : Call) (event : Event) (answer : Answer) (found : Option Bool) (old new : Device)
@@ -95,39 +103,58 @@ whole call event answer found old new is_whole called looked same not_cut good v
     let did = goes call old new is_whole called.1 in
     search rules
 
-put_kept : (address value : ℕ) (held : Bool) (old new : Device) → IsLegal old → IsCutChange old (meaning.Put address value) new
-    → (held ≡ true → (state_of new).map address ≡ Some value) → ((state_of new).map address ≡ Some value → held ≡ true)
-    → (state_of new).map ≡ changed_by (kept_by (Put address value) (Refused write.Cut) (Some held)) (state_of old).map
+put_kept : (address value : ℕ) (held : Bool) (old new : Device) → IsLegal old
+    → IsCutChange old (meaning.Put address value) new
+    → (held ≡ true → (state_of new).map address ≡ Some value)
+    → ((state_of new).map address ≡ Some value → held ≡ true)
+    → (state_of new).map
+    ≡ changed_by (kept_by (Put address value) (Refused write.Cut) (Some held))
+    (state_of old).map
 put_kept address value true old new legal cut there found = search rules
 put_kept address value false old new legal cut there found =
-    put_lost (state_of old).map (state_of new).map address value (cut_map old new (meaning.Put address value) cut) (λ e. let wrong = found e in absurd (cc wrong))
+    put_lost (state_of old).map (state_of new).map address value
+    (cut_map old new (meaning.Put address value) cut)
+    (λ e. let wrong = found e in absurd (cc wrong))
 
-forget_kept : (address : ℕ) (held : Bool) (old new : Device) → IsLegal old → IsCutChange old (meaning.Forget address) new
-    → (held ≡ true → (state_of new).map address ≡ None) → ((state_of new).map address ≡ None → held ≡ true)
-    → (state_of new).map ≡ changed_by (kept_by (Forget address) (NotForgotten forget.Cut) (Some held)) (state_of old).map
+forget_kept : (address : ℕ) (held : Bool) (old new : Device) → IsLegal old
+    → IsCutChange old (meaning.Forget address) new
+    → (held ≡ true → (state_of new).map address ≡ None)
+    → ((state_of new).map address ≡ None → held ≡ true)
+    → (state_of new).map
+    ≡ changed_by (kept_by (Forget address) (NotForgotten forget.Cut) (Some held))
+    (state_of old).map
 forget_kept address true old new legal cut gone found = search rules
 forget_kept address false old new legal cut gone found =
-    forget_lost (state_of old).map (state_of new).map address (cut_map old new (meaning.Forget address) cut) (λ e. let wrong = found e in absurd (cc wrong))
+    forget_lost (state_of old).map (state_of new).map address
+    (cut_map old new (meaning.Forget address) cut)
+    (λ e. let wrong = found e in absurd (cc wrong))
 
-puts_kept : (puts : Bor (List listed.Put)) (held : Bool) (old new : Device) → IsEachOnce puts.now → IsCutMaking old (puts_of puts.now) new
-    → (held ≡ true → HasAll puts.now (state_of new).map) → (HasAll puts.now (state_of new).map → held ≡ true)
-    → (state_of new).map ≡ changed_by (kept_by (PutAll puts) (NotWritten all.Cut) (Some held)) (state_of old).map
+puts_kept : (puts : Bor (List listed.Put)) (held : Bool) (old new : Device) → IsEachOnce puts.now
+    → IsCutMaking old (puts_of puts.now) new → (held ≡ true → HasAll puts.now (state_of new).map)
+    → (HasAll puts.now (state_of new).map → held ≡ true)
+    → (state_of new).map
+    ≡ changed_by (kept_by (PutAll puts) (NotWritten all.Cut) (Some held)) (state_of old).map
 puts_kept puts true old new once cut there found = search (rules, puts_found, cut_making)
 puts_kept puts false old new once cut there found = search (rules, puts_lost, cut_making)
 
-put_done : (address value : ℕ) (held : Bool) (old new : Device) → IsOn old × IsCutChange old (meaning.Put address value) new × IsStore new
-    → (held ≡ true → (state_of new).map address ≡ Some value) → ((state_of new).map address ≡ Some value → held ≡ true)
+put_done : (address value : ℕ) (held : Bool) (old new : Device)
+    → IsOn old × IsCutChange old (meaning.Put address value) new × IsStore new
+    → (held ≡ true → (state_of new).map address ≡ Some value)
+    → ((state_of new).map address ≡ Some value → held ≡ true)
     → Does true (Put address value) (Refused write.Cut) (Some held) old new
 put_done address value held old new called there found = search (rules, put_kept)
 
-forget_done : (address : ℕ) (held : Bool) (old new : Device) → IsOn old × IsCutChange old (meaning.Forget address) new × IsStore new
-    → (held ≡ true → (state_of new).map address ≡ None) → ((state_of new).map address ≡ None → held ≡ true)
+forget_done : (address : ℕ) (held : Bool) (old new : Device)
+    → IsOn old × IsCutChange old (meaning.Forget address) new × IsStore new
+    → (held ≡ true → (state_of new).map address ≡ None)
+    → ((state_of new).map address ≡ None → held ≡ true)
     → Does true (Forget address) (NotForgotten forget.Cut) (Some held) old new
 forget_done address held old new called gone found = search (rules, forget_kept)
 
 puts_done : (puts : Bor (List listed.Put)) (held : Bool) (old new : Device)
     → IsOn old × (IsEachOnce puts.now × IsCutMaking old (puts_of puts.now) new) × IsStore new
-    → (held ≡ true → HasAll puts.now (state_of new).map) → (HasAll puts.now (state_of new).map → held ≡ true)
+    → (held ≡ true → HasAll puts.now (state_of new).map)
+    → (HasAll puts.now (state_of new).map → held ≡ true)
     → Does true (PutAll puts) (NotWritten all.Cut) (Some held) old new
 puts_done puts held old new called there found = search (rules, cut_making, puts_kept)
 
@@ -143,42 +170,50 @@ clean_cut found old new called looked = search rules
 -- a call of an open store
 put_turn : (address value : ℕ) (answer : Answer) (found : Option Bool) (old new : Device)
     → IsCalled (call_of_event (Put address value) answer) old new
-    → IsLookedFor (Put address value) answer found new → Does true (Put address value) answer found old new
+    → IsLookedFor (Put address value) answer found new
+    → Does true (Put address value) answer found old new
 put_turn address value (Done written) found old new called looked = search rules
 put_turn address value (Refused write.Off) found old new called looked = search rules
 put_turn address value (Refused write.Full) found old new called looked = search rules
 put_turn address value (Refused write.Spent) found old new called looked = search rules
 put_turn _ _ (Refused write.Memory) _ _ _ called _ = absurd called
 put_turn _ _ (Refused write.Cut) None _ _ _ looked = absurd looked
-put_turn address value (Refused write.Cut) (Some held) old new called looked = search (rules, put_done)
+put_turn address value (Refused write.Cut) (Some held) old new called looked =
+    search (rules, put_done)
 put_turn _ _ _ _ _ _ called _ = absurd called
 
-put_all_turn : (puts : Bor (List listed.Put)) (answer : Answer) (found : Option Bool) (old new : Device)
+put_all_turn : (puts : Bor (List listed.Put)) (answer : Answer) (found : Option Bool)
+    (old new : Device)
     → IsCalled (call_of_event (PutAll puts) answer) old new
     → IsLookedFor (PutAll puts) answer found new → Does true (PutAll puts) answer found old new
 put_all_turn puts (Done written) found old new called looked =
-    whole (WroteAll puts.now (Ok written)) (PutAll puts) (Done written) found old new refl called looked refl refl refl tt
+    whole (WroteAll puts.now (Ok written)) (PutAll puts) (Done written) found old new refl called
+    looked refl refl refl tt
 put_all_turn puts (NotWritten all.Off) found old new called looked = search rules
 put_all_turn puts (NotWritten (all.Twice place)) found old new called looked = search rules
 put_all_turn puts (NotWritten all.Full) found old new called looked = search rules
 put_all_turn puts (NotWritten all.Spent) found old new called looked = search rules
 put_all_turn _ (NotWritten all.Memory) _ _ _ called _ = absurd called
 put_all_turn _ (NotWritten all.Cut) None _ _ _ looked = absurd looked
-put_all_turn puts (NotWritten all.Cut) (Some held) old new called looked = puts_done puts held old new called looked.0 looked.1
+put_all_turn puts (NotWritten all.Cut) (Some held) old new called looked =
+    puts_done puts held old new called looked.0 looked.1
 put_all_turn _ _ _ _ _ called _ = absurd called
 
 forget_turn : (address : ℕ) (answer : Answer) (found : Option Bool) (old new : Device)
     → IsCalled (call_of_event (Forget address) answer) old new
-    → IsLookedFor (Forget address) answer found new → Does true (Forget address) answer found old new
+    → IsLookedFor (Forget address) answer found new
+    → Does true (Forget address) answer found old new
 forget_turn address (Done written) found old new called looked = search rules
 forget_turn address (NotForgotten forget.Off) found old new called looked = search rules
 forget_turn address (NotForgotten forget.Absent) found old new called looked = search rules
 forget_turn address (NotForgotten forget.Spent) found old new called looked = search rules
 forget_turn _ (NotForgotten forget.Cut) None _ _ _ looked = absurd looked
-forget_turn address (NotForgotten forget.Cut) (Some held) old new called looked = forget_done address held old new called looked.0 looked.1
+forget_turn address (NotForgotten forget.Cut) (Some held) old new called looked =
+    forget_done address held old new called looked.0 looked.1
 forget_turn _ _ _ _ _ called _ = absurd called
 
-get_turn : (address : ℕ) (answer : Answer) (found : Option Bool) (old new : Device) → IsCalled (call_of_event (Get address) answer) old new
+get_turn : (address : ℕ) (answer : Answer) (found : Option Bool) (old new : Device)
+    → IsCalled (call_of_event (Get address) answer) old new
     → IsLookedFor (Get address) answer found new → Does true (Get address) answer found old new
 get_turn address (Value value) found old new called looked = search rules
 get_turn _ _ _ _ _ called _ = absurd called
@@ -187,12 +222,14 @@ clear_turn : (answer : Answer) (found : Option Bool) (old new : Device)
     → IsCalled (call_of_event Clear answer) old new → IsLookedFor Clear answer found new
     → Does true Clear answer found old new
 clear_turn (Cleared true) found old new called looked =
-    whole (DidClear (Ok true)) Clear (Cleared true) found old new refl called looked refl refl refl tt
+    whole (DidClear (Ok true)) Clear (Cleared true) found old new refl called looked refl refl refl
+    tt
 clear_turn (Cleared false) found old new called looked = search rules
 clear_turn (NotCleared clear.Off) found old new called looked = search rules
 clear_turn (NotCleared clear.Spent) found old new called looked = search rules
 clear_turn (NotCleared clear.Cut) None _ _ _ looked = absurd looked
-clear_turn (NotCleared clear.Cut) (Some held) old new called looked = clear_done held old new called looked.0 looked.1
+clear_turn (NotCleared clear.Cut) (Some held) old new called looked =
+    clear_done held old new called looked.0 looked.1
 clear_turn _ _ _ _ called _ = absurd called
 
 clean_turn : (answer : Answer) (found : Option Bool) (old new : Device)
@@ -221,7 +258,8 @@ map_on : (device : Device) → (state_of (with_power_on device)).map ≡ (state_
 map_on device = search rules
 
 -- an opening keeps no change
-nothing_kept : (answer : Answer) (found : Option Bool) (old new : Device) → found ≡ None → (state_of new).map ≡ (state_of old).map
+nothing_kept : (answer : Answer) (found : Option Bool) (old new : Device) → found ≡ None
+    → (state_of new).map ≡ (state_of old).map
     → (state_of new).map ≡ changed_by (kept_by Reopen answer found) (state_of old).map
 nothing_kept answer found old new looked same = search rules
 
@@ -237,26 +275,35 @@ reopening_cut serving found old new cut looked = search (rules, map_on, nothing_
 reopen_turn : (serving : Bool) (answer : Answer) (found : Option Bool) (old new : Device)
     → Reopens answer old new → found ≡ None → Does serving Reopen answer found old new
 reopen_turn serving Opened found old new opens looked = reopened serving found old new opens looked
-reopen_turn serving (NotOpened opening.Cut) found old new cut looked = reopening_cut serving found old new cut looked
-reopen_turn serving (NotOpened (opening.Scan fault)) found old new fails looked = search (rules, legal_is_good, legal_on)
+reopen_turn serving (NotOpened opening.Cut) found old new cut looked =
+    reopening_cut serving found old new cut looked
+reopen_turn serving (NotOpened (opening.Scan fault)) found old new fails looked =
+    search (rules, legal_is_good, legal_on)
 reopen_turn _ _ _ _ _ reopens _ = absurd reopens
 
 does : (serving : Bool) (event : Event) (answer : Answer) (found : Option Bool) (old new : Device)
     → Happens serving event answer old new → IsLookedFor event answer found new
     → Does serving event answer found old new
-does serving Reopen answer found old new happens looked = reopen_turn serving answer found old new happens looked
-does true (Put address value) answer found old new happens looked = put_turn address value answer found old new happens looked
-does true (PutAll puts) answer found old new happens looked = put_all_turn puts answer found old new happens looked
-does true (Forget address) answer found old new happens looked = forget_turn address answer found old new happens looked
-does true (Get address) answer found old new happens looked = get_turn address answer found old new happens looked
+does serving Reopen answer found old new happens looked =
+    reopen_turn serving answer found old new happens looked
+does true (Put address value) answer found old new happens looked =
+    put_turn address value answer found old new happens looked
+does true (PutAll puts) answer found old new happens looked =
+    put_all_turn puts answer found old new happens looked
+does true (Forget address) answer found old new happens looked =
+    forget_turn address answer found old new happens looked
+does true (Get address) answer found old new happens looked =
+    get_turn address answer found old new happens looked
 does true Clear answer found old new happens looked = clear_turn answer found old new happens looked
 does true Clean answer found old new happens looked = clean_turn answer found old new happens looked
 does false (Put address value) Off found old new same looked = search rules
 does false (PutAll puts) Off found old new same looked = search rules
 does false (Forget address) Off found old new same looked = search rules
 does false (Get address) Off found old new same looked = search rules
-does false Clear Off found old new same looked = off_turn Clear Off found old new same looked tt refl
-does false Clean Off found old new same looked = off_turn Clean Off found old new same looked tt refl
+does false Clear Off found old new same looked =
+    off_turn Clear Off found old new same looked tt refl
+does false Clean Off found old new same looked =
+    off_turn Clean Off found old new same looked tt refl
 does false _ _ _ _ _ idles _ = absurd idles
 
 pub does_turn : (turn : Turn) (old new : Point) → IsTurn turn old new
@@ -270,17 +317,24 @@ pub no_answered_change_is_lost_lem : (turns : List Turn) (old new : Point) → A
 no_answered_change_is_lost_lem [] old new same legal = search rules
 no_answered_change_is_lost_lem (turn ∷ turns) old new run legal =
     let one = does_turn turn old run.0 run.1 in
-    search (rules, changed_by-append, (no_answered_change_is_lost_lem turns run.0 new run.2 (one.legal legal)))
+    search (
+      rules,
+      changed_by-append,
+      (no_answered_change_is_lost_lem turns run.0 new run.2 (one.legal legal)),
+    )
 
 -- an open store stays so to the end, or a cut or an opening that fails ends it
-open_at_end : (turns : List Turn) (old new : Point) → AreTurns turns old new → (old.serving ≡ true → IsOn old.device × IsStore old.device)
-    → new.serving ≡ true → IsOn new.device × IsStore new.device
+open_at_end : (turns : List Turn) (old new : Point) → AreTurns turns old new
+    → (old.serving ≡ true → IsOn old.device × IsStore old.device) → new.serving ≡ true
+    → IsOn new.device × IsStore new.device
 open_at_end [] old new same stands = search rules
 open_at_end (turn ∷ turns) old new run _ =
-    open_at_end turns run.0 new run.2 (λ serving. (does_turn turn old run.0 run.1).serves (sym run.1.serving_is ∙ serving))
+    open_at_end turns run.0 new run.2
+    (λ serving. (does_turn turn old run.0 run.1).serves (sym run.1.serving_is ∙ serving))
 
 -- the cuts so far, and one more or none
-cuts_fit : (cut : Bool) (start between : ℕ) → start ≤ all_ones → between ≡ cond cut (one_more start) start → between ≤ all_ones
+cuts_fit : (cut : Bool) (start between : ℕ) → start ≤ all_ones
+    → between ≡ cond cut (one_more start) start → between ≤ all_ones
 cuts_fit true start between fits is = omega arith
 cuts_fit false start between fits is = omega arith
 
@@ -290,13 +344,18 @@ one_cut : (cut : Bool) (start between end rest all : ℕ) → start ≤ all_ones
 one_cut true start between end rest all fits is ends sum = omega arith
 one_cut false start between end rest all fits is ends sum = omega arith
 
-all_cuts : (turns : List Turn) (old new : Point) → AreTurns turns old new → old.device.cuts ≤ all_ones
-    → new.device.cuts ≡ min (old.device.cuts + count_by (λ (turn : Turn). tells_of_a_cut turn.answer) turns) all_ones
+all_cuts : (turns : List Turn) (old new : Point) → AreTurns turns old new
+    → old.device.cuts ≤ all_ones
+    → new.device.cuts
+    ≡ min (old.device.cuts + count_by (λ (turn : Turn). tells_of_a_cut turn.answer) turns)
+    all_ones
 all_cuts [] old new same fits = search rules
 all_cuts (turn ∷ turns) old new run fits =
     let one = does_turn turn old run.0 run.1 in
-    one_cut (tells_of_a_cut turn.answer) old.device.cuts run.0.device.cuts new.device.cuts (count_by (λ (turn : Turn). tells_of_a_cut turn.answer) turns) _ fits one.cuts_are
-    (all_cuts turns run.0 new run.2 (cuts_fit (tells_of_a_cut turn.answer) old.device.cuts run.0.device.cuts fits one.cuts_are))
+    one_cut (tells_of_a_cut turn.answer) old.device.cuts run.0.device.cuts new.device.cuts
+    (count_by (λ (turn : Turn). tells_of_a_cut turn.answer) turns) _ fits one.cuts_are
+    (all_cuts turns run.0 new run.2
+    (cuts_fit (tells_of_a_cut turn.answer) old.device.cuts run.0.device.cuts fits one.cuts_are))
     (sum_by-cons (λ (one : Turn). cond (tells_of_a_cut one.answer) 1 0) turn turns)
 
 pub was_done : (turns : List Turn) (old new : Device) (end : Point)

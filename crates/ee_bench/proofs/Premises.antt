@@ -13,7 +13,11 @@ raw = closed_point (blank_device (size_of 1 5))
 
 -- `no_answered_change_is_lost` needs that the image is legal at the start: on a device that was
 -- never formatted no event at all leaves an image that is not legal
-pub no_answered_change_is_lost_needs_legal : ((turns : List Turn) (old new : Point) → AreTurns turns old new → WasKept turns old.device new.device) → ⊥
+pub no_answered_change_is_lost_needs_legal
+    :
+    ((turns : List Turn) (old new : Point) → AreTurns turns old new
+    → WasKept turns old.device new.device)
+    → ⊥
 no_answered_change_is_lost_needs_legal law =
     let kept = law [] raw raw refl in
     true≢false (sym (ap is_some kept.legal.2.live))

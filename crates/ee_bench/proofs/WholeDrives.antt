@@ -9,11 +9,17 @@ use Rattle.ee_bench.specs.Outcome.{Drives}
 use Rattle.ee_bench.specs.declared.event.Answer.{Answer}
 use Rattle.ee_bench.specs.declared.event.Event.{Event}
 
-all_met : (old new : Device) (events : List Event) (log : List Answer) (kept : List Bool) (end : Point) → IsFormed old → HasMet old events log kept end → new ≡ end.device
+all_met : (old new : Device) (events : List Event) (log : List Answer) (kept : List Bool)
+    (end : Point)
+    → IsFormed old → HasMet old events log kept end → new ≡ end.device
     → Drives old events log kept new
-all_met old new events log kept end formed met same = search (rules, no_answered_change_is_lost_lem, was_done)
+all_met old new events log kept end formed met same =
+    search (rules, no_answered_change_is_lost_lem, was_done)
 
-pub drives : (old new : Device) (events : List Event) (i : ℕ) (log : List Answer) (kept : List Bool) (end : Point) → IsFormed old → length events ≤ i
-    → HasMet old (take i events) log kept end → new ≡ end.device → Drives old events log kept new
+pub drives : (old new : Device) (events : List Event) (i : ℕ) (log : List Answer) (kept : List Bool)
+    (end : Point)
+    → IsFormed old → length events ≤ i → HasMet old (take i events) log kept end → new ≡ end.device
+    → Drives old events log kept new
 drives old new events i log kept end formed past met same =
-    all_met old new events log kept end formed (subst (λ (l : List Event). HasMet old l log kept end) (take_all i events past) met) same
+    all_met old new events log kept end formed
+    (subst (λ (l : List Event). HasMet old l log kept end) (take_all i events past) met) same

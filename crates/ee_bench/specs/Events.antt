@@ -92,13 +92,17 @@ IsEmptied map = (address : ℕ) → map address ≡ None
 -- whether it has all its values, after one in a forgetting whether the address has none, after one
 -- in a clear whether no address has one, and after nothing else.
 abbrev pub IsLookedFor : Event → Answer → Option Bool → Device → Type 0
-IsLookedFor (Put address value) (Refused write.Cut) (Some held) new = IsTrue held ↔ ((state_of new).map address ≡ Some value)
+IsLookedFor (Put address value) (Refused write.Cut) (Some held) new =
+    IsTrue held ↔ ((state_of new).map address ≡ Some value)
 IsLookedFor (Put address value) (Refused write.Cut) None new = ⊥
-IsLookedFor (PutAll puts) (NotWritten all.Cut) (Some held) new = IsTrue held ↔ HasAll puts.now (state_of new).map
+IsLookedFor (PutAll puts) (NotWritten all.Cut) (Some held) new =
+    IsTrue held ↔ HasAll puts.now (state_of new).map
 IsLookedFor (PutAll puts) (NotWritten all.Cut) None new = ⊥
-IsLookedFor (Forget address) (NotForgotten forget.Cut) (Some held) new = IsTrue held ↔ ((state_of new).map address ≡ None)
+IsLookedFor (Forget address) (NotForgotten forget.Cut) (Some held) new =
+    IsTrue held ↔ ((state_of new).map address ≡ None)
 IsLookedFor (Forget address) (NotForgotten forget.Cut) None new = ⊥
-IsLookedFor Clear (NotCleared clear.Cut) (Some held) new = IsTrue held ↔ IsEmptied (state_of new).map
+IsLookedFor Clear (NotCleared clear.Cut) (Some held) new =
+    IsTrue held ↔ IsEmptied (state_of new).map
 IsLookedFor Clear (NotCleared clear.Cut) None new = ⊥
 IsLookedFor event answer found new = found ≡ None
 
@@ -111,7 +115,8 @@ pub record IsTurn (turn : Turn) (old new : Point) : Type 0 where
 -- turns in their order, each from the point that the one before it left
 abbrev pub AreTurns : List Turn → Point → Point → Type 0
 AreTurns [] old new = new ≡ old
-AreTurns (turn ∷ turns) old new = (between : Point) × IsTurn turn old between × AreTurns turns between new
+AreTurns (turn ∷ turns) old new =
+    (between : Point) × IsTurn turn old between × AreTurns turns between new
 
 -- What was done, from a device on which no store is open: at the end a store is open on a
 -- device that is on, or none is; and the cuts rose by one for each answer with a cut, up to
@@ -121,11 +126,13 @@ pub record WasDone (turns : List Turn) (old new : Device) : Type 0 where
   pub turns_are : AreTurns turns (closed_point old) end
   pub ends_at : end.device ≡ new
   pub serves : end.serving ≡ true → IsOn new × IsStore new
-  pub cuts_are : new.cuts ≡ min (old.cuts + count_by (λ turn. tells_of_a_cut turn.answer) turns) all_ones
+  pub cuts_are : new.cuts
+      ≡ min (old.cuts + count_by (λ turn. tells_of_a_cut turn.answer) turns) all_ones
 
 -- these turns have these events, these answers, and of those in which power was cut in a
 -- change what was found
-pub record AreTold (turns : List Turn) (events : List Event) (log : List Answer) (kept : List Bool) : Type 0 where
+pub record AreTold (turns : List Turn) (events : List Event) (log : List Answer) (kept : List Bool)
+    : Type 0 where
   pub events_are : map (λ turn. turn.event) turns ≡ events
   pub log_is : map (λ turn. turn.answer) turns ≡ log
   pub kept_is : filter_map (λ turn. turn.found) turns ≡ kept

@@ -44,7 +44,8 @@ IsValueIn map event answer = Unit {0}
 abbrev pub AreValuesFrom : Map → List Turn → Type 0
 AreValuesFrom map [] = Unit {0}
 AreValuesFrom map (turn ∷ turns) =
-    IsValueIn map turn.event turn.answer × AreValuesFrom (changed_by (kept_by turn.event turn.answer turn.found) map) turns
+    IsValueIn map turn.event turn.answer
+    × AreValuesFrom (changed_by (kept_by turn.event turn.answer turn.found) map) turns
 
 -- the image was found not legal
 abbrev pub is_scan_fault : Answer → Bool
@@ -62,7 +63,8 @@ pub record WasKept (turns : List Turn) (old new : Device) : Type 0 where
 
 -- These events, on a device on which no store is open, got these answers and kept entries,
 -- and left this device.
-pub record Drives (old : Device) (events : List Event) (log : List Answer) (kept : List Bool) (new : Device) : Type 0 where
+pub record Drives (old : Device) (events : List Event) (log : List Answer) (kept : List Bool)
+    (new : Device) : Type 0 where
   pub turns : List Turn
   pub told : AreTold turns events log kept
   pub done : WasDone turns old new
@@ -72,7 +74,8 @@ pub record Drives (old : Device) (events : List Event) (log : List Answer) (kept
 -- a cut left is known.
 abbrev pub NoAnsweredChangeIsLost : Type 0
 NoAnsweredChangeIsLost =
-    (turns : List Turn) (old new : Point) → AreTurns turns old new → IsLegal old.device → WasKept turns old.device new.device
+    (turns : List Turn) (old new : Point) → AreTurns turns old new → IsLegal old.device
+    → WasKept turns old.device new.device
 
 -- the event asks for a change of the address; a clear does of each
 abbrev pub event_asks_change_of : ℕ → Event → Bool
@@ -86,6 +89,8 @@ event_asks_change_of address event = false
 -- long as no further change of its address is asked for, the image has it.
 abbrev pub AKeptChangeStays : Type 0
 AKeptChangeStays =
-    (turns later : List Turn) (turn : Turn) (change : Change) (old new : Point) → AreTurns (turns ++ turn ∷ later) old new
+    (turns later : List Turn) (turn : Turn) (change : Change) (old new : Point)
+    → AreTurns (turns ++ turn ∷ later) old new
     → IsLegal old.device → Contains (kept_by turn.event turn.answer turn.found) change
-    → All (λ one. event_asks_change_of (address_of change) one.event ≡ false) later → HasChange change (state_of new.device).map
+    → All (λ one. event_asks_change_of (address_of change) one.event ≡ false) later
+    → HasChange change (state_of new.device).map

@@ -15,20 +15,29 @@ use Rattle.ee_image_store.proofs.Public.{no_memory_to_open}
 use Rattle.ee_image_store.specs.FileFaults.{IsOpeningFault}
 use Rattle.ee_image_store.specs.Opening.{IsOpened}
 
-joined_behind : (word : List ℕ) (words : List (List ℕ)) → joined_fields (word ∷ words) ≡ word ++ words_behind words
+joined_behind : (word : List ℕ) (words : List (List ℕ))
+    → joined_fields (word ∷ words) ≡ word ++ words_behind words
 joined_behind word [] = sym (append-nil word)
-joined_behind word (next ∷ more) = ap (λ (rest : List ℕ). word ++ (space ∷ rest)) (joined_behind next more)
+joined_behind word (next ∷ more) =
+    ap (λ (rest : List ℕ). word ++ (space ∷ rest)) (joined_behind next more)
 
 -- the line of an address, part by part
-pub line_made : (settings : List Setting) (listed : Listed) (out numbered held named done : List ℕ) → numbered ≡ out ++ decimal listed.address → held ≡ numbered ++ words_behind (held_words listed.held)
-    → named ≡ held ++ words_behind (name_words settings listed.entry) → done ≡ named ++ line_feed ∷ [] → done ≡ out ++ listed_line settings listed
-line_made settings listed out numbered held named done first second third fourth = grind (arith, common_steps, flat_map-append, joined_behind)
+pub line_made : (settings : List Setting) (listed : Listed) (out numbered held named done : List ℕ)
+    → numbered ≡ out ++ decimal listed.address
+    → held ≡ numbered ++ words_behind (held_words listed.held)
+    → named ≡ held ++ words_behind (name_words settings listed.entry)
+    → done ≡ named ++ line_feed ∷ [] → done ≡ out ++ listed_line settings listed
+line_made settings listed out numbered held named done first second third fourth =
+    grind (arith, common_steps, flat_map-append, joined_behind)
 
 -- memory can run out whatever the image says
 pub no_memory : (image : List ℕ) (fault : Fault) → fault ≡ Memory → IsOpeningFault image fault
 no_memory image fault none = rw none (no_memory_to_open image)
 
 -- the lines of what the opened store holds are those of the image
-pub is_list : (image lines : List ℕ) (store : Device) (settings : List Setting) (named : Option (List ℕ)) → IsOpened image store → AreNamed named settings
-    → lines ≡ listed_lines settings (listed_in settings (state_of store).map) → IsList image named lines
+pub is_list : (image lines : List ℕ) (store : Device) (settings : List Setting)
+    (named : Option (List ℕ))
+    → IsOpened image store → AreNamed named settings
+    → lines ≡ listed_lines settings (listed_in settings (state_of store).map)
+    → IsList image named lines
 is_list image lines store settings named opened spelled says = search rules

@@ -30,7 +30,8 @@ use Rattle.ee_image_store.specs.Steps.{Steps}
 
 -- ---- the text of the settings
 
-pub one_tree : (text : List ℕ) (one other : Members) → HasTree text one → HasTree text other → one ≡ other
+pub one_tree : (text : List ℕ) (one other : Members) → HasTree text one → HasTree text other
+    → one ≡ other
 one_tree text one other h k = cc (h.reads, k.reads)
 
 schema_memory_or : (why : SchemaFault) → (why ≡ schema.Memory) ⊎ (why ≢ schema.Memory)
@@ -41,68 +42,119 @@ schema_memory_or (schema.SameAddress n) = inr (λ e. cc e)
 schema_memory_or schema.Memory = inl refl
 
 -- the fault of a tree is the one that was told
-pub schema_named : (text : List ℕ) (tree : Members) (why : SchemaFault) (fault cause : Fault) → HasTree text tree → HaveRisingKeys (entries_of tree) → GivesSchema tree (Err why) → fault ≡ fault_of_schema why
-    → cause ≢ Memory → IsSettingsFault text cause → (fault ≡ cause) ⊎ (fault ≡ Memory)
+pub schema_named : (text : List ℕ) (tree : Members) (why : SchemaFault) (fault cause : Fault)
+    → HasTree text tree → HaveRisingKeys (entries_of tree) → GivesSchema tree (Err why)
+    → fault ≡ fault_of_schema why → cause ≢ Memory → IsSettingsFault text cause
+    → (fault ≡ cause) ⊎ (fault ≡ Memory)
 schema_named text tree why fault cause has rising gives told some (inl h) = absurd (h.1 tree has)
 schema_named text tree why fault cause has rising gives told some (inr (inr h)) = absurd (some h)
-schema_named text tree why fault cause has rising gives told some (inr (inl h)) = elim (schema_memory_or why) [
-  | inl none ↦ inr (told ∙ ap fault_of_schema none)
-  | inr named ↦
-      let there : GivesSchema tree (Err h.cause) = subst (λ (t : Members). GivesSchema t (Err h.cause)) (one_tree text h.tree tree h.has_tree has) h.applies in
-      let same : why ≡ h.cause = one_fault tree rising why h.cause named (λ e. some (h.fault_is ∙ ap fault_of_schema e)) gives there in
-      inl (told ∙ ap fault_of_schema same ∙ sym h.fault_is)
-]
+schema_named text tree why fault cause has rising gives told some (inr (inl h)) =
+    elim (schema_memory_or why) [
+      | inl none ↦ inr (told ∙ ap fault_of_schema none)
+      | inr named ↦
+          let there : GivesSchema tree (Err h.cause) =
+          subst (λ (t : Members). GivesSchema t (Err h.cause))
+          (one_tree text h.tree tree h.has_tree has) h.applies in
+          let same : why ≡ h.cause =
+          one_fault tree rising why h.cause named (λ e. some (h.fault_is ∙ ap fault_of_schema e))
+          gives there in
+          inl (told ∙ ap fault_of_schema same ∙ sym h.fault_is)
+    ]
 
 -- a text that spells settings has no fault
-pub schema_good : (text : List ℕ) (tree : Members) (settings : List Setting) (cause : Fault) → HasTree text tree → GivesSchema tree (Ok settings) → cause ≢ Memory → IsSettingsFault text cause → ⊥
+pub schema_good : (text : List ℕ) (tree : Members) (settings : List Setting) (cause : Fault)
+    → HasTree text tree → GivesSchema tree (Ok settings) → cause ≢ Memory
+    → IsSettingsFault text cause → ⊥
 schema_good text tree settings cause has gives some (inl h) = h.1 tree has
 schema_good text tree settings cause has gives some (inr (inr h)) = some h
-schema_good text tree settings cause has gives some (inr (inl h)) = search (rules, never_refused, one_tree)
+schema_good text tree settings cause has gives some (inr (inl h)) =
+    search (rules, never_refused, one_tree)
 
-pub settings_good : (text : List ℕ) (settings : List Setting) (cause : Fault) → SpellsSettings text settings → cause ≢ Memory → IsSettingsFault text cause → ⊥
-settings_good text settings cause spelled some h = schema_good text spelled.tree settings cause spelled.has_tree spelled.schema some h
+pub settings_good : (text : List ℕ) (settings : List Setting) (cause : Fault)
+    → SpellsSettings text settings → cause ≢ Memory → IsSettingsFault text cause → ⊥
+settings_good text settings cause spelled some h =
+    schema_good text spelled.tree settings cause spelled.has_tree spelled.schema some h
 
-there_too : (text : List ℕ) (tree : Members) (others : List Setting) → HasTree text tree → SpellsSettings text others → GivesSchema tree (Ok others)
-there_too text tree others has spelled = subst (λ (t : Members). GivesSchema t (Ok others)) (one_tree text spelled.tree tree spelled.has_tree has) spelled.schema
+there_too : (text : List ℕ) (tree : Members) (others : List Setting) → HasTree text tree
+    → SpellsSettings text others → GivesSchema tree (Ok others)
+there_too text tree others has spelled =
+    subst (λ (t : Members). GivesSchema t (Ok others))
+    (one_tree text spelled.tree tree spelled.has_tree has) spelled.schema
 
-pub schema_once : (text : List ℕ) (tree : Members) (settings others : List Setting) → HasTree text tree → GivesSchema tree (Ok settings) → SpellsSettings text others → settings ≡ others
-schema_once text tree settings others has gives spelled = entries_once (entries_of tree) settings others gives.0.each (there_too text tree others has spelled).0.each
+pub schema_once : (text : List ℕ) (tree : Members) (settings others : List Setting)
+    → HasTree text tree → GivesSchema tree (Ok settings) → SpellsSettings text others
+    → settings ≡ others
+schema_once text tree settings others has gives spelled =
+    entries_once (entries_of tree) settings others gives.0.each
+    (there_too text tree others has spelled).0.each
 
-pub spelled_once : (text : List ℕ) (settings others : List Setting) → SpellsSettings text settings → SpellsSettings text others → settings ≡ others
-spelled_once text settings others spelled again = schema_once text spelled.tree settings others spelled.has_tree spelled.schema again
+pub spelled_once : (text : List ℕ) (settings others : List Setting) → SpellsSettings text settings
+    → SpellsSettings text others → settings ≡ others
+spelled_once text settings others spelled again =
+    schema_once text spelled.tree settings others spelled.has_tree spelled.schema again
 
 -- only want of memory refuses a text that spells settings
-pub schema_only : (text : List ℕ) (tree : Members) (why : SchemaFault) (fault : Fault) (others : List Setting) → HasTree text tree → GivesSchema tree (Err why) → fault ≡ fault_of_schema why → SpellsSettings text others
-    → fault ≡ Memory
-schema_only text tree why fault others has gives told spelled = search (rules, never_refused, schema_memory_or, there_too)
+pub schema_only : (text : List ℕ) (tree : Members) (why : SchemaFault) (fault : Fault)
+    (others : List Setting)
+    → HasTree text tree → GivesSchema tree (Err why) → fault ≡ fault_of_schema why
+    → SpellsSettings text others → fault ≡ Memory
+schema_only text tree why fault others has gives told spelled =
+    search (rules, never_refused, schema_memory_or, there_too)
 
 -- ---- reading
 
 -- a name that is read is no unknown one
-pub never_unknown : (text name : List ℕ) (settings : List Setting) (state : State) (reading : Reading) → SpellsSettings text settings → IsSettingRead settings state name reading → IsUnknownIn text name → ⊥
-never_unknown text name settings state reading spelled read h = subst (λ (ss : List Setting). IsUnknown ss name) (spelled_once text h.settings settings h.spelled spelled) h.unknown read.0 read.1
+pub never_unknown : (text name : List ℕ) (settings : List Setting) (state : State)
+    (reading : Reading)
+    → SpellsSettings text settings → IsSettingRead settings state name reading
+    → IsUnknownIn text name → ⊥
+never_unknown text name settings state reading spelled read h =
+    subst (λ (ss : List Setting). IsUnknown ss name)
+    (spelled_once text h.settings settings h.spelled spelled) h.unknown read.0 read.1
 
-pub is_got : (image text name line : List ℕ) (store : Device) (settings : List Setting) → IsOpened image store → SpellsSettings text settings → IsReadingLine settings (state_of store) name line → IsGot image text name line
+pub is_got : (image text name line : List ℕ) (store : Device) (settings : List Setting)
+    → IsOpened image store → SpellsSettings text settings
+    → IsReadingLine settings (state_of store) name line → IsGot image text name line
 is_got image text name line store settings opened spelled read = search rules
 
 -- why nothing is read: the name is unknown, or memory ran out
-pub is_get_fault : (image text name : List ℕ) (store : Device) (settings : List Setting) (fault : Fault) → IsOpened image store → SpellsSettings text settings → (IsUnknown settings name × (fault ≡ UnknownName)) ⊎ (fault ≡ Memory)
+pub is_get_fault : (image text name : List ℕ) (store : Device) (settings : List Setting)
+    (fault : Fault)
+    → IsOpened image store → SpellsSettings text settings
+    → (IsUnknown settings name × (fault ≡ UnknownName)) ⊎ (fault ≡ Memory)
     → IsGetFault image text name fault
-is_get_fault image text name store settings fault opened spelled (inl h) = inr (inr ((opened.device, opened.old), record { settings = settings; spelled = spelled; unknown = h.0 }, h.1))
-is_get_fault image text name store settings fault opened spelled (inr none) = rw none (inl (no_memory_to_open image))
+is_get_fault image text name store settings fault opened spelled (inl h) =
+    inr
+    (inr (
+      (opened.device, opened.old),
+      record { settings = settings; spelled = spelled; unknown = h.0 },
+      h.1,
+    ))
+is_get_fault image text name store settings fault opened spelled (inr none) =
+    rw none (inl (no_memory_to_open image))
 
 -- ---- setting
 
-pub is_written : (settings : List Setting) (old new : Device) (name : List ℕ) (value : ℕ) (answer : Written) → StaysOn old → Sets settings old name value (Ok answer) new → IsWritten settings old name value new
+pub is_written : (settings : List Setting) (old new : Device) (name : List ℕ) (value : ℕ)
+    (answer : Written)
+    → StaysOn old → Sets settings old name value (Ok answer) new
+    → IsWritten settings old name value new
 is_written settings old new name value written.Appended on set = record {
   setting = set.0;
   named = set.1;
   in_range = set.2;
   served = inl (
-    record { step = (set.3.proceeds.accepted, set.3.free, set.3.state_is); same_size = set.3.goes_on.same_size; erases = by_append old (Put set.0.numbers.address value) new set.3 },
+    record {
+      step = (set.3.proceeds.accepted, set.3.free, set.3.state_is);
+      same_size = set.3.goes_on.same_size;
+      erases = by_append old (Put set.0.numbers.address value) new set.3;
+    },
     set.3.no_wear,
   );
-  stays_on = record { on = set.3.goes_on.same_power ∙ on.on; never_cut = set.3.goes_on.same_cuts_left ∙ on.never_cut };
+  stays_on = record {
+    on = set.3.goes_on.same_power ∙ on.on;
+    never_cut = set.3.goes_on.same_cuts_left ∙ on.never_cut;
+  };
   answer = written.Appended;
   written = set.3;
 }
@@ -118,37 +170,59 @@ is_written settings old new name value written.Moved on set = record {
     },
     set.3.wear,
   );
-  stays_on = record { on = set.3.goes_on.same_power ∙ on.on; never_cut = set.3.goes_on.same_cuts_left ∙ on.never_cut };
+  stays_on = record {
+    on = set.3.goes_on.same_power ∙ on.on;
+    never_cut = set.3.goes_on.same_cuts_left ∙ on.never_cut;
+  };
   answer = written.Moved;
   written = set.3;
 }
 
 -- what was served by an opened store was served by what its text spells
-from_text : (image : List ℕ) (store new : Device) (command : Command) (answer : Answer) (opened : IsOpened image store) → Steps store command answer new → Steps opened.device command answer new
+from_text : (image : List ℕ) (store new : Device) (command : Command) (answer : Answer)
+    (opened : IsOpened image store)
+    → Steps store command answer new → Steps opened.device command answer new
 from_text image store new command answer opened serves =
     record {
-      step = subst (λ (size : Size). MachineStep size (state_of opened.device) command answer (state_of new)) opened.same_size
-          (subst (λ (state : State). MachineStep store.size state command answer (state_of new)) opened.state_is serves.step);
+      step = subst
+          (λ (size : Size). MachineStep size (state_of opened.device) command answer (state_of new))
+          opened.same_size
+          (subst (λ (state : State). MachineStep store.size state command answer (state_of new))
+          opened.state_is serves.step);
       same_size = serves.same_size ∙ opened.same_size;
-      erases = subst (λ (size : Size). ErasesRise (erases_left_by size answer) opened.device new) opened.same_size (both opened.device store new 0 (erases_left_by store.size answer) (erases_left_by store.size answer) opened.erases serves.erases (omega arith));
+      erases =
+          subst (λ (size : Size). ErasesRise (erases_left_by size answer) opened.device new)
+          opened.same_size
+          (both opened.device store new 0 (erases_left_by store.size answer)
+          (erases_left_by store.size answer) opened.erases serves.erases (omega arith));
     }
 
-served_from_text : (image : List ℕ) (store new : Device) (address value : ℕ) (opened : IsOpened image store) → IsWriteServed store address value new → IsWriteServed opened.device address value new
-served_from_text image store new address value opened (inl h) = inl (from_text image store new (Write address value) Appended opened h.0, h.1 ∙ opened.no_wear)
+served_from_text : (image : List ℕ) (store new : Device) (address value : ℕ)
+    (opened : IsOpened image store)
+    → IsWriteServed store address value new → IsWriteServed opened.device address value new
+served_from_text image store new address value opened (inl h) =
+    inl (from_text image store new (Write address value) Appended opened h.0, h.1 ∙ opened.no_wear)
 served_from_text image store new address value opened (inr h) =
     inr (
       from_text image store new (Write address value) Moved opened h.0,
-      subst (λ (pages : List ℕ). Wears pages opened.device new) opened.same_pending (pages_since opened.device store new (pending_pages store) opened.no_wear h.1),
+      subst (λ (pages : List ℕ). Wears pages opened.device new) opened.same_pending
+          (pages_since opened.device store new (pending_pages store) opened.no_wear h.1),
     )
 
-pub size_kept : (old new : Device) (address value : ℕ) → IsWriteServed old address value new → new.size ≡ old.size
+pub size_kept : (old new : Device) (address value : ℕ) → IsWriteServed old address value new
+    → new.size ≡ old.size
 size_kept old new address value (inl h) = h.0.same_size
 size_kept old new address value (inr h) = h.0.same_size
 
-pub is_set : (image text name new_image line : List ℕ) (value : ℕ) (store : Device) (settings : List Setting) → IsOpened image store → SpellsSettings text settings → LeavesSet settings store name value new_image line
+pub is_set : (image text name new_image line : List ℕ) (value : ℕ) (store : Device)
+    (settings : List Setting)
+    → IsOpened image store → SpellsSettings text settings
+    → LeavesSet settings store name value new_image line
     → IsSet image text name value new_image line
 is_set image text name new_image line value store settings opened spelled done =
-    let served = served_from_text image store done.last done.written.setting.numbers.address value opened done.written.served in
+    let served =
+    served_from_text image store done.last done.written.setting.numbers.address value opened
+    done.written.served in
     record {
       device = opened.device;
       store = store;
@@ -159,81 +233,133 @@ is_set image text name new_image line value store settings opened spelled done =
       spelled = spelled;
       written = done.written;
       served = served;
-      left = subst (λ (size : Size). IsStoreLeft size new_image done.last) (size_kept opened.device done.last done.written.setting.numbers.address value served) done.left;
+      left = subst (λ (size : Size). IsStoreLeft size new_image done.last)
+          (size_kept opened.device done.last done.written.setting.numbers.address value served)
+          done.left;
       line_is = done.line_is;
     }
 
-pub is_refused_in : (image text name : List ℕ) (value : ℕ) (store : Device) (settings : List Setting) (fault : Fault) → IsOpened image store → SpellsSettings text settings
-    → IsSettingRefused settings store.size (state_of store) name value fault → IsRefusedIn image text name value fault
+pub is_refused_in : (image text name : List ℕ) (value : ℕ) (store : Device)
+    (settings : List Setting) (fault : Fault)
+    → IsOpened image store → SpellsSettings text settings
+    → IsSettingRefused settings store.size (state_of store) name value fault
+    → IsRefusedIn image text name value fault
 is_refused_in image text name value store settings fault opened spelled refused = record {
   device = opened.device;
   old = opened.old;
   settings = settings;
   spelled = spelled;
-  refused = subst (λ (size : Size). IsSettingRefused settings size (state_of opened.device) name value fault) opened.same_size
-      (subst (λ (state : State). IsSettingRefused settings store.size state name value fault) opened.state_is refused);
+  refused =
+      subst
+      (λ (size : Size).
+      IsSettingRefused settings size (state_of opened.device) name value fault)
+      opened.same_size
+      (subst (λ (state : State). IsSettingRefused settings store.size state name value fault)
+      opened.state_is refused);
 }
 
 -- ---- the causes for which nothing is set
 
-one_write : (size : Size) (state : State) (address : ℕ) (fault cause : Fault) → IsWriteRefusal size state address fault → IsWriteRefusal size state address cause → fault ≡ cause
+one_write : (size : Size) (state : State) (address : ℕ) (fault cause : Fault)
+    → IsWriteRefusal size state address fault → IsWriteRefusal size state address cause
+    → fault ≡ cause
 one_write size state address fault cause h1 h2 = search rules
 
-one_value : (setting : Setting) (size : Size) (state : State) (value : ℕ) (fault cause : Fault) → IsValueRefusal setting size state value fault → IsValueRefusal setting size state value cause → fault ≡ cause
+one_value : (setting : Setting) (size : Size) (state : State) (value : ℕ) (fault cause : Fault)
+    → IsValueRefusal setting size state value fault → IsValueRefusal setting size state value cause
+    → fault ≡ cause
 one_value setting size state value fault cause h1 h2 = search (rules, one_write)
 
-pub one_named : (settings : List Setting) (name : List ℕ) (one other : Setting) → HaveRisingNames settings → IsNamed settings name one → IsNamed settings name other → one ≡ other
-one_named settings name one other rising h k = names_apart settings rising one other h.0 k.0 (h.1 ∙ sym k.1)
+pub one_named : (settings : List Setting) (name : List ℕ) (one other : Setting)
+    → HaveRisingNames settings → IsNamed settings name one → IsNamed settings name other
+    → one ≡ other
+one_named settings name one other rising h k =
+    names_apart settings rising one other h.0 k.0 (h.1 ∙ sym k.1)
 
-one_refusal : (settings : List Setting) (size : Size) (state : State) (name : List ℕ) (value : ℕ) (fault cause : Fault) → HaveRisingNames settings → cause ≢ Memory → IsSettingRefused settings size state name value fault
+one_refusal : (settings : List Setting) (size : Size) (state : State) (name : List ℕ) (value : ℕ)
+    (fault cause : Fault)
+    → HaveRisingNames settings → cause ≢ Memory
+    → IsSettingRefused settings size state name value fault
     → IsSettingRefused settings size state name value cause → (fault ≡ cause) ⊎ (fault ≡ Memory)
 one_refusal settings size state name value fault cause rising some (inr (inr h)) k = inr h
-one_refusal settings size state name value fault cause rising some (inl h) (inr (inr k)) = absurd (some k)
-one_refusal settings size state name value fault cause rising some (inl h) (inl k) = inl (h.1 ∙ sym k.1)
-one_refusal settings size state name value fault cause rising some (inl h) (inr (inl k)) = absurd (h.0 k.0 k.1)
-one_refusal settings size state name value fault cause rising some (inr (inl h)) (inr (inr k)) = absurd (some k)
-one_refusal settings size state name value fault cause rising some (inr (inl h)) (inl k) = absurd (k.0 h.0 h.1)
+one_refusal settings size state name value fault cause rising some (inl h) (inr (inr k)) =
+    absurd (some k)
+one_refusal settings size state name value fault cause rising some (inl h) (inl k) =
+    inl (h.1 ∙ sym k.1)
+one_refusal settings size state name value fault cause rising some (inl h) (inr (inl k)) =
+    absurd (h.0 k.0 k.1)
+one_refusal settings size state name value fault cause rising some (inr (inl h)) (inr (inr k)) =
+    absurd (some k)
+one_refusal settings size state name value fault cause rising some (inr (inl h)) (inl k) =
+    absurd (k.0 h.0 h.1)
 one_refusal settings size state name value fault cause rising some (inr (inl h)) (inr (inl k)) =
-    inl (one_value h.0 size state value fault cause h.2 (subst (λ (s : Setting). IsValueRefusal s size state value cause) (one_named settings name k.0 h.0 rising k.1 h.1) k.2))
+    inl
+    (one_value h.0 size state value fault cause h.2
+    (subst (λ (s : Setting). IsValueRefusal s size state value cause)
+    (one_named settings name k.0 h.0 rising k.1 h.1) k.2))
 
-accepted_write : (size : Size) (state : State) (address value : ℕ) (cause : Fault) → IsAccepted (slot_count size) state (Put address value ∷ []) → IsWriteRefusal size state address cause → ⊥
+accepted_write : (size : Size) (state : State) (address value : ℕ) (cause : Fault)
+    → IsAccepted (slot_count size) state (Put address value ∷ [])
+    → IsWriteRefusal size state address cause → ⊥
 accepted_write size state address value cause accepted (inl h) = accepted.has_place h.0
 accepted_write size state address value cause accepted (inr h) = accepted.not_spent h.1
 
-accepted_value : (setting : Setting) (size : Size) (state : State) (value : ℕ) (cause : Fault) → IsInRange setting.numbers value → IsAccepted (slot_count size) state (Put setting.numbers.address value ∷ [])
+accepted_value : (setting : Setting) (size : Size) (state : State) (value : ℕ) (cause : Fault)
+    → IsInRange setting.numbers value
+    → IsAccepted (slot_count size) state (Put setting.numbers.address value ∷ [])
     → IsValueRefusal setting size state value cause → ⊥
 accepted_value setting size state value cause within accepted (inl h) = h.0 within
-accepted_value setting size state value cause within accepted (inr h) = accepted_write size state setting.numbers.address value cause accepted h.1
+accepted_value setting size state value cause within accepted (inr h) =
+    accepted_write size state setting.numbers.address value cause accepted h.1
 
-pub accepted_by : (old new : Device) (address value : ℕ) → IsWriteServed old address value new → IsAccepted (slot_count old.size) (state_of old) (Put address value ∷ [])
+pub accepted_by : (old new : Device) (address value : ℕ) → IsWriteServed old address value new
+    → IsAccepted (slot_count old.size) (state_of old) (Put address value ∷ [])
 accepted_by old new address value (inl h) = h.0.step.0
 accepted_by old new address value (inr h) = h.0.step.0
 
-written_good : (settings : List Setting) (old new : Device) (name : List ℕ) (value : ℕ) (cause : Fault) → HaveRisingNames settings → cause ≢ Memory → IsWritten settings old name value new
+written_good : (settings : List Setting) (old new : Device) (name : List ℕ) (value : ℕ)
+    (cause : Fault)
+    → HaveRisingNames settings → cause ≢ Memory → IsWritten settings old name value new
     → IsSettingRefused settings old.size (state_of old) name value cause → ⊥
-written_good settings old new name value cause rising some done (inl h) = h.0 done.setting done.named
+written_good settings old new name value cause rising some done (inl h) =
+    h.0 done.setting done.named
 written_good settings old new name value cause rising some done (inr (inr h)) = some h
 written_good settings old new name value cause rising some done (inr (inl h)) =
-    accepted_value done.setting old.size (state_of old) value cause done.in_range (accepted_by old new done.setting.numbers.address value done.served)
-    (subst (λ (s : Setting). IsValueRefusal s old.size (state_of old) value cause) (one_named settings name h.0 done.setting rising h.1 done.named) h.2)
+    accepted_value done.setting old.size (state_of old) value cause done.in_range
+    (accepted_by old new done.setting.numbers.address value done.served)
+    (subst (λ (s : Setting). IsValueRefusal s old.size (state_of old) value cause)
+    (one_named settings name h.0 done.setting rising h.1 done.named) h.2)
 
 -- what refuses a value in the image refuses it in its store
-refused_there : (image text name : List ℕ) (value : ℕ) (store : Device) (settings : List Setting) (cause : Fault) → IsOpened image store → SpellsSettings text settings → IsRefusedIn image text name value cause
+refused_there : (image text name : List ℕ) (value : ℕ) (store : Device) (settings : List Setting)
+    (cause : Fault)
+    → IsOpened image store → SpellsSettings text settings → IsRefusedIn image text name value cause
     → IsSettingRefused settings store.size (state_of store) name value cause
 refused_there image text name value store settings cause opened spelled h =
     let rest = same_at_rest image h.device opened.device h.old.spelled opened.old.spelled in
-    let size : h.device.size ≡ store.size = ap (λ (d : Device). d.size) rest ∙ sym opened.same_size in
-    let state : state_of h.device ≡ state_of store = same_state h.device opened.device rest ∙ sym opened.state_is in
-    subst (λ (ss : List Setting). IsSettingRefused ss store.size (state_of store) name value cause) (spelled_once text h.settings settings h.spelled spelled)
+    let size : h.device.size ≡ store.size =
+    ap (λ (d : Device). d.size) rest ∙ sym opened.same_size in
+    let state : state_of h.device ≡ state_of store =
+    same_state h.device opened.device rest ∙ sym opened.state_is in
+    subst (λ (ss : List Setting). IsSettingRefused ss store.size (state_of store) name value cause)
+    (spelled_once text h.settings settings h.spelled spelled)
     (subst (λ (s : Size). IsSettingRefused h.settings s (state_of store) name value cause) size
-    (subst (λ (t : State). IsSettingRefused h.settings h.device.size t name value cause) state h.refused))
+    (subst (λ (t : State). IsSettingRefused h.settings h.device.size t name value cause) state
+    h.refused))
 
-pub refused_once : (image text name : List ℕ) (value : ℕ) (store : Device) (settings : List Setting) (fault cause : Fault) → IsOpened image store → SpellsSettings text settings
-    → IsSettingRefused settings store.size (state_of store) name value fault → cause ≢ Memory → IsRefusedIn image text name value cause → (fault ≡ cause) ⊎ (fault ≡ Memory)
+pub refused_once : (image text name : List ℕ) (value : ℕ) (store : Device) (settings : List Setting)
+    (fault cause : Fault)
+    → IsOpened image store → SpellsSettings text settings
+    → IsSettingRefused settings store.size (state_of store) name value fault → cause ≢ Memory
+    → IsRefusedIn image text name value cause → (fault ≡ cause) ⊎ (fault ≡ Memory)
 refused_once image text name value store settings fault cause opened spelled refused some h =
-    one_refusal settings store.size (state_of store) name value fault cause spelled.schema.1 some refused (refused_there image text name value store settings cause opened spelled h)
+    one_refusal settings store.size (state_of store) name value fault cause spelled.schema.1 some
+    refused (refused_there image text name value store settings cause opened spelled h)
 
-pub set_good : (image text name : List ℕ) (value : ℕ) (store new : Device) (settings : List Setting) (cause : Fault) → IsOpened image store → SpellsSettings text settings → IsWritten settings store name value new
+pub set_good : (image text name : List ℕ) (value : ℕ) (store new : Device) (settings : List Setting)
+    (cause : Fault)
+    → IsOpened image store → SpellsSettings text settings → IsWritten settings store name value new
     → cause ≢ Memory → IsRefusedIn image text name value cause → ⊥
 set_good image text name value store new settings cause opened spelled done some h =
-    written_good settings store new name value cause spelled.schema.1 some done (refused_there image text name value store settings cause opened spelled h)
+    written_good settings store new name value cause spelled.schema.1 some done
+    (refused_there image text name value store settings cause opened spelled h)

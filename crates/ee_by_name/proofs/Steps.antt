@@ -26,75 +26,151 @@ use Rattle.ee_by_name.specs.Applying.{Applies, IsEntryRefusal, IsWriteRefusalAt,
 -- ---- one entry
 
 integer_is : (tree : Data) (number : ℤ) → as_integer tree ≡ Some number → tree ≡ integer number
-integer_is tree number h = let found : ◌≡◌ {A = Option Data} (Some tree) (Some (integer number)) = integer_found (Some tree) number h in cc found
+integer_is tree number h =
+    let found : ◌≡◌ {A = Option Data} (Some tree) (Some (integer number)) =
+    integer_found (Some tree) number h in
+    cc found
 
 -- no number is found
-pub bad_value : (settings : List Setting) (size : Size) (state : State) (number : ℕ) (name : List ℕ) (tree : Data) → as_integer tree ≡ None → IsEntryRefusal settings size state number (name, tree) (BadValue number)
-bad_value settings size state number name tree none = inl ((λ n is. let some : as_integer tree ≡ Some n = ap as_integer is in cc (none, some)), refl)
+pub bad_value : (settings : List Setting) (size : Size) (state : State) (number : ℕ) (name : List ℕ)
+    (tree : Data)
+    → as_integer tree ≡ None
+    → IsEntryRefusal settings size state number (name, tree) (BadValue number)
+bad_value settings size state number name tree none =
+    inl ((λ n is. let some : as_integer tree ≡ Some n = ap as_integer is in cc (none, some)), refl)
 
-pub unknown_value : (settings : List Setting) (size : Size) (state : State) (number : ℕ) (name : List ℕ) (tree : Data) (n : ℤ) → as_integer tree ≡ Some n → IsUnknown settings name
+pub unknown_value : (settings : List Setting) (size : Size) (state : State) (number : ℕ)
+    (name : List ℕ) (tree : Data) (n : ℤ)
+    → as_integer tree ≡ Some n → IsUnknown settings name
     → IsEntryRefusal settings size state number (name, tree) (UnknownValue number)
-unknown_value settings size state number name tree n some unknown = inr (inl (n, integer_is tree n some, unknown, refl))
+unknown_value settings size state number name tree n some unknown =
+    inr (inl (n, integer_is tree n some, unknown, refl))
 
-pub value_out_of_range : (settings : List Setting) (size : Size) (state : State) (number : ℕ) (name : List ℕ) (tree : Data) (n : ℤ) (numbers : Numbers) → as_integer tree ≡ Some n → IsNumbersOf settings name numbers
-    → ((value : ℕ) → IsInRange numbers value → n ≢ pos value) → IsEntryRefusal settings size state number (name, tree) (ValueOutOfRange number numbers.min numbers.max)
+pub value_out_of_range : (settings : List Setting) (size : Size) (state : State) (number : ℕ)
+    (name : List ℕ) (tree : Data) (n : ℤ) (numbers : Numbers)
+    → as_integer tree ≡ Some n → IsNumbersOf settings name numbers
+    → ((value : ℕ) → IsInRange numbers value → n ≢ pos value)
+    → IsEntryRefusal settings size state number (name, tree)
+    (ValueOutOfRange number numbers.min numbers.max)
 value_out_of_range settings size state number name tree n numbers some h out =
-    inr (inr (n, integer_is tree n some, h.1, h.2, inl ((λ value within. out value (subst (λ (ns : Numbers). IsInRange ns value) h.3 within)), ap (λ (ns : Numbers). ValueOutOfRange number ns.min ns.max) (sym h.3))))
+    inr
+    (inr (
+      n,
+      integer_is tree n some,
+      h.1,
+      h.2,
+      inl (
+        (λ value within.
+            out value (subst (λ (ns : Numbers). IsInRange ns value) h.3 within)),
+        ap (λ (ns : Numbers). ValueOutOfRange number ns.min ns.max) (sym h.3),
+      ),
+    ))
 
-value_is : (tree : Data) (n : ℤ) (value : ℕ) → as_integer tree ≡ Some n → n ≡ pos value → tree ≡ integer (pos value)
+value_is : (tree : Data) (n : ℤ) (value : ℕ) → as_integer tree ≡ Some n → n ≡ pos value
+    → tree ≡ integer (pos value)
 value_is tree n value some is = integer_is tree n some ∙ ap integer is
 
 -- its value is stored already
-pub taken_stored : (settings : List Setting) (device : Device) (name : List ℕ) (tree : Data) (n : ℤ) (numbers : Numbers) (value : ℕ) → as_integer tree ≡ Some n → IsNumbersOf settings name numbers
-    → (n ≡ pos value) × IsInRange numbers value → (state_of device).map numbers.address ≡ Some value → TakesEntry settings device (name, tree) 0 device
-taken_stored settings device name tree n numbers value some h within stored = search (rules, value_is)
+pub taken_stored : (settings : List Setting) (device : Device) (name : List ℕ) (tree : Data) (n : ℤ)
+    (numbers : Numbers) (value : ℕ)
+    → as_integer tree ≡ Some n → IsNumbersOf settings name numbers
+    → (n ≡ pos value) × IsInRange numbers value → (state_of device).map numbers.address ≡ Some value
+    → TakesEntry settings device (name, tree) 0 device
+taken_stored settings device name tree n numbers value some h within stored =
+    search (rules, value_is)
 
 -- it was written
-pub taken_new : (settings : List Setting) (old new : Device) (name : List ℕ) (tree : Data) (n : ℤ) (numbers : Numbers) (value : ℕ) (answer : Written) → StaysOn old → as_integer tree ≡ Some n → IsNumbersOf settings name numbers
-    → (n ≡ pos value) × IsInRange numbers value → (state_of old).map numbers.address ≢ Some value → Writes old numbers.address value (Ok answer) new → TakesEntry settings old (name, tree) 1 new
+pub taken_new : (settings : List Setting) (old new : Device) (name : List ℕ) (tree : Data) (n : ℤ)
+    (numbers : Numbers) (value : ℕ) (answer : Written)
+    → StaysOn old → as_integer tree ≡ Some n → IsNumbersOf settings name numbers
+    → (n ≡ pos value) × IsInRange numbers value → (state_of old).map numbers.address ≢ Some value
+    → Writes old numbers.address value (Ok answer) new → TakesEntry settings old (name, tree) 1 new
 taken_new settings old new name tree n numbers value answer on some h within another writes = inr (
   record {
     value = value;
     number = value_is tree n value some within.0;
     setting = h.1;
     named = h.2;
-    another = λ same. another (ap (λ (ns : Numbers). (state_of old).map ns.address) (sym h.3) ∙ same);
-    written = is_written settings old new name value answer on
-        (h.1, h.2, subst (λ (ns : Numbers). IsInRange ns value) (sym h.3) within.1, subst (λ (ns : Numbers). Writes old ns.address value (Ok answer) new) (sym h.3) writes);
+    another =
+        λ same. another (ap (λ (ns : Numbers). (state_of old).map ns.address) (sym h.3) ∙ same);
+    written = is_written settings old new name value answer on (
+      h.1,
+      h.2,
+      subst (λ (ns : Numbers). IsInRange ns value) (sym h.3) within.1,
+      subst (λ (ns : Numbers). Writes old ns.address value (Ok answer) new) (sym h.3) writes,
+    );
   },
   refl,
 )
 
 -- its write was refused
-pub unwritten : (settings : List Setting) (old : Device) (number : ℕ) (name : List ℕ) (tree : Data) (n : ℤ) (numbers : Numbers) (value : ℕ) (fault : Fault) → as_integer tree ≡ Some n → IsNumbersOf settings name numbers
-    → (n ≡ pos value) × IsInRange numbers value → (state_of old).map numbers.address ≢ Some value → IsWriteRefusalAt old.size (state_of old) number numbers.address fault ⊎ (fault ≡ Memory)
+pub unwritten : (settings : List Setting) (old : Device) (number : ℕ) (name : List ℕ) (tree : Data)
+    (n : ℤ) (numbers : Numbers) (value : ℕ) (fault : Fault)
+    → as_integer tree ≡ Some n → IsNumbersOf settings name numbers
+    → (n ≡ pos value) × IsInRange numbers value → (state_of old).map numbers.address ≢ Some value
+    → IsWriteRefusalAt old.size (state_of old) number numbers.address fault ⊎ (fault ≡ Memory)
     → IsEntryRefusal settings old.size (state_of old) number (name, tree) fault ⊎ (fault ≡ Memory)
-unwritten settings old number name tree n numbers value fault some h within another (inr none) = inr none
+unwritten settings old number name tree n numbers value fault some h within another (inr none) =
+    inr none
 unwritten settings old number name tree n numbers value fault some h within another (inl refused) =
     let in_range = subst (λ (ns : Numbers). IsInRange ns value) (sym h.3) within.1 in
-    let there = subst (λ (ns : Numbers). IsWriteRefusalAt old.size (state_of old) number ns.address fault) (sym h.3) refused in
-    inl (inr (inr (n, integer_is tree n some, h.1, h.2, inr (value, within.0, in_range, (λ same. another (ap (λ (ns : Numbers). (state_of old).map ns.address) (sym h.3) ∙ same)), there))))
+    let there =
+    subst (λ (ns : Numbers). IsWriteRefusalAt old.size (state_of old) number ns.address fault)
+    (sym h.3) refused in
+    inl
+    (inr
+    (inr (
+      n,
+      integer_is tree n some,
+      h.1,
+      h.2,
+      inr (
+        value,
+        within.0,
+        in_range,
+        (λ same. another
+            (ap (λ (ns : Numbers). (state_of old).map ns.address) (sym h.3)
+            ∙ same)),
+        there,
+      ),
+    )))
 
 -- ---- all of them
 
-pub as_many : (yielded : List (Bor (String Global) × Bor Value)) → length (map seen (map deref_pair yielded)) ≡ length yielded
+pub as_many : (yielded : List (Bor (String Global) × Bor Value))
+    → length (map seen (map deref_pair yielded)) ≡ length yielded
 as_many yielded = length-map (map deref_pair yielded) seen ∙ length-map yielded deref_pair
 
-pub entry_taken : (settings : List Setting) (before grown : List Entry) (name text : List ℕ) (tree : Data) (old mid new : Device) (count more : ℕ) → grown ≡ before ++ (text, tree) ∷ [] → name ≡ text
-    → Applies settings before old count mid → TakesEntry settings mid (name, tree) more new → Applies settings grown old (count + more) new
-entry_taken settings before grown name text tree old mid new count more grows same h takes = search (rules, applied_more)
+pub entry_taken : (settings : List Setting) (before grown : List Entry) (name text : List ℕ)
+    (tree : Data) (old mid new : Device) (count more : ℕ)
+    → grown ≡ before ++ (text, tree) ∷ [] → name ≡ text → Applies settings before old count mid
+    → TakesEntry settings mid (name, tree) more new → Applies settings grown old (count + more) new
+entry_taken settings before grown name text tree old mid new count more grows same h takes =
+    search (rules, applied_more)
 
-pub entry_refused : (settings : List Setting) (all before after : List Entry) (name text : List ℕ) (tree : Data) (old mid : Device) (count number : ℕ) (fault : Fault) → all ≡ before ++ (text, tree) ∷ after → name ≡ text
-    → number ≡ length before + 1 → Applies settings before old count mid → IsEntryRefusal settings mid.size (state_of mid) number (name, tree) fault ⊎ (fault ≡ Memory)
+pub entry_refused : (settings : List Setting) (all before after : List Entry) (name text : List ℕ)
+    (tree : Data) (old mid : Device) (count number : ℕ) (fault : Fault)
+    → all ≡ before ++ (text, tree) ∷ after → name ≡ text → number ≡ length before + 1
+    → Applies settings before old count mid
+    → IsEntryRefusal settings mid.size (state_of mid) number (name, tree) fault ⊎ (fault ≡ Memory)
     → StopsAtEntry settings all old fault ⊎ (fault ≡ Memory)
-entry_refused settings all before after name text tree old mid count number fault split same at h (inr none) = inr none
-entry_refused settings all before after name text tree old mid count number fault split same at h (inl refused) = inl (record {
-  before = before;
-  entry = (text, tree);
-  after = after;
-  split = split;
-  count = count;
-  mid = mid;
-  applied = h;
-  refused = subst (λ n. IsEntryRefusal settings mid.size (state_of mid) n (text, tree) fault) at (subst (λ (t : List ℕ). IsEntryRefusal settings mid.size (state_of mid) number (t, tree) fault) same refused);
-})
+entry_refused settings all before after name text tree old mid count number fault split same at h
+    (inr none) =
+    inr none
+entry_refused settings all before after name text tree old mid count number fault split same at h
+    (inl refused) =
+    inl (record {
+      before = before;
+      entry = (text, tree);
+      after = after;
+      split = split;
+      count = count;
+      mid = mid;
+      applied = h;
+      refused =
+          subst (λ n. IsEntryRefusal settings mid.size (state_of mid) n (text, tree) fault) at
+          (subst
+          (λ (t : List ℕ).
+          IsEntryRefusal settings mid.size (state_of mid) number (t, tree) fault) same
+          refused);
+    })

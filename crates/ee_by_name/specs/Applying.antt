@@ -29,7 +29,8 @@ pub record IsStored (settings : List Setting) (device : Device) (entry : Entry) 
   pub stored : (state_of device).map setting.numbers.address ≡ Some value
 
 -- that address had another value or none, and the entry's was written
-pub record IsNewlyWritten (settings : List Setting) (old : Device) (entry : Entry) (new : Device) : Type 0 where
+pub record IsNewlyWritten (settings : List Setting) (old : Device) (entry : Entry) (new : Device)
+    : Type 0 where
   pub value : ℕ
   pub number : entry.1 ≡ integer (pos value)
   pub setting : Setting
@@ -40,7 +41,8 @@ pub record IsNewlyWritten (settings : List Setting) (old : Device) (entry : Entr
 -- the entry was taken by so many writes: by none, and nothing changed, or by one
 abbrev pub TakesEntry : List Setting → Device → Entry → ℕ → Device → Type 0
 TakesEntry settings old entry count new =
-    (IsStored settings old entry × (count ≡ 0) × (new ≡ old)) ⊎ (IsNewlyWritten settings old entry new × (count ≡ 1))
+    (IsStored settings old entry × (count ≡ 0) × (new ≡ old))
+    ⊎ (IsNewlyWritten settings old entry new × (count ≡ 1))
 
 -- the entries were taken, one after another, by so many writes
 abbrev pub Applies : List Setting → List Entry → Device → ℕ → Device → Type 0
@@ -51,7 +53,8 @@ Applies settings (entry ∷ entries) old count new =
 
 -- how many of the entries were written, as `apply` prints it
 abbrev pub applied_text : ℕ → ℕ → List ℕ
-applied_text count entries = line_of (joined_fields (codes "applied" ∷ decimal count ∷ codes "of" ∷ decimal entries ∷ []))
+applied_text count entries =
+    line_of (joined_fields (codes "applied" ∷ decimal count ∷ codes "of" ∷ decimal entries ∷ []))
 
 -- Each entry of the text of values was taken, by rising name, by the store that was
 -- opened from the image.
@@ -82,13 +85,15 @@ IsOutOfRange setting number = (value : ℕ) → IsInRange setting.numbers value 
 abbrev pub IsWriteRefusalAt : Size → State → ℕ → ℕ → Fault → Type 0
 IsWriteRefusalAt size state entry address fault =
     (IsFull (slot_count size) state address × (fault ≡ FullAt entry))
-    ⊎ (¬ IsFull (slot_count size) state address × IsSpent (slot_count size) state × (fault ≡ SpentAt entry))
+    ⊎ (¬ IsFull (slot_count size) state address × IsSpent (slot_count size) state
+    × (fault ≡ SpentAt entry))
 
 -- why a number is not set for the setting, the first cause that applies: it is not in the range; or
 -- it isn't stored already, and is not written
 abbrev pub IsNumberRefusal : Setting → Size → State → ℕ → ℤ → Fault → Type 0
 IsNumberRefusal setting size state entry number fault =
-    (IsOutOfRange setting number × (fault ≡ ValueOutOfRange entry setting.numbers.min setting.numbers.max))
+    (IsOutOfRange setting number
+    × (fault ≡ ValueOutOfRange entry setting.numbers.min setting.numbers.max))
     ⊎ ((value : ℕ) × (number ≡ pos value) × IsInRange setting.numbers value
     × (state.map setting.numbers.address ≢ Some value)
     × IsWriteRefusalAt size state entry setting.numbers.address fault)
@@ -98,13 +103,16 @@ IsNumberRefusal setting size state entry number fault =
 abbrev pub IsEntryRefusal : List Setting → Size → State → ℕ → Entry → Fault → Type 0
 IsEntryRefusal settings size state number entry fault =
     (IsNoNumber entry.1 × (fault ≡ BadValue number))
-    ⊎ ((value : ℤ) × (entry.1 ≡ integer value) × IsUnknown settings entry.0 × (fault ≡ UnknownValue number))
-    ⊎ ((value : ℤ) × (entry.1 ≡ integer value) × (setting : Setting) × IsNamed settings entry.0 setting
+    ⊎ ((value : ℤ) × (entry.1 ≡ integer value) × IsUnknown settings entry.0
+    × (fault ≡ UnknownValue number))
+    ⊎ ((value : ℤ) × (entry.1 ≡ integer value) × (setting : Setting)
+    × IsNamed settings entry.0 setting
     × IsNumberRefusal setting size state number value fault)
 
 -- an entry is the first that is refused, counted from 1: those before it were taken, and it is
 -- refused by what they left
-pub record StopsAtEntry (settings : List Setting) (entries : List Entry) (old : Device) (fault : Fault) : Type 0 where
+pub record StopsAtEntry (settings : List Setting) (entries : List Entry) (old : Device)
+    (fault : Fault) : Type 0 where
   pub before : List Entry
   pub entry : Entry
   pub after : List Entry
@@ -142,28 +150,36 @@ IsApplyFault image settings_text values_text fault =
 -- one of the entries names a setting with this address
 abbrev pub NamesAddress : List Setting → List Entry → ℕ → Type 0
 NamesAddress settings entries address =
-    (entry : Entry) × Contains entries entry × (setting : Setting) × IsNamed settings entry.0 setting
+    (entry : Entry) × Contains entries entry × (setting : Setting)
+    × IsNamed settings entry.0 setting
     × (setting.numbers.address ≡ address)
 
 -- each entry's value is stored, and every other address is as before
-pub record IsMapApplied (settings : List Setting) (entries : List Entry) (old new : Device) : Type 0 where
+pub record IsMapApplied (settings : List Setting) (entries : List Entry) (old new : Device)
+    : Type 0 where
   pub stored : All (IsStored settings new) entries
-  pub others : (address : ℕ) → ¬ NamesAddress settings entries address → (state_of new).map address ≡ (state_of old).map address
+  pub others : (address : ℕ) → ¬ NamesAddress settings entries address
+      → (state_of new).map address ≡ (state_of old).map address
 
 abbrev pub ApplyingStoresValues : Type 0
-ApplyingStoresValues = (settings : List Setting) → IsSchema settings → (entries : List Entry) → HaveRisingKeys entries
-    → (old new : Device) (count : ℕ) → Applies settings entries old count new → IsMapApplied settings entries old new
+ApplyingStoresValues =
+    (settings : List Setting) → IsSchema settings → (entries : List Entry) → HaveRisingKeys entries
+    → (old new : Device) (count : ℕ) → Applies settings entries old count new
+    → IsMapApplied settings entries old new
 
 -- applied once more, they write nothing
 abbrev pub ApplyingTwiceWritesNothing : Type 0
-ApplyingTwiceWritesNothing = (settings : List Setting) → IsSchema settings → (entries : List Entry) → HaveRisingKeys entries
-    → (old new : Device) (count : ℕ) → Applies settings entries old count new → Applies settings entries new 0 new
+ApplyingTwiceWritesNothing =
+    (settings : List Setting) → IsSchema settings → (entries : List Entry) → HaveRisingKeys entries
+    → (old new : Device) (count : ℕ) → Applies settings entries old count new
+    → Applies settings entries new 0 new
 
 -- ---- for the functions within
 
 -- each entry was taken and the store left the image, with the line that says how many
 -- of them were written
-pub record LeavesApplied (settings : List Setting) (entries : List Entry) (store : Device) (image line : List ℕ) : Type 0 where
+pub record LeavesApplied (settings : List Setting) (entries : List Entry) (store : Device)
+    (image line : List ℕ) : Type 0 where
   pub count : ℕ
   pub last : Device
   pub applied : Applies settings entries store count last

@@ -31,7 +31,9 @@ name_words settings (Some entry) = name_of (entry_of settings entry) ∷ []
 -- the line of an address: its number, what it holds, its setting's name
 abbrev pub listed_line : List Setting → Listed → List ℕ
 listed_line settings listed =
-    line_of (joined_fields (decimal listed.address ∷ held_words listed.held ++ name_words settings listed.entry))
+    line_of
+    (joined_fields
+    (decimal listed.address ∷ held_words listed.held ++ name_words settings listed.entry))
 
 -- a line for each, by rising address
 abbrev pub listed_lines : List Setting → List Listed → List ℕ

@@ -24,7 +24,8 @@ name_of (Some setting) = setting.name
 
 -- a stale entry, as `stale` prints it: its name and its stored value
 abbrev pub stale_line : List Setting → Stale → List ℕ
-stale_line settings stale = line_of (joined_fields (name_of (entry_of settings stale.entry) ∷ decimal stale.value ∷ []))
+stale_line settings stale =
+    line_of (joined_fields (name_of (entry_of settings stale.entry) ∷ decimal stale.value ∷ []))
 
 -- a line for each, by rising entry
 abbrev pub stale_lines : List Setting → List Stale → List ℕ
@@ -46,10 +47,13 @@ tidied_text count = line_of (joined_fields (codes "tidied" ∷ decimal count ∷
 
 -- The store was tidied: it has the values of the settings' addresses and no others, its state is
 -- what the forgettings made of it, and power and size stay.
-pub record IsTidied (settings : List Setting) (old : Device) (count : ℕ) (new : Device) : Type 0 where
+pub record IsTidied (settings : List Setting) (old : Device) (count : ℕ) (new : Device)
+    : Type 0 where
   pub tidied : Tidies settings old (Ok count) new
-  pub map_is : (address : ℕ) → (state_of new).map address ≡ kept_map settings (state_of old).map address
-  pub state_is : state_of new ≡ after_forgettings old.size (unnamed_in settings (state_of old).map) (state_of old)
+  pub map_is : (address : ℕ)
+      → (state_of new).map address ≡ kept_map settings (state_of old).map address
+  pub state_is : state_of new
+      ≡ after_forgettings old.size (unnamed_in settings (state_of old).map) (state_of old)
   pub stays_on : StaysOn new
   pub same_size : new.size ≡ old.size
 
@@ -64,7 +68,8 @@ pub record IsTidiedImage (old_image settings_text new_image line : List ℕ) : T
   pub count : ℕ
   pub last : Device
   pub tidied : Tidies settings store (Ok count) last
-  pub map_is : (address : ℕ) → (state_of last).map address ≡ kept_map settings (state_of opened.device).map address
+  pub map_is : (address : ℕ)
+      → (state_of last).map address ≡ kept_map settings (state_of opened.device).map address
   pub state_is : let old = state_of opened.device in
       state_of last ≡ after_forgettings opened.device.size (unnamed_in settings old.map) old
   pub left : IsStoreLeft opened.device.size new_image last
@@ -86,13 +91,15 @@ pub record IsSpentFor (image settings_text : List ℕ) (fault : Fault) : Type 0 
 -- no settings; or the store is spent
 abbrev pub IsTidyImageFault : List ℕ → List ℕ → Fault → Type 0
 IsTidyImageFault image settings_text fault =
-    IsOpeningFault image fault ⊎ (HasStore image × IsSettingsFault settings_text fault) ⊎ IsSpentFor image settings_text fault
+    IsOpeningFault image fault ⊎ (HasStore image × IsSettingsFault settings_text fault)
+    ⊎ IsSpentFor image settings_text fault
 
 -- ---- for the functions within
 
 -- the store was tidied and left the image, with the line that says how many
 -- addresses were forgotten
-pub record LeavesTidied (settings : List Setting) (store : Device) (image line : List ℕ) : Type 0 where
+pub record LeavesTidied (settings : List Setting) (store : Device) (image line : List ℕ)
+    : Type 0 where
   pub count : ℕ
   pub last : Device
   pub tidied : IsTidied settings store count last

@@ -61,7 +61,8 @@ pub record HasSchemaFault (text : List ℕ) (fault : Fault) : Type 0 where
 
 -- why a text spells no settings: it has no tree; or its tree is no schema; or memory ran out
 abbrev pub IsSettingsFault : List ℕ → Fault → Type 0
-IsSettingsFault text fault = ((fault ≡ SettingsText) × HasNoTree text) ⊎ HasSchemaFault text fault ⊎ (fault ≡ Memory)
+IsSettingsFault text fault =
+    ((fault ≡ SettingsText) × HasNoTree text) ⊎ HasSchemaFault text fault ⊎ (fault ≡ Memory)
 
 -- ---- what is read
 
@@ -96,7 +97,8 @@ IsWriteServed old address value new =
 
 -- The value is in the range of the name's setting, and one write of it at the setting's address was
 -- served, as the report machine answers a write.
-pub record IsWritten (settings : List Setting) (old : Device) (name : List ℕ) (value : ℕ) (new : Device) : Type 0 where
+pub record IsWritten (settings : List Setting) (old : Device) (name : List ℕ) (value : ℕ)
+    (new : Device) : Type 0 where
   pub setting : Setting
   pub named : IsNamed settings name setting
   pub in_range : IsInRange setting.numbers value
@@ -107,7 +109,8 @@ pub record IsWritten (settings : List Setting) (old : Device) (name : List ℕ) 
 
 -- The store of the image was opened, and the value was written for the name's setting; so the write
 -- was served from the state that the image says.
-pub record IsSet (old_image settings_text name : List ℕ) (value : ℕ) (new_image line : List ℕ) : Type 0 where
+pub record IsSet (old_image settings_text name : List ℕ) (value : ℕ) (new_image line : List ℕ)
+    : Type 0 where
   pub device : Device
   pub store : Device
   pub last : Device
@@ -131,14 +134,16 @@ IsWriteRefusal size state address fault =
 -- why a value is not set for a setting, the first cause that applies
 abbrev pub IsValueRefusal : Setting → Size → State → ℕ → Fault → Type 0
 IsValueRefusal setting size state value fault =
-    (¬ IsInRange setting.numbers value × (fault ≡ OutOfRange setting.numbers.min setting.numbers.max))
+    (¬ IsInRange setting.numbers value
+    × (fault ≡ OutOfRange setting.numbers.min setting.numbers.max))
     ⊎ (IsInRange setting.numbers value × IsWriteRefusal size state setting.numbers.address fault)
 
 -- why a value is not set for a name, the first cause that applies; or memory ran out
 abbrev pub IsSettingRefused : List Setting → Size → State → List ℕ → ℕ → Fault → Type 0
 IsSettingRefused settings size state name value fault =
     (IsUnknown settings name × (fault ≡ UnknownName))
-    ⊎ ((setting : Setting) × IsNamed settings name setting × IsValueRefusal setting size state value fault)
+    ⊎ ((setting : Setting) × IsNamed settings name setting
+    × IsValueRefusal setting size state value fault)
     ⊎ (fault ≡ Memory)
 
 -- the name of no setting that the text spells
@@ -162,7 +167,8 @@ IsGetFault image settings_text name fault =
     ⊎ (HasStore image × IsUnknownIn settings_text name × (fault ≡ UnknownName))
 
 -- the value is not set for the name in the image
-pub record IsRefusedIn (image settings_text name : List ℕ) (value : ℕ) (fault : Fault) : Type 0 where
+pub record IsRefusedIn (image settings_text name : List ℕ) (value : ℕ) (fault : Fault)
+    : Type 0 where
   pub device : Device
   pub old : IsStoreText image device
   pub settings : List Setting
@@ -182,11 +188,13 @@ IsSetFault image settings_text name value fault =
 -- the line is the reading of the name's setting in a state's map
 abbrev pub IsReadingLine : List Setting → State → List ℕ → List ℕ → Type 0
 IsReadingLine settings state name line =
-    (reading : Reading) × IsSettingRead settings state name reading × (line ≡ line_of (reading_text reading))
+    (reading : Reading) × IsSettingRead settings state name reading
+    × (line ≡ line_of (reading_text reading))
 
 -- the value was written for the name's setting, and the store left the image, with
 -- the line that says so
-pub record LeavesSet (settings : List Setting) (store : Device) (name : List ℕ) (value : ℕ) (image line : List ℕ) : Type 0 where
+pub record LeavesSet (settings : List Setting) (store : Device) (name : List ℕ) (value : ℕ)
+    (image line : List ℕ) : Type 0 where
   pub last : Device
   pub written : IsWritten settings store name value last
   pub left : IsStoreLeft last.size image last

@@ -12,7 +12,11 @@ no_slots = record { slots = 0; fill = 0; live = [] }
 
 -- `some_is_tight` needs that the trace keeps within the slots: where there are none, a single write
 -- has no tight certificate, since that would be met by a schedule
-pub some_is_tight_needs_slots : ((start : Situation) (trace : List Change) → IsProper start → (claim : Claim) × IsTight start trace claim) → ⊥
+pub some_is_tight_needs_slots
+    :
+    ((start : Situation) (trace : List Change) → IsProper start
+    → (claim : Claim) × IsTight start trace claim)
+    → ⊥
 some_is_tight_needs_slots law =
     let trace : List Change = Write 1 ∷ [] in
     let proper : IsProper no_slots = record { held = omega arith; fits = omega arith } in

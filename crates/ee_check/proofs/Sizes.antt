@@ -16,9 +16,11 @@ at_most_one_more Greater k x xs more h1 = omega arith
 
 insert_key-le : (xs : List ℕ) (k : ℕ) → length (insert_key nat_cmp xs k) ≤ length xs + 1
 insert_key-le [] k = omega arith
-insert_key-le (x ∷ xs) k = at_most_one_more (nat_cmp k x) k x xs (insert_key nat_cmp xs k) (insert_key-le xs k)
+insert_key-le (x ∷ xs) k =
+    at_most_one_more (nat_cmp k x) k x xs (insert_key nat_cmp xs k) (insert_key-le xs k)
 
-no_more : (b : Bool) (x : ℕ) (xs fewer : List ℕ) → length fewer ≤ length xs → length (cond b xs (x ∷ fewer)) ≤ length (x ∷ xs)
+no_more : (b : Bool) (x : ℕ) (xs fewer : List ℕ) → length fewer ≤ length xs
+    → length (cond b xs (x ∷ fewer)) ≤ length (x ∷ xs)
 no_more true x xs fewer h1 = omega arith
 no_more false x xs fewer h1 = omega arith
 
@@ -27,5 +29,6 @@ remove_key-le test [] = omega arith
 remove_key-le test (x ∷ xs) = no_more (test x) x xs (remove_key test xs) (remove_key-le test xs)
 
 -- one more at most
-pub changed-le : (live : List ℕ) (change : Change) → length (live_after_one live change) ≤ length live + 1
+pub changed-le : (live : List ℕ) (change : Change)
+    → length (live_after_one live change) ≤ length live + 1
 changed-le live change = search (rules, insert_key-le, remove_key-le)

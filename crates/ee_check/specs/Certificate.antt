@@ -31,28 +31,35 @@ place_at start trace n = record { after = n; used = live_count start.live trace 
 -- the place at which the last of the stretches ends
 abbrev pub last_place : Situation → List Change → Place → List Stretch → Place
 last_place start trace place [] = place
-last_place start trace place (stretch ∷ stretches) = last_place start trace (place_at start trace stretch.to) stretches
+last_place start trace place (stretch ∷ stretches) =
+    last_place start trace (place_at start trace stretch.to) stretches
 
 -- The stretch goes on from the place to a later change of the trace, states how many slots are used
 -- there, and has more changes than the slots that are free: no store appends them all.
-pub record IsForced (start : Situation) (trace : List Change) (place : Place) (stretch : Stretch) : Type 0 where
+pub record IsForced (start : Situation) (trace : List Change) (place : Place) (stretch : Stretch)
+    : Type 0 where
   pub rising : place.after < stretch.to
   pub within : stretch.to ≤ length trace
   pub from_is : stretch.from ≡ place.used
   pub forced : start.slots < stretch.from + (stretch.to - place.after)
 
 -- a tight one has one change more than slots are free
-pub record IsTightStretch (start : Situation) (trace : List Change) (place : Place) (stretch : Stretch) : Type 0 where
+pub record IsTightStretch (start : Situation) (trace : List Change) (place : Place)
+    (stretch : Stretch) : Type 0 where
   pub forced : IsForced start trace place stretch
   pub tight : stretch.from + (stretch.to - place.after) ≡ start.slots + 1
 
 -- each stretch is so from where the one before it ends
-abbrev pub EachStretch : Situation → List Change → (Situation → List Change → Place → Stretch → Type 0) → Place → List Stretch → Type 0
+abbrev pub EachStretch : Situation → List Change
+    → (Situation → List Change → Place → Stretch → Type 0) → Place → List Stretch → Type 0
 EachStretch start trace is place [] = Unit {0}
-EachStretch start trace is place (stretch ∷ stretches) = is start trace place stretch × EachStretch start trace is (place_at start trace stretch.to) stretches
+EachStretch start trace is place (stretch ∷ stretches) =
+    is start trace place stretch
+    × EachStretch start trace is (place_at start trace stretch.to) stretches
 
 -- the header is the start's and the trace's
-pub record IsCertificateHeader (start : Situation) (trace : List Change) (claim : Claim) : Type 0 where
+pub record IsCertificateHeader (start : Situation) (trace : List Change) (claim : Claim)
+    : Type 0 where
   pub slots : claim.slots ≡ start.slots
   pub fill : claim.fill ≡ start.fill
   pub live : claim.live ≡ length start.live
@@ -66,7 +73,9 @@ pub record IsCertificate (start : Situation) (trace : List Change) (claim : Clai
 -- how many slots are used at the end at least, where no transfer more is made than
 -- the stretches force
 abbrev pub used_at_end : Situation → List Change → List Stretch → ℕ
-used_at_end start trace stretches = let last = last_place start trace (first_place start) stretches in last.used + (length trace - last.after)
+used_at_end start trace stretches =
+    let last = last_place start trace (first_place start) stretches in
+    last.used + (length trace - last.after)
 
 -- a tight certificate: no stretch is longer than it must be, and after the last one all
 -- changes find a free slot

@@ -24,5 +24,8 @@ live_count live changes n = length (live_after live (take n changes))
 -- no write of the trace makes more addresses live than there are slots
 abbrev pub KeepsWithin : ℕ → List ℕ → List Change → Type 0
 KeepsWithin slots live [] = Unit {0}
-KeepsWithin slots live (Write address ∷ changes) = (length (live_after_one live (Write address)) ≤ slots) × KeepsWithin slots (live_after_one live (Write address)) changes
-KeepsWithin slots live (Forget address ∷ changes) = KeepsWithin slots (live_after_one live (Forget address)) changes
+KeepsWithin slots live (Write address ∷ changes) =
+    (length (live_after_one live (Write address)) ≤ slots)
+    × KeepsWithin slots (live_after_one live (Write address)) changes
+KeepsWithin slots live (Forget address ∷ changes) =
+    KeepsWithin slots (live_after_one live (Forget address)) changes

@@ -33,7 +33,8 @@ IsAllowed s (Carry (Forget address)) = Unit {0}
 abbrev pub after_move : Situation → Move → Situation
 after_move s Copy = record s { fill = length s.live }
 after_move s (Append change) = record s { fill = s.fill + 1; live = live_after_one s.live change }
-after_move s (Carry change) = record s { fill = length (live_after_one s.live change); live = live_after_one s.live change }
+after_move s (Carry change) =
+    record s { fill = length (live_after_one s.live change); live = live_after_one s.live change }
 
 -- after all of these moves
 abbrev pub after_moves : Situation → List Move → Situation

@@ -10,11 +10,13 @@ use Rattle.ee_check.specs.Certificate.{Claim}
 -- what the first line says
 abbrev pub heading : ℕ → ℕ → ℕ → ℕ → List ℕ
 heading slots fill live writes = joined_fields
-    (codes "slots" ∷ decimal slots ∷ codes "fill" ∷ decimal fill ∷ codes "live" ∷ decimal live ∷ codes "writes" ∷ decimal writes ∷ [])
+    (codes "slots" ∷ decimal slots ∷ codes "fill" ∷ decimal fill ∷ codes "live" ∷ decimal live
+    ∷ codes "writes" ∷ decimal writes ∷ [])
 
 -- what a stretch's line says
 abbrev pub stretch_text : Stretch → List ℕ
-stretch_text stretch = joined_fields (codes "to" ∷ decimal stretch.to ∷ codes "from" ∷ decimal stretch.from ∷ [])
+stretch_text stretch =
+    joined_fields (codes "to" ∷ decimal stretch.to ∷ codes "from" ∷ decimal stretch.from ∷ [])
 
 -- what the last line says
 abbrev pub ending : ℕ → List ℕ
@@ -67,7 +69,9 @@ NoFirstLine text = (claim : Claim) (more : List ℕ) → IsClaim claim → text 
 
 -- no stretch's line does
 abbrev pub NoStretch : List ℕ → Type 0
-NoStretch text = (stretch : Stretch) (more : List ℕ) → IsStretch stretch → text ≢ line_of (stretch_text stretch) ++ more
+NoStretch text =
+    (stretch : Stretch) (more : List ℕ) → IsStretch stretch
+    → text ≢ line_of (stretch_text stretch) ++ more
 
 -- after the first line and the lines of these stretches comes neither a stretch's
 -- line nor the last line
@@ -92,7 +96,8 @@ pub record TextGoesOn (text : List ℕ) (n : ℕ) : Type 0 where
 -- Line n is the first bad one. A line that isn't ended by a line feed is bad, and so is
 -- one that is missing.
 abbrev pub IsFirstBadCertificateLine : List ℕ → ℕ → Type 0
-IsFirstBadCertificateLine text n = (NoFirstLine text × (n ≡ 1)) ⊎ (BreaksOff text n ⊎ TextGoesOn text n)
+IsFirstBadCertificateLine text n =
+    (NoFirstLine text × (n ≡ 1)) ⊎ (BreaksOff text n ⊎ TextGoesOn text n)
 
 -- why a text isn't read
 abbrev pub IsCertificateTextFault : List ℕ → TextFault → Type 0
@@ -101,6 +106,7 @@ IsCertificateTextFault text Memory = Unit {0}
 
 -- why what is left behind the lines of so many stretches isn't the last line alone
 abbrev pub IsEndingFault : List ℕ → ℕ → TextFault → Type 0
-IsEndingFault text count (BadText n) = (((more : List ℕ) → text ≢ line_of (ending count) ++ more) × (n ≡ count + 2))
+IsEndingFault text count (BadText n) =
+    (((more : List ℕ) → text ≢ line_of (ending count) ++ more) × (n ≡ count + 2))
     ⊎ ((rest : List ℕ) × (text ≡ line_of (ending count) ++ rest) × (rest ≢ []) × (n ≡ count + 3))
 IsEndingFault text count Memory = ⊥

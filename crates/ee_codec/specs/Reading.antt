@@ -55,7 +55,8 @@ ends_in (Held number) address = number % 2 ^ 16 == address
 -- the generation, where the word is a receive word
 abbrev pub receive_of : Word → Option ℕ
 receive_of (Held number) =
-    if nat_lt 0xAAAAAAAA00000000 number && nat_lt number 0xAAAAAAAAFFFFFFFF then Some (number - 0xAAAAAAAA00000000) else None
+    if nat_lt 0xAAAAAAAA00000000 number
+    && nat_lt number 0xAAAAAAAAFFFFFFFF then Some (number - 0xAAAAAAAA00000000) else None
 receive_of word = None
 
 abbrev pub mark_of : Word → MarkRead

@@ -7,8 +7,11 @@ use Rattle.ee_command_line.specs.Job.{AreWordsOf, IsPlain, Row}
 
 pub size_is_no_flag : (size : Size) → IsWithinLimits size → decimal size.pages ≢ codes "--pairs"
 size_is_no_flag size within is =
-    let lacks = subst (Lacks 45) is (Lacks-decimal 45 size.pages (inl (omega arith)) (omega (arith, within))) in
+    let lacks =
+    subst (Lacks 45) is
+    (Lacks-decimal 45 size.pages (inl (omega arith)) (omega (arith, within))) in
     (Lacks-parts 45 45 (codes "-pairs") lacks).0 refl
 
-pub short : (command : List ℕ) (others : List (List ℕ)) (row : Row) → IsPlain command → AreWordsOf (command ∷ others) row → length others ≤ 4
+pub short : (command : List ℕ) (others : List (List ℕ)) (row : Row) → IsPlain command
+    → AreWordsOf (command ∷ others) row → length others ≤ 4
 short command others row plain spelled = search rules

@@ -102,7 +102,8 @@ IsRow (Try size) = IsWithinLimits size
 IsRow (Format size image) = IsWithinLimits size
 IsRow (Import pairs size dump image) = IsWithinLimits size
 IsRow (Export pairs image dump) = image ≢ codes "--pairs"
-IsRow (ImportHex pairs size base dump image) = IsWithinLimits size × IsBase base × EndsWithin pairs size base
+IsRow (ImportHex pairs size base dump image) =
+    IsWithinLimits size × IsBase base × EndsWithin pairs size base
 IsRow (ExportHex pairs image base dump) = image ≢ codes "--pairs" × IsBase base
 IsRow (Inspect image) = Unit {0}
 IsRow (Run indexed image script) = image ≢ codes "--indexed"
@@ -126,7 +127,9 @@ IsRow Version = Unit {0}
 
 -- a command that has no flag
 abbrev pub IsPlain : List ℕ → Type 0
-IsPlain command = command ≢ codes "run" × command ≢ codes "header" × command ≢ codes "export" × command ≢ codes "export-hex"
+IsPlain command =
+    command ≢ codes "run" × command ≢ codes "header" × command ≢ codes "export"
+    × command ≢ codes "export-hex"
     × command ≢ codes "import" × command ≢ codes "import-hex"
 
 -- a flag, if it is given, before other words
@@ -143,21 +146,32 @@ HaveNoFlag flag (word ∷ words) = word ≢ flag
 abbrev pub AreWordsOf : List (List ℕ) → Row → Type 0
 AreWordsOf words (Try size) = (words ≡ codes "try" ∷ decimal size.pages ∷ decimal size.words ∷ [])
     ⊎ ((words ≡ []) × (size ≡ size_of 1 6))
-AreWordsOf words (Format size image) = words ≡ codes "format" ∷ decimal size.pages ∷ decimal size.words ∷ image ∷ []
+AreWordsOf words (Format size image) =
+    words ≡ codes "format" ∷ decimal size.pages ∷ decimal size.words ∷ image ∷ []
 AreWordsOf words (Import pairs size dump image) =
-    words ≡ codes "import" ∷ with_flag pairs (codes "--pairs") (decimal size.pages ∷ decimal size.words ∷ dump ∷ image ∷ [])
-AreWordsOf words (Export pairs image dump) = words ≡ codes "export" ∷ with_flag pairs (codes "--pairs") (image ∷ dump ∷ [])
+    words
+    ≡ codes "import"
+    ∷ with_flag pairs (codes "--pairs")
+    (decimal size.pages ∷ decimal size.words ∷ dump ∷ image ∷ [])
+AreWordsOf words (Export pairs image dump) =
+    words ≡ codes "export" ∷ with_flag pairs (codes "--pairs") (image ∷ dump ∷ [])
 AreWordsOf words (ImportHex pairs size base dump image) = (digits : List ℕ) × HasBase digits base
-    × (words ≡ codes "import-hex" ∷ with_flag pairs (codes "--pairs") (decimal size.pages ∷ decimal size.words ∷ digits ∷ dump ∷ image ∷ []))
+    × (words
+    ≡ codes "import-hex"
+    ∷ with_flag pairs (codes "--pairs")
+    (decimal size.pages ∷ decimal size.words ∷ digits ∷ dump ∷ image ∷ []))
 AreWordsOf words (ExportHex pairs image base dump) = (digits : List ℕ) × HasBase digits base
     × (words ≡ codes "export-hex" ∷ with_flag pairs (codes "--pairs") (image ∷ digits ∷ dump ∷ []))
 AreWordsOf words (Inspect image) = words ≡ codes "inspect" ∷ image ∷ []
-AreWordsOf words (Run indexed image script) = words ≡ codes "run" ∷ with_flag indexed (codes "--indexed") (image ∷ script ∷ [])
+AreWordsOf words (Run indexed image script) =
+    words ≡ codes "run" ∷ with_flag indexed (codes "--indexed") (image ∷ script ∷ [])
 AreWordsOf words (Get image settings name) = words ≡ codes "get" ∷ image ∷ settings ∷ name ∷ []
 AreWordsOf words (Set image settings name value) =
     words ≡ codes "set" ∷ image ∷ settings ∷ name ∷ decimal value ∷ []
-AreWordsOf words (Apply image settings values) = words ≡ codes "apply" ∷ image ∷ settings ∷ values ∷ []
-AreWordsOf words (Header rust settings) = words ≡ codes "header" ∷ with_flag rust (codes "--rust") (settings ∷ [])
+AreWordsOf words (Apply image settings values) =
+    words ≡ codes "apply" ∷ image ∷ settings ∷ values ∷ []
+AreWordsOf words (Header rust settings) =
+    words ≡ codes "header" ∷ with_flag rust (codes "--rust") (settings ∷ [])
 AreWordsOf words (Plan image script) = words ≡ codes "plan" ∷ image ∷ script ∷ []
 AreWordsOf words (Check image script certificate) =
     words ≡ codes "check" ∷ image ∷ script ∷ certificate ∷ []
@@ -183,4 +197,5 @@ SpellsGiven words given = IfSome given (λ job. IsRow (row_of job) × AreWordsOf
 
 -- a row that the words say is given
 abbrev pub GivesSpelled : List (List ℕ) → Option Job → Type 0
-GivesSpelled words given = (row : Row) → IsRow row → AreWordsOf words row → option_map row_of given ≡ Some row
+GivesSpelled words given =
+    (row : Row) → IsRow row → AreWordsOf words row → option_map row_of given ≡ Some row

@@ -15,15 +15,21 @@ pub record ErasesFront (old new : Device) : Type 0 where
 pub front_none : (device : Device) → ErasesFront device device
 front_none device = record { front = []; waited = refl; wears = wears_none device device refl }
 
-pub front_more : (old mid new : Device) → ErasesFront old mid → ErasesLowest mid new → ErasesFront old new
+pub front_more : (old mid new : Device) → ErasesFront old mid → ErasesLowest mid new
+    → ErasesFront old new
 front_more old mid new some one = record {
   front = some.front ++ one.page ∷ [];
-  waited = some.waited ∙ ap (λ list. some.front ++ list) one.waited ∙ sym (append_assoc some.front (one.page ∷ []) (pending_pages new));
+  waited =
+      some.waited ∙ ap (λ list. some.front ++ list) one.waited
+      ∙ sym (append_assoc some.front (one.page ∷ []) (pending_pages new));
   wears = wears_both some.front (one.page ∷ []) old mid new some.wears one.wear;
 }
 
-pub front_all : (old new : Device) → ErasesFront old new → (state_of new).pending ≡ 0 → Wears (pending_pages old) old new
+pub front_all : (old new : Device) → ErasesFront old new → (state_of new).pending ≡ 0
+    → Wears (pending_pages old) old new
 front_all old new some none =
-    let rest : pending_pages new ≡ [] = nil_from_length (pending_pages new) (length-pending_pages new ∙ none) in
-    let all : pending_pages old ≡ some.front = some.waited ∙ ap (λ list. some.front ++ list) rest ∙ append-nil some.front in
+    let rest : pending_pages new ≡ [] =
+    nil_from_length (pending_pages new) (length-pending_pages new ∙ none) in
+    let all : pending_pages old ≡ some.front =
+    some.waited ∙ ap (λ list. some.front ++ list) rest ∙ append-nil some.front in
     subst (λ (pages : List ℕ). Wears pages old new) (sym all) some.wears

@@ -9,8 +9,10 @@ use Rattle.ee_planner.specs.declared.planned.Plan.{Plan}
 use Rattle.ee_planner.specs.Plan.{IsPlan}
 use Rattle.ee_commands.specs.Planning.{IsPlanned, IsTask}
 
-pub is_planned : {A : Type 0} (image text planned : List ℕ) (start : Situation) (trace : List Change) (plan : Plan A) → IsTask image text start trace → IsProper start
-    → IsPlan start trace plan → planned ≡ text_of (claim_of plan.certificate) → IsPlanned image text planned
+pub is_planned : {A : Type 0} (image text planned : List ℕ) (start : Situation)
+    (trace : List Change) (plan : Plan A)
+    → IsTask image text start trace → IsProper start → IsPlan start trace plan
+    → planned ≡ text_of (claim_of plan.certificate) → IsPlanned image text planned
 is_planned image text planned start trace plan task proper is text_is =
     let claim = claim_of plan.certificate in
     let certificate = tight_are_certificates_lem start trace claim is.tight in
@@ -23,6 +25,8 @@ is_planned image text planned start trace plan task proper is text_is =
       tight = is.tight;
       certificate = certificate;
       reached = (met.0, met.1, met.2);
-      fewest = λ schedule scheduled. certificates_bound_schedules_lem start trace claim schedule proper certificate scheduled;
+      fewest =
+          λ schedule scheduled.
+          certificates_bound_schedules_lem start trace claim schedule proper certificate scheduled;
       text_is = text_is;
     }

@@ -17,29 +17,46 @@ use Rattle.ee_commands.proofs.OneTask.{one_name, one_trace_fault, other_cause, t
 
 -- ---- one size further
 
-pub demands_grow : (words : ℕ) (trace : List Change) (pages next : ℕ) (demands : List Demand) (demand : Demand) → AreDemands words trace pages demands
-    → next ≡ pages + length demands → IsDemand (unused_situation (slot_count (size_of next words))) trace demand → AreDemands words trace pages (demands ++ demand ∷ [])
+pub demands_grow : (words : ℕ) (trace : List Change) (pages next : ℕ) (demands : List Demand)
+    (demand : Demand)
+    → AreDemands words trace pages demands → next ≡ pages + length demands
+    → IsDemand (unused_situation (slot_count (size_of next words))) trace demand
+    → AreDemands words trace pages (demands ++ demand ∷ [])
 demands_grow words trace pages next [] demand are is one = search rules
 demands_grow words trace pages next (first ∷ demands) demand are is one =
     (are.0, demands_grow words trace (pages + 1) next demands demand are.1 (omega arith) one)
 
-lines_append : (words cycles changes pages next : ℕ) (demands : List Demand) (demand : Demand) → next ≡ pages + length demands
-    → size_lines words cycles changes pages (demands ++ demand ∷ []) ≡ size_lines words cycles changes pages demands ++ line_of (sizing_text words cycles changes next demand)
+lines_append : (words cycles changes pages next : ℕ) (demands : List Demand) (demand : Demand)
+    → next ≡ pages + length demands
+    → size_lines words cycles changes pages (demands ++ demand ∷ [])
+    ≡ size_lines words cycles changes pages demands
+    ++ line_of (sizing_text words cycles changes next demand)
 lines_append words cycles changes pages next [] demand is = search (rules, append-nil)
-lines_append words cycles changes pages next (first ∷ demands) demand is = grind (arith, common_steps, (lines_append words cycles changes (pages + 1) next demands demand (omega arith)))
+lines_append words cycles changes pages next (first ∷ demands) demand is =
+    grind (
+      arith,
+      common_steps,
+      (lines_append words cycles changes (pages + 1) next demands demand (omega arith)),
+    )
 
 -- ---- why none is told
 
-pub cause_of_trace : (text : List ℕ) (cause : Fault) (fault : ScriptFault) → cause ≢ Memory → IsSizingFault text cause → IsTraceFault text fault
+pub cause_of_trace : (text : List ℕ) (cause : Fault) (fault : ScriptFault) → cause ≢ Memory
+    → IsSizingFault text cause → IsTraceFault text fault
     → (fault_of_script fault ≡ cause) ⊎ (fault_of_script fault ≡ Memory)
 cause_of_trace text cause fault some h is = search (rules, one_name, one_trace_fault, other_cause)
 
 -- a script that gives a trace has no cause but want of memory
-pub only_want_of_memory : (text : List ℕ) (trace : List Change) (cause : Fault) → IsTrace text trace → cause ≢ Memory → IsSizingFault text cause → ⊥
-only_want_of_memory text trace cause is some h = some (h.fault_is ∙ ap fault_of_script (trace_memory text trace h.cause is h.applies))
+pub only_want_of_memory : (text : List ℕ) (trace : List Change) (cause : Fault) → IsTrace text trace
+    → cause ≢ Memory → IsSizingFault text cause → ⊥
+only_want_of_memory text trace cause is some h =
+    some (h.fault_is ∙ ap fault_of_script (trace_memory text trace h.cause is h.applies))
 
 -- the lines so far, and that of one size more
-pub sizes_grow : (words cycles changes pages n : ℕ) (demands : List Demand) (d : Demand) (old new : List ℕ) → n < length demands → pages ≡ n
-    → old ≡ size_lines words cycles changes 1 (take n demands)
-    → new ≡ old ++ line_of (sizing_text words cycles changes (pages + 1) (get_or demands n d)) → new ≡ size_lines words cycles changes 1 (take (n + 1) demands)
-sizes_grow words cycles changes pages n demands d old new within counted so_far written = search (rules, length-take-le, lines_append, take_more)
+pub sizes_grow : (words cycles changes pages n : ℕ) (demands : List Demand) (d : Demand)
+    (old new : List ℕ)
+    → n < length demands → pages ≡ n → old ≡ size_lines words cycles changes 1 (take n demands)
+    → new ≡ old ++ line_of (sizing_text words cycles changes (pages + 1) (get_or demands n d))
+    → new ≡ size_lines words cycles changes 1 (take (n + 1) demands)
+sizes_grow words cycles changes pages n demands d old new within counted so_far written =
+    search (rules, length-take-le, lines_append, take_more)

@@ -39,4 +39,5 @@ pub record IsSpentStore (device : Device) : Type 0 where
 -- why an image is not cleared
 abbrev pub IsClearFault : List ℕ → Fault → Type 0
 IsClearFault text fault =
-    IsOpeningFault text fault ⊎ ((fault ≡ Spent) × ((device : Device) × IsStoreText text device × IsSpentStore device))
+    IsOpeningFault text fault
+    ⊎ ((fault ≡ Spent) × ((device : Device) × IsStoreText text device × IsSpentStore device))

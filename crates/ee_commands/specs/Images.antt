@@ -55,7 +55,8 @@ state_text number state = joined_fields (codes "page" ∷ decimal number ∷ sta
 -- a line for each page, of which the first has this number
 abbrev pub state_lines : ℕ → List (List Word) → List ℕ
 state_lines number [] = []
-state_lines number (words ∷ pages) = line_of (state_text number (state_of_words words)) ++ state_lines (number + 1) pages
+state_lines number (words ∷ pages) =
+    line_of (state_text number (state_of_words words)) ++ state_lines (number + 1) pages
 
 -- the states of the pages of the image that a text spells
 pub record AreStates (text lines : List ℕ) : Type 0 where

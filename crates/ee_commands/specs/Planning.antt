@@ -73,8 +73,10 @@ pub record IsPlanned (image text planned : List ℕ) : Type 0 where
   pub claim : Claim
   pub tight : IsTight start trace claim
   pub certificate : IsCertificate start trace claim
-  pub reached : (schedule : List Move) × IsSchedule start trace schedule × (cost schedule ≡ length claim.stretches)
-  pub fewest : (schedule : List Move) → IsSchedule start trace schedule → length claim.stretches ≤ cost schedule
+  pub reached : (schedule : List Move) × IsSchedule start trace schedule
+      × (cost schedule ≡ length claim.stretches)
+  pub fewest : (schedule : List Move) → IsSchedule start trace schedule
+      → length claim.stretches ≤ cost schedule
   pub text_is : planned ≡ text_of claim
 
 -- how many transfers are proved, as `check` prints it
@@ -90,11 +92,13 @@ pub record IsProved (image text certificate proved : List ℕ) : Type 0 where
   pub claim : Claim
   pub spelled : IsText certificate claim
   pub accepted : IsCertificate start trace claim
-  pub bound : (moves : List Move) → IsSchedule start trace moves → length claim.stretches ≤ cost moves
+  pub bound : (moves : List Move) → IsSchedule start trace moves
+      → length claim.stretches ≤ cost moves
   pub text_is : proved ≡ proved_text (length claim.stretches)
 
 -- the fault of a layer below, under the name that the program gives it
-pub record NamesFault {Cause : Type 0} (named : Cause → Fault) (Applies : Cause → Type 0) (fault : Fault) : Type 0 where
+pub record NamesFault {Cause : Type 0} (named : Cause → Fault) (Applies : Cause → Type 0)
+    (fault : Fault) : Type 0 where
   pub cause : Cause
   pub applies : Applies cause
   pub fault_is : fault ≡ named cause
@@ -109,14 +113,17 @@ IsTraceFault text Memory = Unit {0}
 -- image, or one is and the script has a line that is bad for a trace; or memory ran out
 abbrev pub IsTaskFault : List ℕ → List ℕ → Fault → Type 0
 IsTaskFault image text fault =
-    IsOpeningFault image fault ⊎ (((device : Device) × IsStoreText image device) × NamesFault fault_of_script (IsTraceFault text) fault)
+    IsOpeningFault image fault
+    ⊎ (((device : Device) × IsStoreText image device)
+    × NamesFault fault_of_script (IsTraceFault text) fault)
 
 -- why there is no plan, the first cause that applies: the start and the trace can't be had, or they
 -- can and the trace does not fit; or memory ran out
 abbrev pub IsPlanningFault : List ℕ → List ℕ → Fault → Type 0
 IsPlanningFault image text fault =
     IsTaskFault image text fault
-    ⊎ ((start : Situation) × (trace : List Change) × IsTask image text start trace × NamesFault fault_of_plan (IsPlanFault start trace) fault)
+    ⊎ ((start : Situation) × (trace : List Change) × IsTask image text start trace
+    × NamesFault fault_of_plan (IsPlanFault start trace) fault)
 
 -- why a claim is refused; want of memory has no cause in it
 abbrev pub IsRefusal : Situation → List Change → Claim → CheckFault → Type 0
@@ -127,11 +134,13 @@ IsRefusal start trace claim fault = IsCause start trace claim fault ⊎ (fault �
 abbrev pub IsCertificateFault : Situation → List Change → List ℕ → Fault → Type 0
 IsCertificateFault start trace certificate fault =
     NamesFault fault_of_certificate (IsCertificateTextFault certificate) fault
-    ⊎ ((claim : Claim) × IsText certificate claim × NamesFault fault_of_check (IsRefusal start trace claim) fault)
+    ⊎ ((claim : Claim) × IsText certificate claim
+    × NamesFault fault_of_check (IsRefusal start trace claim) fault)
 
 -- why nothing is proved, the first cause that applies: the start and the trace can't be had, or
 -- they can and the certificate isn't accepted; or memory ran out
 abbrev pub IsCheckingFault : List ℕ → List ℕ → List ℕ → Fault → Type 0
 IsCheckingFault image text certificate fault =
     IsTaskFault image text fault
-    ⊎ ((start : Situation) × (trace : List Change) × IsTask image text start trace × IsCertificateFault start trace certificate fault)
+    ⊎ ((start : Situation) × (trace : List Change) × IsTask image text start trace
+    × IsCertificateFault start trace certificate fault)

@@ -23,7 +23,10 @@ part_name at = if nat_lt at 4 then codes "header" else codes "slot"
 abbrev pub bad_line : Device → Side → ℕ → ℕ → List ℕ
 bad_line device side page at =
     if is_bad device.size (set_of side device) page at
-    then line_of (joined_fields (codes "bad" ∷ decimal (first_page device.size side + page) ∷ decimal at ∷ part_name at ∷ []))
+    then line_of
+    (joined_fields
+    (codes "bad" ∷ decimal (first_page device.size side + page) ∷ decimal at ∷ part_name at
+    ∷ []))
     else []
 
 -- by page, and then place
@@ -35,7 +38,9 @@ bad_lines device (Some side) =
 -- how many addresses have a value, and how many words were bad
 abbrev pub rescued_text : Rescued → List ℕ
 rescued_text rescued =
-    joined_fields (codes "rescued" ∷ codes "live" ∷ decimal rescued.live ∷ codes "bad" ∷ decimal rescued.bad_words ∷ [])
+    joined_fields
+    (codes "rescued" ∷ codes "live" ∷ decimal rescued.live ∷ codes "bad"
+    ∷ decimal rescued.bad_words ∷ [])
 
 -- The image was rescued, whatever stood in it, and the new one is the store that this leaves. A
 -- line told each bad word of the set that was rescued, and the last line what it came to.
@@ -52,10 +57,13 @@ pub record IsRescuedImage (old_image new_image text : List ℕ) : Type 0 where
 -- greatest generation
 abbrev pub IsNotRescued : Device → Fault → Type 0
 IsNotRescued device NothingToRescue = rescued_side device ≡ None
-IsNotRescued device Spent = (side : Side) × (rescued_side device ≡ Some side) × (named_generation (set_of side device) ≡ greatest_generation)
+IsNotRescued device Spent =
+    (side : Side) × (rescued_side device ≡ Some side)
+    × (named_generation (set_of side device) ≡ greatest_generation)
 IsNotRescued device fault = ⊥
 
 -- why an image is not
 abbrev pub IsRescueFault : List ℕ → Fault → Type 0
 IsRescueFault text fault =
-    IsReadingFault text fault ⊎ ((device : Device) × SpellsDevice text device × IsNotRescued device fault)
+    IsReadingFault text fault
+    ⊎ ((device : Device) × SpellsDevice text device × IsNotRescued device fault)

@@ -40,8 +40,10 @@ limit_for pages words changes = least_wear (size_of pages words) changes
 -- device of this size. And neither is above the one that follows.
 pub record AreWears (pages words : ℕ) (trace : List Change) (transfers : ℕ) : Type 0 where
   pub least : NoneWearsLess (unused_situation (slot_count (size_of pages words))) trace transfers
-  pub limit : (steps : List Step) (device : Device) → AreTaken steps device → device.size ≡ size_of pages words → length trace ≤ programs steps
-      → (page : ℕ) × (page < page_count device.size) × (limit_for pages words (length trace) ≤ erases_of page steps)
+  pub limit : (steps : List Step) (device : Device) → AreTaken steps device
+      → device.size ≡ size_of pages words → length trace ≤ programs steps
+      → (page : ℕ) × (page < page_count device.size)
+      × (limit_for pages words (length trace) ≤ erases_of page steps)
   pub limit_below : limit_for pages words (length trace) ≤ least_for transfers
   pub least_below : least_for transfers ≤ erases_for transfers
 
@@ -53,7 +55,8 @@ WearsOf pages words trace (NotFitting n) = Unit {0}
 -- of each demand, of which the first is that of so many pages
 abbrev pub EachWears : ℕ → List Change → ℕ → List Demand → Type 0
 EachWears words trace pages [] = Unit {0}
-EachWears words trace pages (demand ∷ demands) = WearsOf pages words trace demand × EachWears words trace (pages + 1) demands
+EachWears words trace pages (demand ∷ demands) =
+    WearsOf pages words trace demand × EachWears words trace (pages + 1) demands
 
 -- ---- verdicts
 
@@ -67,7 +70,8 @@ is_spent_by transfers = nat_lt most_transfers transfers
 
 -- whether the generations suffice, and no page is erased more often than so many times
 abbrev pub is_enough : ℕ → Demand → Bool
-is_enough cycles (Transfers transfers) = nat_le transfers most_transfers && nat_le (erases_for transfers) cycles
+is_enough cycles (Transfers transfers) =
+    nat_le transfers most_transfers && nat_le (erases_for transfers) cycles
 is_enough cycles (NotFitting n) = false
 
 -- the words for a size: the generations are used up; no page is erased more often than it bears;
@@ -86,42 +90,52 @@ verdict cycles transfers limit =
 -- the numbers of a size whose sets the trace fits
 abbrev pub numbers_text : ℕ → ℕ → ℕ → ℕ → ℕ → ℕ → List ℕ
 numbers_text pages slots transfers erases least limit =
-    joined_fields (codes "pages" ∷ decimal pages ∷ codes "slots" ∷ decimal slots ∷ codes "transfers" ∷ decimal transfers ∷ codes "erases"
+    joined_fields (codes "pages" ∷ decimal pages ∷ codes "slots" ∷ decimal slots ∷ codes "transfers"
+    ∷ decimal transfers ∷ codes "erases"
     ∷ decimal erases ∷ codes "least" ∷ decimal least ∷ codes "limit" ∷ decimal limit ∷ [])
 
 -- what its line says
 abbrev pub fitting_text : ℕ → ℕ → ℕ → ℕ → ℕ → List ℕ
 fitting_text cycles pages slots transfers limit =
-    joined_fields (numbers_text pages slots transfers (erases_for transfers) (least_for transfers) limit ∷ verdict cycles transfers limit ∷ [])
+    joined_fields
+    (numbers_text pages slots transfers (erases_for transfers) (least_for transfers) limit
+    ∷ verdict cycles transfers limit ∷ [])
 
 -- and where it doesn't fit: the first change that doesn't
 abbrev pub not_fitting_text : ℕ → ℕ → ℕ → List ℕ
 not_fitting_text pages slots n =
-    joined_fields (codes "pages" ∷ decimal pages ∷ codes "slots" ∷ decimal slots ∷ codes "not" ∷ codes "fitting" ∷ decimal n ∷ [])
+    joined_fields
+    (codes "pages" ∷ decimal pages ∷ codes "slots" ∷ decimal slots ∷ codes "not"
+    ∷ codes "fitting" ∷ decimal n ∷ [])
 
 -- what is told of a demand on sets of so many pages of so many words, where the trace
 -- has so many changes
 abbrev pub sizing_text : ℕ → ℕ → ℕ → ℕ → Demand → List ℕ
 sizing_text words cycles changes pages (Transfers transfers) =
-    fitting_text cycles pages (slot_count (size_of pages words)) transfers (limit_for pages words changes)
-sizing_text words cycles changes pages (NotFitting n) = not_fitting_text pages (slot_count (size_of pages words)) n
+    fitting_text cycles pages (slot_count (size_of pages words)) transfers
+    (limit_for pages words changes)
+sizing_text words cycles changes pages (NotFitting n) =
+    not_fitting_text pages (slot_count (size_of pages words)) n
 
 -- a line for each demand, of which the first is that of so many pages
 abbrev pub size_lines : ℕ → ℕ → ℕ → ℕ → List Demand → List ℕ
 size_lines words cycles changes pages [] = []
 size_lines words cycles changes pages (demand ∷ demands) =
-    line_of (sizing_text words cycles changes pages demand) ++ size_lines words cycles changes (pages + 1) demands
+    line_of (sizing_text words cycles changes pages demand)
+    ++ size_lines words cycles changes (pages + 1) demands
 
 -- what the trace demands of fresh sets, each of a page more, of which the first has so many
 abbrev pub AreDemands : ℕ → List Change → ℕ → List Demand → Type 0
 AreDemands words trace pages [] = Unit {0}
 AreDemands words trace pages (demand ∷ demands) =
-    IsDemand (unused_situation (slot_count (size_of pages words))) trace demand × AreDemands words trace (pages + 1) demands
+    IsDemand (unused_situation (slot_count (size_of pages words))) trace demand
+    × AreDemands words trace (pages + 1) demands
 
 -- The changes of the script, made so many times, demand this of the sets of 1 to 64
 -- pages; a line is told of each, whose numbers of erases no store has fewer of, and
 -- whether one of them is enough.
-pub record IsSized (words : ℕ) (text : List ℕ) (cycles runs : ℕ) (told : List ℕ) (some_enough : Bool) : Type 0 where
+pub record IsSized (words : ℕ) (text : List ℕ) (cycles runs : ℕ) (told : List ℕ)
+    (some_enough : Bool) : Type 0 where
   pub trace : List Change
   pub trace_is : IsTrace text trace
   pub demands : List Demand

@@ -30,7 +30,8 @@ asked_by_calls (call ∷ calls) = asked_by_calls calls
 -- the changes that they made: those that were answered as stored
 abbrev pub made_by_calls : List Call → List Change
 made_by_calls [] = []
-made_by_calls (Wrote address value (Ok written) ∷ calls) = change.Write address ∷ made_by_calls calls
+made_by_calls (Wrote address value (Ok written) ∷ calls) =
+    change.Write address ∷ made_by_calls calls
 made_by_calls (Forgot address (Ok written) ∷ calls) = change.Forget address ∷ made_by_calls calls
 made_by_calls (call ∷ calls) = made_by_calls calls
 
@@ -42,8 +43,10 @@ wants_memory call = false
 -- each forgetting is of an address that is live then
 abbrev pub ForgetsLive : List ℕ → List Change → Type 0
 ForgetsLive live [] = Unit {0}
-ForgetsLive live (change.Write address ∷ trace) = ForgetsLive (live_after_one live (change.Write address)) trace
-ForgetsLive live (change.Forget address ∷ trace) = Contains live address × ForgetsLive (live_after_one live (change.Forget address)) trace
+ForgetsLive live (change.Write address ∷ trace) =
+    ForgetsLive (live_after_one live (change.Write address)) trace
+ForgetsLive live (change.Forget address ∷ trace) =
+    Contains live address × ForgetsLive (live_after_one live (change.Forget address)) trace
 
 -- among what is demanded of sets of 1 page and more, this is demanded of those of so many
 pub record IsDemandOf (pages : ℕ) (demands : List Demand) (demand : Demand) : Type 0 where
@@ -57,7 +60,8 @@ pub record IsDemandOf (pages : ℕ) (demands : List Demand) (demand : Demand) : 
 -- that this is enough.
 pub record WearsAsTold (cycles most : ℕ) (calls : List Call) (old new : Device) : Type 0 where
   pub moves : transfers calls ≤ most
-  pub wear : (page : ℕ) → page < page_count old.size → wear_at new page ≤ wear_at old page + erases_for most
+  pub wear : (page : ℕ) → page < page_count old.size
+      → wear_at new page ≤ wear_at old page + erases_for most
   pub enough : is_enough cycles (Transfers most) ≡ true
       → (page : ℕ) → page < page_count old.size → wear_at new page ≤ wear_at old page + cycles
 
@@ -67,27 +71,38 @@ pub record WearsAsTold (cycles most : ℕ) (calls : List Call) (old new : Device
 -- whatever the calls were answered, and whatever else they read and cleaned.
 abbrev pub EachSizeWearsAsTold : Type 0
 EachSizeWearsAsTold =
-    (text told : List ℕ) (cycles runs most : ℕ) (some_enough : Bool) (calls : List Call) (blank old new : Device)
-    → (sized : IsSized old.size.words text cycles runs told some_enough) → IsDemandOf old.size.pages sized.demands (Transfers most)
-    → IsFormatted blank old → IsWholeRun calls old new → All (λ call. is_of_several call ≡ false) calls
+    (text told : List ℕ) (cycles runs most : ℕ) (some_enough : Bool) (calls : List Call)
+    (blank old new : Device)
+    → (sized : IsSized old.size.words text cycles runs told some_enough)
+    → IsDemandOf old.size.pages sized.demands (Transfers most)
+    → IsFormatted blank old → IsWholeRun calls old new
+    → All (λ call. is_of_several call ≡ false) calls
     → asked_by_calls calls ≡ repeated_trace runs sized.trace → WearsAsTold cycles most calls old new
 
 -- Where they made the changes of the script so many times, and no others, the line of its size
 -- tells just as many transfers as they made; and it wears as was told.
 abbrev pub EachSizeMovesAsTold : Type 0
 EachSizeMovesAsTold =
-    (text told : List ℕ) (cycles runs : ℕ) (some_enough : Bool) (calls : List Call) (blank old new : Device)
-    → (sized : IsSized old.size.words text cycles runs told some_enough) → IsFormatted blank old → IsWholeRun calls old new → All (λ call. is_of_several call ≡ false) calls
+    (text told : List ℕ) (cycles runs : ℕ) (some_enough : Bool) (calls : List Call)
+    (blank old new : Device)
+    → (sized : IsSized old.size.words text cycles runs told some_enough) → IsFormatted blank old
+    → IsWholeRun calls old new → All (λ call. is_of_several call ≡ false) calls
     → made_by_calls calls ≡ repeated_trace runs sized.trace
-    → IsDemandOf old.size.pages sized.demands (Transfers (transfers calls)) × WearsAsTold cycles (transfers calls) calls old new
+    → IsDemandOf old.size.pages sized.demands (Transfers (transfers calls))
+    × WearsAsTold cycles (transfers calls) calls old new
 
 -- It makes all of them, by as many transfers as that line tells: where the line doesn't say that
 -- the generations are used up, the device is on, each forgetting is of an address that has a value,
 -- and the store takes no memory, or is given it.
 abbrev pub EachSizeIsMadeAsTold : Type 0
 EachSizeIsMadeAsTold =
-    (text told : List ℕ) (cycles runs most : ℕ) (some_enough : Bool) (calls : List Call) (blank old new : Device)
-    → (sized : IsSized old.size.words text cycles runs told some_enough) → IsDemandOf old.size.pages sized.demands (Transfers most)
-    → IsFormatted blank old → IsOn old → IsWholeRun calls old new → All (λ call. is_of_several call ≡ false) calls → All (λ call. wants_memory call ≡ false) calls
-    → asked_by_calls calls ≡ repeated_trace runs sized.trace → ForgetsLive [] (repeated_trace runs sized.trace) → is_spent_by most ≡ false
+    (text told : List ℕ) (cycles runs most : ℕ) (some_enough : Bool) (calls : List Call)
+    (blank old new : Device)
+    → (sized : IsSized old.size.words text cycles runs told some_enough)
+    → IsDemandOf old.size.pages sized.demands (Transfers most)
+    → IsFormatted blank old → IsOn old → IsWholeRun calls old new
+    → All (λ call. is_of_several call ≡ false) calls
+    → All (λ call. wants_memory call ≡ false) calls
+    → asked_by_calls calls ≡ repeated_trace runs sized.trace
+    → ForgetsLive [] (repeated_trace runs sized.trace) → is_spent_by most ≡ false
     → (made_by_calls calls ≡ repeated_trace runs sized.trace) × (transfers calls ≡ most)

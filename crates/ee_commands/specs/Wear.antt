@@ -14,17 +14,20 @@ use Rattle.ee_image_store.specs.Opening.{SpellsDevice}
 
 -- what the line of a page says: its number and how often it was erased
 abbrev pub count_text : ℕ → ℕ → List ℕ
-count_text number count = joined_fields (codes "page" ∷ decimal number ∷ codes "wear" ∷ decimal count ∷ [])
+count_text number count =
+    joined_fields (codes "page" ∷ decimal number ∷ codes "wear" ∷ decimal count ∷ [])
 
 -- a line for each page, of which the first has this number
 abbrev pub count_lines : ℕ → List ℕ → List ℕ
 count_lines number [] = []
-count_lines number (count ∷ counts) = line_of (count_text number count) ++ count_lines (number + 1) counts
+count_lines number (count ∷ counts) =
+    line_of (count_text number count) ++ count_lines (number + 1) counts
 
 -- what the last line says: all counts together, the least and the greatest
 abbrev pub total_text : List ℕ → List ℕ
 total_text counts =
-    joined_fields (codes "total" ∷ decimal (sum counts) ∷ codes "least" ∷ decimal (least_of counts) ∷ codes "greatest"
+    joined_fields (codes "total" ∷ decimal (sum counts) ∷ codes "least" ∷ decimal (least_of counts)
+    ∷ codes "greatest"
     ∷ decimal (greatest_of counts) ∷ [])
 
 -- a ledger's counts as text

@@ -15,18 +15,25 @@ pub record ClearedTo (old now : Device) (side : Side) (first page : ℕ) : Type 
   pub wear : Wears (not_blank_from first (take (page - first) (set_of (other side) old))) old now
   pub goes : GoesOn old now
 
-module _ (side : Side) (old : Device) (first pages : ℕ) (formed : IsFormed old) (first_is : first ≡ first_page old.size (other side)) (pages_is : pages ≡ old.size.pages) where
+module _ (side : Side) (old : Device) (first pages : ℕ) (formed : IsFormed old)
+    (first_is : first ≡ first_page old.size (other side)) (pages_is : pages ≡ old.size.pages) where
   -- the whole set
-  pub all_cleared : (new : Device) (page : ℕ) → IsFormed new → page ≡ first + pages → ClearedTo old new side first page → All (λ words. is_blank words ≡ true) (set_of (other side) new) × Wears (not_blank_in (other side) old) old new
+  pub all_cleared : (new : Device) (page : ℕ) → IsFormed new → page ≡ first + pages
+      → ClearedTo old new side first page
+      → All (λ words. is_blank words ≡ true) (set_of (other side) new)
+      × Wears (not_blank_in (other side) old) old new
   all_cleared new page new_formed end all =
       let start = ap (λ size. first_page size (other side)) all.keeps.same_size in
       let counted = ap (λ size. size.pages) all.keeps.same_size in
-      let long : page - first ≡ length (set_of (other side) old) = omega (arith, length-set_of (other side) _ formed) in (
+      let long : page - first ≡ length (set_of (other side) old) =
+      omega (arith, length-set_of (other side) _ formed) in (
         all_blank _ _ new_formed (λ k from below. all.blank k (omega arith) (omega arith)),
-        subst (λ n. Wears (not_blank_from n (set_of (other side) old)) old new) first_is (all_wear _ _ _ _ _ long all.wear),
+        subst (λ n. Wears (not_blank_from n (set_of (other side) old)) old new) first_is
+            (all_wear _ _ _ _ _ long all.wear),
       )
 
-  module _ (mid : Device) (page : ℕ) (from : first ≤ page) (below : page < first + pages) (so_far : ClearedTo old mid side first page) where
+  module _ (mid : Device) (page : ℕ) (from : first ≤ page) (below : page < first + pages)
+      (so_far : ClearedTo old mid side first page) where
     at : first + (page - first) ≡ page
     at = omega arith
 
@@ -37,17 +44,23 @@ module _ (side : Side) (old : Device) (first pages : ℕ) (formed : IsFormed old
     there = search (rules, page_there)
 
     -- one page more
-    pub cleared_next : (new : Device) → KeepsSide mid new side → BlanksPage mid new page → ClearedTo old new side first (page + 1)
+    pub cleared_next : (new : Device) → KeepsSide mid new side → BlanksPage mid new page
+        → ClearedTo old new side first (page + 1)
     cleared_next new keeps step =
         record {
           keeps = keeps_side_both _ _ _ _ so_far.keeps keeps;
           blank = search rules;
           rest = search rules;
-          wear = subst (λ n. Wears (not_blank_from first (take n (set_of (other side) old))) old new) (omega arith) (wears_next _ _ _ page _ mid _ at within there so_far.wear step.wear);
+          wear = subst
+              (λ n. Wears (not_blank_from first (take n (set_of (other side) old))) old new)
+              (omega arith) (wears_next _ _ _ page _ mid _ at within there so_far.wear step.wear);
           goes = goes_on_both _ _ _ so_far.goes step.power;
         }
 
     -- or power was cut in erasing it
-    pub cleared_cut : (new : Device) → is_blank (page_at mid page) ≡ false → Wears (page ∷ []) mid new → IsSameBut page mid new → IsPartlyErased (page_at mid page) (page_at new page)
+    pub cleared_cut : (new : Device) → is_blank (page_at mid page) ≡ false
+        → Wears (page ∷ []) mid new → IsSameBut page mid new
+        → IsPartlyErased (page_at mid page) (page_at new page)
         → ErasesPartly (first_page old.size (other side)) (set_of (other side) old) old new
-    cleared_cut new written now others partly = search (rules, erases_partly, wears_to, at, within, there)
+    cleared_cut new written now others partly =
+        search (rules, erases_partly, wears_to, at, within, there)

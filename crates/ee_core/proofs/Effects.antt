@@ -9,8 +9,13 @@ use Rattle.ee_core.specs.declared.variables.ForgetFault.TheVariants as forget
 use Rattle.ee_core.specs.declared.variables.WriteFault.TheVariants as write
 use Rattle.ee_core.specs.declared.variables.Written.TheVariants.{Appended, Moved}
 
-module _ (holds : Bool → List Change → Type 0) (old new : Device) (nothing : new ≡ old → holds false []) (appends : (change : Change) → Appends old change new → holds false (change ∷ [])) (moves : (changes : List Change) → Moves old changes new → holds true changes) where
-  effect : (call : Call) → is_cut call ≡ false → Follows call old new → (call ≡ Cleaned (Ok true) → ErasesOne old new → holds false []) → holds (is_transfer call) (changes_of_call call)
+module _ (holds : Bool → List Change → Type 0) (old new : Device)
+    (nothing : new ≡ old → holds false [])
+    (appends : (change : Change) → Appends old change new → holds false (change ∷ []))
+    (moves : (changes : List Change) → Moves old changes new → holds true changes) where
+  effect : (call : Call) → is_cut call ≡ false → Follows call old new
+      → (call ≡ Cleaned (Ok true) → ErasesOne old new → holds false [])
+      → holds (is_transfer call) (changes_of_call call)
   effect (Wrote address value (Ok Appended)) _ done _ = appends (Put address value) done
   effect (Wrote address value (Ok Moved)) _ done _ = moves (Put address value ∷ []) done
   effect (Wrote _ _ (Err write.Off)) _ done _ = nothing done.1
@@ -51,8 +56,11 @@ module _ (holds : Bool → List Change → Type 0) (old new : Device) (nothing :
 -- A property of whether the map moved, and of the changes that were made, holds of the call if it
 -- holds where the call left the device as it was, appended a change, moved the map with some, or
 -- was a clean step that erased a page.
-pub by_effect : (holds : Bool → List Change → Type 0) (call : Call) (old new : Device) → is_cut call ≡ false → Follows call old new
-    → (new ≡ old → holds false []) → ((change : Change) → Appends old change new → holds false (change ∷ []))
-    → ((changes : List Change) → Moves old changes new → holds true changes) → (call ≡ Cleaned (Ok true) → ErasesOne old new → holds false [])
+pub by_effect : (holds : Bool → List Change → Type 0) (call : Call) (old new : Device)
+    → is_cut call ≡ false → Follows call old new → (new ≡ old → holds false [])
+    → ((change : Change) → Appends old change new → holds false (change ∷ []))
+    → ((changes : List Change) → Moves old changes new → holds true changes)
+    → (call ≡ Cleaned (Ok true) → ErasesOne old new → holds false [])
     → holds (is_transfer call) (changes_of_call call)
-by_effect holds call old new whole done nothing appends moves erases = effect holds old new nothing appends moves call whole done erases
+by_effect holds call old new whole done nothing appends moves erases =
+    effect holds old new nothing appends moves call whole done erases

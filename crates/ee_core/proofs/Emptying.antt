@@ -7,18 +7,32 @@ use Rattle.ee_core.specs.Emptying.{Empties, IsCutClear, MayClear, ShowsCleared, 
 use Rattle.ee_core.specs.Puts.{forgets_from}
 
 module _ (old new : Device) (side : Side) (generation : ℕ) (live : IsLive old side generation) where
-  state_cleared : HasMoved old new side generation each_forgotten → state_of new ≡ cleared_state (used_pages_of old) (state_of old)
+  state_cleared : HasMoved old new side generation each_forgotten
+      → state_of new ≡ cleared_state (used_pages_of old) (state_of old)
   state_cleared has =
       let slots = slots_of (set_of side old) in
       let map = ap (λ state. state.map) (state_is _ _ _ live) in
-      state_moved _ _ _ _ live _ has ∙ rw ((ap (λ said. live_in (changed_by each_forgotten said)) map ∙ sym (none_live slots)), (ap (changed_by each_forgotten) map ∙ fun_ext (all_forgotten slots)), (sym (ap (used_pages_in old) live.live))) refl
+      state_moved _ _ _ _ live _ has
+      ∙ rw (
+        (ap (λ said. live_in (changed_by each_forgotten said)) map ∙ sym (none_live slots)),
+        (ap (changed_by each_forgotten) map ∙ fun_ext (all_forgotten slots)),
+        (sym (ap (used_pages_in old) live.live)),
+      ) refl
 
-  pub empties : MayClear old → pending_of (set_of side old) ≤ old.size.pages → GoesOn old new → HasMoved old new side generation each_forgotten → Wears (not_blank_in (other side) old) old new
-      → IsDrawn (other side) new (filled_set old.size (generation + 1) []) → IsDrawn side new (retired_pages (is_used side old) (picture_of side old)) → Empties old new
-  empties may few goes_on has wear new_pages old_pages = search (rules, state_is, state_cleared, pending_was)
+  pub empties : MayClear old → pending_of (set_of side old) ≤ old.size.pages → GoesOn old new
+      → HasMoved old new side generation each_forgotten
+      → Wears (not_blank_in (other side) old) old new
+      → IsDrawn (other side) new (filled_set old.size (generation + 1) [])
+      → IsDrawn side new (retired_pages (is_used side old) (picture_of side old)) → Empties old new
+  empties may few goes_on has wear new_pages old_pages =
+      search (rules, state_is, state_cleared, pending_was)
 
-  pub cut_clear : MayClear old → IsCut old new → pending_of (set_of (other side) new) ≤ old.size.pages → KeepsLiveSet old new side generation ⊎ HasMoved old new side generation each_forgotten
-      → ErasesPartly (first_page old.size (other side)) (set_of (other side) old) old new ⊎ MovesPartly old new side generation [] → IsCutClear old new
+  pub cut_clear : MayClear old → IsCut old new
+      → pending_of (set_of (other side) new) ≤ old.size.pages
+      → KeepsLiveSet old new side generation ⊎ HasMoved old new side generation each_forgotten
+      → ErasesPartly (first_page old.size (other side)) (set_of (other side) old) old new
+      ⊎ MovesPartly old new side generation []
+      → IsCutClear old new
   cut_clear may cut few left words = search (rules, state_is, state_kept, state_cleared)
 
 -- ---- a clear is a transfer that forgets each address
@@ -27,7 +41,8 @@ two_first : each_forgotten ≡ Forget 1 ∷ Forget 2 ∷ forgets_from 3 65532
 unfolding forgets_from
 two_first = refl
 
-module _ (old new : Device) (side : Side) (generation : ℕ) (live : live_of old ≡ Some (side, generation)) where
+module _ (old new : Device) (side : Side) (generation : ℕ)
+    (live : live_of old ≡ Some (side, generation)) where
   map_said : (state_of old).map ≡ meaning (slots_of (set_of side old))
   map_said = search rules
 
@@ -40,7 +55,8 @@ module _ (old new : Device) (side : Side) (generation : ℕ) (live : live_of old
   no_words_left : moved_words each_forgotten (state_of old).map ≡ []
   no_words_left = search (rules, map_said, none_moved)
 
-  module _ (first second : Change) (more : List Change) (same : each_forgotten ≡ first ∷ second ∷ more) where
+  module _ (first second : Change) (more : List Change)
+      (same : each_forgotten ≡ first ∷ second ∷ more) where
     abbrev all : List Change
     all = first ∷ second ∷ more
 
@@ -60,7 +76,10 @@ module _ (old new : Device) (side : Side) (generation : ℕ) (live : live_of old
         generation,
         live,
         record {
-          new_pages = subst (λ words. IsDrawn (other side) new (filled_set old.size (generation + 1) words)) (sym no_words_left ∙ ap (λ changes. moved_words changes (state_of old).map) same) shows.new_pages;
+          new_pages =
+              subst (λ words. IsDrawn (other side) new (filled_set old.size (generation + 1) words))
+              (sym no_words_left ∙ ap (λ changes. moved_words changes (state_of old).map) same)
+              shows.new_pages;
           old_pages = shows.old_pages;
         },
       );
@@ -72,5 +91,7 @@ clear_moves old new done = search (rules, two_first, all_moves)
 
 -- after a cut the map is as it was, or each address is forgotten, and nothing has a value
 pub cut_clearing : (old new : Device) → IsCutClear old new
-    → ((state_of new).map ≡ (state_of old).map) ⊎ (((state_of new).map ≡ changed_by each_forgotten (state_of old).map) × ((address : ℕ) → (state_of new).map address ≡ None))
+    → ((state_of new).map ≡ (state_of old).map)
+    ⊎ (((state_of new).map ≡ changed_by each_forgotten (state_of old).map)
+    × ((address : ℕ) → (state_of new).map address ≡ None))
 cut_clearing old new cut = search (rules, none_left)

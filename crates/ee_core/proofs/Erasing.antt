@@ -4,7 +4,8 @@ use Rattle.ee_core.proofs.Cuts.{erase_partly}
 use Rattle.ee_core.proofs.SetPages.{page_of_device}
 use Rattle.ee_core.proofs.Wears.{cut_page_wears, page_wears}
 
-module _ (page : ℕ) (old new : Device) (side : Side) (formed : IsFormed old) (at : IsPageOf old.size (other side) page) where
+module _ (page : ℕ) (old new : Device) (side : Side) (formed : IsFormed old)
+    (at : IsPageOf old.size (other side) page) where
   erasing : MayFollow (Erase page) old new → IsStep (Erase page) old new
   erasing follows = search (rules, page_of_device)
 
@@ -17,11 +18,22 @@ module _ (page : ℕ) (old new : Device) (side : Side) (formed : IsFormed old) (
   has_wear : page < length old.wear
   has_wear = omega (arith, page_of_device _ (other side) _ at)
 
-  pub page_erased : is_blank (page_at old page) ≡ false → IsOn old → new ≡ with_page_erased page old → PageErased old new side page
+  pub page_erased : is_blank (page_at old page) ≡ false → IsOn old → new ≡ with_page_erased page old
+      → PageErased old new side page
   page_erased not_blank on done =
       let whole = inl (record { was_on = on; done = done }) in
       let lowers = whole_erase_lowers_pending _ _ _ _ at not_blank (erasing whole) done in
       search (rules, keeps, others_stay, page_wears, has_wear)
 
-  pub page_erased_partly : is_blank (page_at old page) ≡ false → IsCutIn (Erase page) old new ⊎ IsUntouched old new → PageErasedPartly old new side page
-  page_erased_partly not_blank cut = search (rules, keeps, others_stay, erase_partly, erase_lowers_pending, erasing, cut_page_wears, has_wear)
+  pub page_erased_partly : is_blank (page_at old page) ≡ false
+      → IsCutIn (Erase page) old new ⊎ IsUntouched old new → PageErasedPartly old new side page
+  page_erased_partly not_blank cut = search (
+    rules,
+    keeps,
+    others_stay,
+    erase_partly,
+    erase_lowers_pending,
+    erasing,
+    cut_page_wears,
+    has_wear,
+  )

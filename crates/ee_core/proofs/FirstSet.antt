@@ -4,13 +4,17 @@ use Rattle.ee_core.proofs.Marks.{IsProper, mark_step, marked_by}
 use Rattle.ee_core.proofs.States.{same_states, state_is}
 
 -- a blank page has no mark
-pub unmarked : (device : Device) (page : ℕ) (mark : Mark) → IsFormed device → All (λ words. is_blank words ≡ true) device.image → page < page_count device.size → is_marked device page mark ≡ false
+pub unmarked : (device : Device) (page : ℕ) (mark : Mark) → IsFormed device
+    → All (λ words. is_blank words ≡ true) device.image → page < page_count device.size
+    → is_marked device page mark ≡ false
 unmarked device page mark formed all h = search (rules, blank_word, All-get_or)
 
-pub erased_commits : (pages : List (List Word)) → word_of pages 0 1 ≡ Erased → committed_generation pages ≡ None
+pub erased_commits : (pages : List (List Word)) → word_of pages 0 1 ≡ Erased
+    → committed_generation pages ≡ None
 erased_commits _ e = rw e refl
 
-pub no_pending : (pages : List (List Word)) → All (λ words. is_blank words ≡ true) pages → pending_of pages ≡ 0
+pub no_pending : (pages : List (List Word)) → All (λ words. is_blank words ≡ true) pages
+    → pending_of pages ≡ 0
 no_pending [] _ = refl
 no_pending (page ∷ pages) each =
     rw (each 0 [] (omega arith)) (no_pending pages (λ k none h. each (suc k) none (omega arith)))
@@ -21,15 +25,23 @@ proper_first generation e = search rules
 pub proper_active : IsProper Active
 proper_active _ e = cc
 
-module _ (blank mid : Device) (formed : IsFormed blank) (all : All (λ words. is_blank words ≡ true) blank.image) (on : IsOn blank) (whole : mid ≡ device_after (marking 0 (Receive 1)) blank) where
+module _ (blank mid : Device) (formed : IsFormed blank)
+    (all : All (λ words. is_blank words ≡ true) blank.image) (on : IsOn blank)
+    (whole : mid ≡ device_after (marking 0 (Receive 1)) blank) where
   in_device : 0 < page_count blank.size
   in_device = omega arith
 
   pub receiving : IsStep (marking 0 (Receive 1)) blank mid
-  receiving = mark_step 0 _ _ _ formed in_device proper_first (unmarked blank 0 (Receive 1) formed all in_device) (inl (record { was_on = on; done = whole }))
+  receiving =
+      mark_step 0 _ _ _ formed in_device proper_first
+      (unmarked blank 0 (Receive 1) formed all in_device)
+      (inl (record { was_on = on; done = whole }))
 
-  pub opened : IsFilling mid First 1 0 × ((address : ℕ) → meaning (slots_of (set_of First mid)) address ≡ None)
-  opened = opens_set _ _ _ 1 (omega arith, omega arith) (All-take (λ words. is_blank words ≡ true) _ _ all) receiving whole
+  pub opened : IsFilling mid First 1 0
+      × ((address : ℕ) → meaning (slots_of (set_of First mid)) address ≡ None)
+  opened =
+      opens_set _ _ _ 1 (omega arith, omega arith)
+      (All-take (λ words. is_blank words ≡ true) _ _ all) receiving whole
 
   pub active_unset : is_marked mid 0 Active ≡ false
   active_unset = ap is_written (sym (first_word First _ 1 opened.0.formed) ∙ opened.0.uncommitted)
@@ -45,7 +57,8 @@ module _ (blank mid : Device) (formed : IsFormed blank) (all : All (λ words. is
       let word = erased_word _ (unmarked blank blank.size.pages Active formed all (omega arith)) in
       search (rules, same_second, erased_commits, first_word)
 
-  module _ (new : Device) (mid_on : IsOn mid) (done : new ≡ device_after (marking 0 Active) mid) where
+  module _ (new : Device) (mid_on : IsOn mid)
+      (done : new ≡ device_after (marking 0 Active) mid) where
     committing : IsStep (marking 0 Active) mid new
     committing = search (rules, mark_step, opened, proper_active, active_unset)
 
@@ -62,13 +75,25 @@ module _ (blank mid : Device) (formed : IsFormed blank) (all : All (λ words. is
     first_is_last = search (rules, no_fill, no_slot)
 
     second_still_blank : All (λ words. is_blank words ≡ true) (set_of Second new)
-    second_still_blank = subst (All (λ words. is_blank words ≡ true)) (sym (both.1 ∙ same_second)) second_blank
+    second_still_blank =
+        subst (All (λ words. is_blank words ≡ true)) (sym (both.1 ∙ same_second)) second_blank
 
     pub first_layout : IsLayout new (record { side = First; generation = 1; fill = 0; current = 0 })
     first_layout = search (rules, both, no_fill, no_slot)
 
     pub first_marked : IsMarked new First
-    first_marked = search (rules, first_is_last, marked_by, committing, length-set_of, both, page_of_set, All-get_or, second_still_blank)
+    first_marked = search (
+      rules,
+      first_is_last,
+      marked_by,
+      committing,
+      length-set_of,
+      both,
+      page_of_set,
+      All-get_or,
+      second_still_blank,
+    )
 
     pub first_state : state_of new ≡ formatted_state
-    first_state = search (rules, state_is, both, same_states, opened, no_fill, no_pending, second_still_blank)
+    first_state =
+        search (rules, state_is, both, same_states, opened, no_fill, no_pending, second_still_blank)

@@ -12,27 +12,56 @@ pub record BlanksPage (mid new : Device) (page : ℕ) : Type 0 where
   pub wear : Wears (named page (page_at mid page)) mid new
   pub power : GoesOn mid new
 
-pub blank_already : (device : Device) (page : ℕ) → is_blank (page_at device page) ≡ true → BlanksPage device device page
-blank_already device page blank = record { others = λ k apart. refl; blank = blank; wear = blank_wears page (page_at device page) _ blank; power = goes_on_same _ }
+pub blank_already : (device : Device) (page : ℕ) → is_blank (page_at device page) ≡ true
+    → BlanksPage device device page
+blank_already device page blank = record {
+  others = λ k apart. refl;
+  blank = blank;
+  wear = blank_wears page (page_at device page) _ blank;
+  power = goes_on_same _;
+}
 
-erase_goes_on : (page : ℕ) (old new : Device) → IsOn old → new ≡ with_page_erased page old → GoesOn old new
-erase_goes_on _ _ _ on done = rw done (record { same_size = refl; same_power = refl; same_cuts = refl; same_cuts_left = refl; same_while_off = search rules })
+erase_goes_on : (page : ℕ) (old new : Device) → IsOn old → new ≡ with_page_erased page old
+    → GoesOn old new
+erase_goes_on _ _ _ on done =
+    rw done
+    (record {
+      same_size = refl;
+      same_power = refl;
+      same_cuts = refl;
+      same_cuts_left = refl;
+      same_while_off = search rules;
+    })
 
-pub blanks_page : (page : ℕ) (mid new : Device) → IsFormed mid → page < page_count mid.size → is_blank (page_at mid page) ≡ false → IsOn mid → new ≡ with_page_erased page mid → BlanksPage mid new page
+pub blanks_page : (page : ℕ) (mid new : Device) → IsFormed mid → page < page_count mid.size
+    → is_blank (page_at mid page) ≡ false → IsOn mid → new ≡ with_page_erased page mid
+    → BlanksPage mid new page
 blanks_page page mid new formed h written on done =
     let words = replicate mid.size.words Erased in
     let there =
-    ap (λ device. page_at device page) done ∙ get_or-set_same mid.image page words [] (omega arith) in
+    ap (λ device. page_at device page) done
+    ∙ get_or-set_same mid.image page words [] (omega arith) in
     record {
-      others = λ k apart. ap (λ device. page_at device k) done ∙ get_or-set_other mid.image page k words [] apart;
-      blank = ap is_blank there ∙ blank_page _ _ (length-replicate mid.size.words Erased) (λ k below. ap is_written (get_or-replicate mid.size.words k Erased Erased below));
-      wear = written_wears _ (page_at mid page) _ _ written (page_wears _ _ _ (omega arith) (ap (λ device. device.wear) done));
+      others =
+          λ k apart.
+          ap (λ device. page_at device k) done ∙ get_or-set_other mid.image page k words [] apart;
+      blank =
+          ap is_blank there
+          ∙ blank_page _ _ (length-replicate mid.size.words Erased)
+          (λ k below. ap is_written (get_or-replicate mid.size.words k Erased Erased below));
+      wear = written_wears _ (page_at mid page) _ _ written
+          (page_wears _ _ _ (omega arith) (ap (λ device. device.wear) done));
       power = erase_goes_on page mid new on done;
     }
 
 -- one page more is blank
-pub blank_more : (page : ℕ) (mid new : Device) → ((k : ℕ) → k < page → is_blank (page_at mid k) ≡ true) → BlanksPage mid new page → (k : ℕ) → k < page + 1 → is_blank (page_at new k) ≡ true
+pub blank_more : (page : ℕ) (mid new : Device)
+    → ((k : ℕ) → k < page → is_blank (page_at mid k) ≡ true) → BlanksPage mid new page → (k : ℕ)
+    → k < page + 1 → is_blank (page_at new k) ≡ true
 blank_more page _ new before blanks k h = search rules
 
-pub all_blank : (device : Device) (pages : ℕ) → length device.image ≤ pages → ((k : ℕ) → k < pages → is_blank (page_at device k) ≡ true) → All (λ page. is_blank page ≡ true) device.image
-all_blank _ _ h each = All-from_get_or (λ page. is_blank page ≡ true) _ [] (λ k in_range. each k (omega arith))
+pub all_blank : (device : Device) (pages : ℕ) → length device.image ≤ pages
+    → ((k : ℕ) → k < pages → is_blank (page_at device k) ≡ true)
+    → All (λ page. is_blank page ≡ true) device.image
+all_blank _ _ h each =
+    All-from_get_or (λ page. is_blank page ≡ true) _ [] (λ k in_range. each k (omega arith))

@@ -6,49 +6,78 @@ use Rattle.ee_core.proofs.Marks.{same_stays}
 use Rattle.ee_core.proofs.KeptMarks.{fill_fits}
 
 -- after what keeps the live set, the layout is still right
-pub layout_stays : (layout : Layout) (old new : Device) → IsLayout old layout → Stays old new layout.side layout.generation → IsLayout new layout
+pub layout_stays : (layout : Layout) (old new : Device) → IsLayout old layout
+    → Stays old new layout.side layout.generation → IsLayout new layout
 layout_stays _ _ _ is stays = search rules
 
-pub stays_both : (old mid new : Device) (side : Side) (generation : ℕ) → Stays old mid side generation → Stays mid new side generation → Stays old new side generation
+pub stays_both : (old mid new : Device) (side : Side) (generation : ℕ)
+    → Stays old mid side generation → Stays mid new side generation → Stays old new side generation
 stays_both _ _ _ _ _ first second = search rules
 
 -- the page of the last used slot, counted from the set's first
-pub last_is : (layout : Layout) (device : Device) → IsLayout device layout → layout.current ≡ first_page device.size layout.side + last_used device layout.side
+pub last_is : (layout : Layout) (device : Device) → IsLayout device layout
+    → layout.current ≡ first_page device.size layout.side + last_used device layout.side
 last_is layout device is = search rules
 
-pub last_in_range : (layout : Layout) (device : Device) → IsLayout device layout → last_used device layout.side < device.size.pages
+pub last_in_range : (layout : Layout) (device : Device) → IsLayout device layout
+    → last_used device layout.side < device.size.pages
 last_in_range layout device is = search (rules, page_in_range, slot_below, fill_fits)
 
-pub current_below : (layout : Layout) (device : Device) → IsLayout device layout → layout.current < 128
-current_below layout device is = omega (arith, last_is layout device is, last_in_range layout device is, first_below device.size layout.side)
+pub current_below : (layout : Layout) (device : Device) → IsLayout device layout
+    → layout.current < 128
+current_below layout device is =
+    omega (
+      arith,
+      last_is layout device is,
+      last_in_range layout device is,
+      first_below device.size layout.side,
+    )
 
 -- a page up to that one stands behind written slots
-mark_behind : (layout : Layout) (device : Device) (page : ℕ) (mark : Mark) → IsLayout device layout → page ≤ last_used device layout.side → (mark ≡ Active) ⊎ (mark ≡ Valid) → IsMarkBehind device layout.side page mark
+mark_behind : (layout : Layout) (device : Device) (page : ℕ) (mark : Mark) → IsLayout device layout
+    → page ≤ last_used device layout.side → (mark ≡ Active) ⊎ (mark ≡ Valid)
+    → IsMarkBehind device layout.side page mark
 mark_behind layout device _ _ is h kind = search (rules, last_in_range)
 
-pub valid_behind : (layout : Layout) (device : Device) (page : ℕ) → IsLayout device layout → first_page device.size layout.side ≤ page → page < layout.current → IsMarkBehind device layout.side (page - first_page device.size layout.side) Valid
+pub valid_behind : (layout : Layout) (device : Device) (page : ℕ) → IsLayout device layout
+    → first_page device.size layout.side ≤ page → page < layout.current
+    → IsMarkBehind device layout.side (page - first_page device.size layout.side) Valid
 valid_behind layout device page is _ below =
-    mark_behind layout device (page - first_page device.size layout.side) Valid is (omega (arith, last_is layout device is)) (inr refl)
+    mark_behind layout device (page - first_page device.size layout.side) Valid is
+    (omega (arith, last_is layout device is)) (inr refl)
 
-pub last_behind : (layout : Layout) (device : Device) (mark : Mark) → IsLayout device layout → (mark ≡ Active) ⊎ (mark ≡ Valid) → IsMarkBehind device layout.side (layout.current - first_page device.size layout.side) mark
+pub last_behind : (layout : Layout) (device : Device) (mark : Mark) → IsLayout device layout
+    → (mark ≡ Active) ⊎ (mark ≡ Valid)
+    → IsMarkBehind device layout.side (layout.current - first_page device.size layout.side) mark
 last_behind layout device mark is kind =
-    mark_behind layout device (layout.current - first_page device.size layout.side) mark is (omega (arith, last_is layout device is)) kind
+    mark_behind layout device (layout.current - first_page device.size layout.side) mark is
+    (omega (arith, last_is layout device is)) kind
 
 -- where the live set is marked, each mark is set
-pub valid_already : (layout : Layout) (device : Device) (page : ℕ) → IsLayout device layout → IsLiveMarked device layout.side → first_page device.size layout.side ≤ page → page < layout.current → is_marked device page Valid ≡ true
+pub valid_already : (layout : Layout) (device : Device) (page : ℕ) → IsLayout device layout
+    → IsLiveMarked device layout.side → first_page device.size layout.side ≤ page
+    → page < layout.current → is_marked device page Valid ≡ true
 valid_already layout device page is marked from below =
     ap (λ n. is_marked device n Valid) (omega arith)
-    ∙ marked.valid (page - first_page device.size layout.side) (omega (arith, last_is layout device is))
+    ∙ marked.valid (page - first_page device.size layout.side)
+    (omega (arith, last_is layout device is))
 
 -- one page more is marked
-pub valid_more : (first page : ℕ) (mid new : Device) → first ≤ page → ((k : ℕ) → k < page - first → is_marked mid (first + k) Valid ≡ true) → KeepsMarks mid new → is_marked new page Valid ≡ true → (k : ℕ) → k < page + 1 - first → is_marked new (first + k) Valid ≡ true
+pub valid_more : (first page : ℕ) (mid new : Device) → first ≤ page
+    → ((k : ℕ) → k < page - first → is_marked mid (first + k) Valid ≡ true) → KeepsMarks mid new
+    → is_marked new page Valid ≡ true → (k : ℕ) → k < page + 1 - first
+    → is_marked new (first + k) Valid ≡ true
 valid_more first page _ new _ before keeps here k h = elim (cases_lt k _) [
   | inl earlier ↦ keeps (first + k) Valid (before k earlier)
   | inr last ↦ search rules
 ]
 
 -- the marks of the live set, said of the device as it was
-pub live_marked : (layout : Layout) (old mid new : Device) → IsLayout old layout → Stays old new layout.side layout.generation → ((k : ℕ) → k < layout.current - first_page old.size layout.side → is_marked mid (first_page old.size layout.side + k) Valid ≡ true) → KeepsMarks mid new → is_marked new layout.current Active ≡ true → IsLiveMarked new layout.side
+pub live_marked : (layout : Layout) (old mid new : Device) → IsLayout old layout
+    → Stays old new layout.side layout.generation
+    → ((k : ℕ) → k < layout.current - first_page old.size layout.side
+    → is_marked mid (first_page old.size layout.side + k) Valid ≡ true)
+    → KeepsMarks mid new → is_marked new layout.current Active ≡ true → IsLiveMarked new layout.side
 live_marked layout old _ new is stays valid keeps active =
     let first = ap (λ size. first_page size layout.side) stays.keeps.same_size in
     let place = sym (last_is layout new (layout_stays layout old new is stays)) in
@@ -60,23 +89,34 @@ live_marked layout old _ new is stays valid keeps active =
     }
 
 -- marks that a further call keeps
-pub live_marks_kept : (side : Side) (old new : Device) (generation : ℕ) → Stays old new side generation → KeepsMarks old new → IsLiveMarked old side → IsLiveMarked new side
+pub live_marks_kept : (side : Side) (old new : Device) (generation : ℕ)
+    → Stays old new side generation → KeepsMarks old new → IsLiveMarked old side
+    → IsLiveMarked new side
 live_marks_kept side old new _ stays keeps marked =
     let first = ap (λ size. first_page size side) stays.keeps.same_size in
     let last =
     ap (λ size. page_of_slot size (fill_of (slots_of (set_of side new)) - 1)) stays.keeps.same_size
     ∙ ap (λ fill. page_of_slot old.size (fill - 1)) stays.keeps.same_fill in
     record {
-      valid = λ page below. ap (λ n. is_marked new (n + page) Valid) first ∙ keeps (first_page old.size side + page) Valid (marked.valid page (subst (λ n. page < n) last below));
-      active = ap (λ n. is_marked new (n + last_used new side) Active) first ∙ ap (λ n. is_marked new (first_page old.size side + n) Active) last ∙ keeps (first_page old.size side + last_used old side) Active marked.active;
+      valid =
+          λ page below. ap (λ n. is_marked new (n + page) Valid) first
+          ∙ keeps (first_page old.size side + page) Valid
+          (marked.valid page (subst (λ n. page < n) last below));
+      active =
+          ap (λ n. is_marked new (n + last_used new side) Active) first
+          ∙ ap (λ n. is_marked new (first_page old.size side + n) Active) last
+          ∙ keeps (first_page old.size side + last_used old side) Active marked.active;
     }
 
 -- a page of the other set is done
 abbrev pub IsPageDone : Device → ℕ → Type 0
-IsPageDone device page = (is_blank (page_at device page) ≡ true) ⊎ (is_marked device page Erasing ≡ true)
+IsPageDone device page =
+    (is_blank (page_at device page) ≡ true) ⊎ (is_marked device page Erasing ≡ true)
 
 -- one page more is done, and the others are as before
-pub done_more : (first page : ℕ) (mid new : Device) → first ≤ page → ((k : ℕ) → k < page - first → IsPageDone mid (first + k)) → IsSameBut page mid new → IsPageDone new page → (k : ℕ) → k < page + 1 - first → IsPageDone new (first + k)
+pub done_more : (first page : ℕ) (mid new : Device) → first ≤ page
+    → ((k : ℕ) → k < page - first → IsPageDone mid (first + k)) → IsSameBut page mid new
+    → IsPageDone new page → (k : ℕ) → k < page + 1 - first → IsPageDone new (first + k)
 done_more first page _ new _ before same here k h = search rules
 
 -- what marking a page of the other set leaves, if it was not done
@@ -90,23 +130,52 @@ pub record MarksPage (mid new : Device) (side : Side) (generation page : ℕ) : 
   pub waiting : is_blank (page_at mid page) ≡ false → SetsMark page Erasing mid new
   pub passed : is_blank (page_at mid page) ≡ true → new ≡ mid
 
-pub marks_none : (device : Device) (side : Side) (generation page : ℕ) → IsLive device side generation → is_blank (page_at device page) ≡ true → MarksPage device device side generation page
-marks_none _ _ _ _ live blank = record { stays = same_stays _ _ _ _ live refl; marks = λ p mark was. was; others = λ p apart. refl; done = inl blank; no_step = λ done. refl; power = goes_on_same _; waiting = search rules; passed = λ is. refl }
+pub marks_none : (device : Device) (side : Side) (generation page : ℕ)
+    → IsLive device side generation → is_blank (page_at device page) ≡ true
+    → MarksPage device device side generation page
+marks_none _ _ _ _ live blank = record {
+  stays = same_stays _ _ _ _ live refl;
+  marks = λ p mark was. was;
+  others = λ p apart. refl;
+  done = inl blank;
+  no_step = λ done. refl;
+  power = goes_on_same _;
+  waiting = search rules;
+  passed = λ is. refl;
+}
 
 -- a page that is not blank is done only by its mark
-pub marked_from : (device : Device) (page : ℕ) → is_blank (page_at device page) ≡ false → IsPageDone device page → is_marked device page Erasing ≡ true
+pub marked_from : (device : Device) (page : ℕ) → is_blank (page_at device page) ≡ false
+    → IsPageDone device page → is_marked device page Erasing ≡ true
 marked_from _ _ written (inl blank) = absurd (true≢false (sym blank ∙ written))
 marked_from _ _ _ (inr marked) = marked
 
-pub marks_one : (mid new : Device) (side : Side) (generation page : ℕ) → is_blank (page_at mid page) ≡ false → Stays mid new side generation → KeepsMarks mid new → IsSameBut page mid new → is_marked new page Erasing ≡ true → SetsMark page Erasing mid new → (is_marked mid page Erasing ≡ true → new ≡ mid) → GoesOn mid new → MarksPage mid new side generation page
+pub marks_one : (mid new : Device) (side : Side) (generation page : ℕ)
+    → is_blank (page_at mid page) ≡ false → Stays mid new side generation → KeepsMarks mid new
+    → IsSameBut page mid new → is_marked new page Erasing ≡ true → SetsMark page Erasing mid new
+    → (is_marked mid page Erasing ≡ true → new ≡ mid) → GoesOn mid new
+    → MarksPage mid new side generation page
 marks_one mid _ _ _ page written stays marks others marked sets no_step power =
-    record { stays = stays; marks = marks; others = others; done = inr marked; no_step = λ done. no_step (marked_from mid page written done); power = power; waiting = λ is. sets; passed = search rules }
+    record {
+      stays = stays;
+      marks = marks;
+      others = others;
+      done = inr marked;
+      no_step = λ done. no_step (marked_from mid page written done);
+      power = power;
+      waiting = λ is. sets;
+      passed = search rules;
+    }
 
 -- where the other set is marked, each page of it is done
-pub done_already : (device : Device) (side : Side) (page : ℕ) → IsOldMarked device side → first_page device.size side ≤ page → page < first_page device.size side + device.size.pages → IsPageDone device page
+pub done_already : (device : Device) (side : Side) (page : ℕ) → IsOldMarked device side
+    → first_page device.size side ≤ page → page < first_page device.size side + device.size.pages
+    → IsPageDone device page
 done_already device side page marked from below =
-    subst (λ n. IsPageDone device n) (omega arith) (marked (page - first_page device.size side) (omega arith))
+    subst (λ n. IsPageDone device n) (omega arith)
+    (marked (page - first_page device.size side) (omega arith))
 
 -- in a device that is as before
-pub old_marks_kept : (side : Side) (old new : Device) → new ≡ old → IsOldMarked old side → IsOldMarked new side
+pub old_marks_kept : (side : Side) (old new : Device) → new ≡ old → IsOldMarked old side
+    → IsOldMarked new side
 old_marks_kept side _ _ same marked = search rules

@@ -4,15 +4,22 @@ use Rattle.ee_flash.specs.declared.device.Cut.{Cut}
 use Rattle.ee_core.proofs.PendingPages.{same_not_blank}
 
 -- a written word stays one where a word of the pages gets written
-written_stays : (image : List (List Word)) (page at : ℕ) (word : Word) (p k : ℕ) → page < length image → at < length (get_or image page []) → is_written word ≡ true → is_written (word_in (get_or image p []) k) ≡ true → is_written (word_in (get_or (set image page (set (get_or image page []) at word)) p []) k) ≡ true
+written_stays : (image : List (List Word)) (page at : ℕ) (word : Word) (p k : ℕ)
+    → page < length image → at < length (get_or image page []) → is_written word ≡ true
+    → is_written (word_in (get_or image p []) k) ≡ true
+    → is_written (word_in (get_or (set image page (set (get_or image page []) at word)) p []) k)
+    ≡ true
 written_stays image page at word p k h within written was = search rules
 
 -- no outcome of a program makes a written word erased
-pub program_keeps_marks : (page at value : ℕ) (old new : Device) → IsStep (Program page at value) old new → KeepsMarks old new
-program_keeps_marks page at value old _ taken p mark was = search (rules, All-get_or, step_leaves_pages, written_stays)
+pub program_keeps_marks : (page at value : ℕ) (old new : Device)
+    → IsStep (Program page at value) old new → KeepsMarks old new
+program_keeps_marks page at value old _ taken p mark was =
+    search (rules, All-get_or, step_leaves_pages, written_stays)
 
 -- nor wears a page
-pub program_keeps_wear : (page at value : ℕ) (old new : Device) → MayFollow (Program page at value) old new → new.wear ≡ old.wear
+pub program_keeps_wear : (page at value : ℕ) (old new : Device)
+    → MayFollow (Program page at value) old new → new.wear ≡ old.wear
 program_keeps_wear _ _ _ _ _ (inl done) = ap (λ device. device.wear) done.done
 program_keeps_wear _ _ _ _ _ (inr (inl cut)) = cut.wear
 program_keeps_wear _ _ _ _ _ (inr (inr untouched)) = ap (λ device. device.wear) untouched.same
@@ -34,49 +41,82 @@ place_below Valid = omega arith
 place_below Erasing = omega arith
 
 -- the step of a mark that is not set
-pub mark_step : (page : ℕ) (mark : Mark) (old new : Device) → IsFormed old → page < page_count old.size → IsProper mark → is_marked old page mark ≡ false → MayFollow (marking page mark) old new → IsStep (marking page mark) old new
-mark_step _ _ _ _ formed h proper unset follows = search (rules, place_below, erased_word, number_below)
+pub mark_step : (page : ℕ) (mark : Mark) (old new : Device) → IsFormed old
+    → page < page_count old.size → IsProper mark → is_marked old page mark ≡ false
+    → MayFollow (marking page mark) old new → IsStep (marking page mark) old new
+mark_step _ _ _ _ formed h proper unset follows =
+    search (rules, place_below, erased_word, number_below)
 
-follows_by : (step : Step) (old new : Device) (result : Result Unit Cut) → OnOk result (IsOn old) → OnOk result (new ≡ device_after step old) → OnErr result (IsCutIn step old new ⊎ IsUntouched old new) → MayFollow step old new
+follows_by : (step : Step) (old new : Device) (result : Result Unit Cut) → OnOk result (IsOn old)
+    → OnOk result (new ≡ device_after step old)
+    → OnErr result (IsCutIn step old new ⊎ IsUntouched old new) → MayFollow step old new
 follows_by _ _ _ (Ok _) on done _ = inl (record { was_on = on; done = done })
 follows_by _ _ _ (Err _) _ _ cut = inr cut
 
 -- marking takes the mark's step, or none where the mark is set
-pub marks : (page : ℕ) (mark : Mark) (old new : Device) (result : Result Unit Cut) → IsFormed old → page < page_count old.size → IsProper mark → (is_marked old page mark ≡ true → (result ≡ Ok tt) × (new ≡ old)) → (is_marked old page mark ≡ false → OnOk result (IsOn old)) → (is_marked old page mark ≡ false → OnOk result (new ≡ device_after (marking page mark) old)) → OnErr result (IsCutIn (marking page mark) old new ⊎ IsUntouched old new) → (new ≡ old) ⊎ IsStep (marking page mark) old new
-marks page mark old new result formed h proper present on done cut = search (rules, mark_step, follows_by)
+pub marks : (page : ℕ) (mark : Mark) (old new : Device) (result : Result Unit Cut) → IsFormed old
+    → page < page_count old.size → IsProper mark
+    → (is_marked old page mark ≡ true → (result ≡ Ok tt) × (new ≡ old))
+    → (is_marked old page mark ≡ false → OnOk result (IsOn old))
+    → (is_marked old page mark ≡ false → OnOk result (new ≡ device_after (marking page mark) old))
+    → OnErr result (IsCutIn (marking page mark) old new ⊎ IsUntouched old new)
+    → (new ≡ old) ⊎ IsStep (marking page mark) old new
+marks page mark old new result formed h proper present on done cut =
+    search (rules, mark_step, follows_by)
 
 pub same_keeps_marks : (old new : Device) → new ≡ old → KeepsMarks old new
 same_keeps_marks _ _ same page mark was = search rules
 
-pub mark_keeps_marks : (page : ℕ) (mark : Mark) (old new : Device) → (new ≡ old) ⊎ IsStep (marking page mark) old new → KeepsMarks old new
+pub mark_keeps_marks : (page : ℕ) (mark : Mark) (old new : Device)
+    → (new ≡ old) ⊎ IsStep (marking page mark) old new → KeepsMarks old new
 mark_keeps_marks _ _ old new (inl same) = same_keeps_marks old new same
-mark_keeps_marks page mark old new (inr taken) = program_keeps_marks page (place_of_mark mark) (number_of_mark mark) old new taken
+mark_keeps_marks page mark old new (inr taken) =
+    program_keeps_marks page (place_of_mark mark) (number_of_mark mark) old new taken
 
 -- nothing changed
-pub same_stays : (old new : Device) (side : Side) (generation : ℕ) → IsLive old side generation → new ≡ old → Stays old new side generation
+pub same_stays : (old new : Device) (side : Side) (generation : ℕ) → IsLive old side generation
+    → new ≡ old → Stays old new side generation
 same_stays _ _ _ _ live same = search rules
 
 -- a mark of the live set, behind written slots
-pub live_mark_stays : (page : ℕ) (mark : Mark) (old new : Device) (side : Side) (generation : ℕ) → IsLive old side generation → first_page old.size side ≤ page → IsMarkBehind old side (page - first_page old.size side) mark → (new ≡ old) ⊎ IsStep (marking page mark) old new → Stays old new side generation
-live_mark_stays _ _ old new side generation live _ _ (inl same) = same_stays old new side generation live same
+pub live_mark_stays : (page : ℕ) (mark : Mark) (old new : Device) (side : Side) (generation : ℕ)
+    → IsLive old side generation → first_page old.size side ≤ page
+    → IsMarkBehind old side (page - first_page old.size side) mark
+    → (new ≡ old) ⊎ IsStep (marking page mark) old new → Stays old new side generation
+live_mark_stays _ _ old new side generation live _ _ (inl same) =
+    same_stays old new side generation live same
 live_mark_stays page mark old new side generation live from behind (inr taken) =
     let step = subst (λ n. IsStep (marking n mark) old new) (omega arith) taken in
     let kept = mark_keeps_live _ _ _ _ _ _ live behind step in
     search (rules, program_keeps_wear)
 
 -- a mark, in the other set, of a page that may be erased
-pub old_mark_stays : (page : ℕ) (old new : Device) (side : Side) (generation : ℕ) → IsLive old side generation → IsPageOf old.size (other side) page → is_blank (page_at old page) ≡ false → (new ≡ old) ⊎ IsStep (marking page Erasing) old new → Stays old new side generation
-old_mark_stays _ old new side generation live _ _ (inl same) = same_stays old new side generation live same
+pub old_mark_stays : (page : ℕ) (old new : Device) (side : Side) (generation : ℕ)
+    → IsLive old side generation → IsPageOf old.size (other side) page
+    → is_blank (page_at old page) ≡ false → (new ≡ old) ⊎ IsStep (marking page Erasing) old new
+    → Stays old new side generation
+old_mark_stays _ old new side generation live _ _ (inl same) =
+    same_stays old new side generation live same
 old_mark_stays page old new _ _ live of written (inr taken) =
-    let kept = other_set_keeps_live _ _ _ _ _ live taken of ((λ first one. cc), (λ first zero. cc)) in
+    let kept =
+    other_set_keeps_live _ _ _ _ _ live taken of ((λ first one. cc), (λ first zero. cc)) in
     record {
       keeps = kept.0;
-      same_pending = same_not_blank _ _ _ _ live.formed kept.0.live.formed kept.0.same_size of (λ p apart. step_keeps_other_pages _ _ _ p taken apart) ((elim (program_leaves_written _ 3 _ _ _ taken) [ inl same ↦ ap (λ image. is_blank (get_or image page [])) same ∙ written | inr more ↦ more ]) ∙ sym written);
+      same_pending =
+          same_not_blank _ _ _ _ live.formed kept.0.live.formed kept.0.same_size of
+          (λ p apart. step_keeps_other_pages _ _ _ p taken apart)
+          ((elim (program_leaves_written _ 3 _ _ _ taken) [
+            | inl same ↦ ap (λ image. is_blank (get_or image page [])) same
+                ∙ written
+            | inr more ↦ more
+          ])
+          ∙ sym written);
       same_wear = search (rules, program_keeps_wear);
     }
 
 -- a page of a set is one of the device
-pub page_in_device : (device : Device) (side : Side) (page : ℕ) → first_page device.size side ≤ page → page - first_page device.size side < device.size.pages → page < page_count device.size
+pub page_in_device : (device : Device) (side : Side) (page : ℕ) → first_page device.size side ≤ page
+    → page - first_page device.size side < device.size.pages → page < page_count device.size
 page_in_device device side _ _ below = let first = first_below device side in omega arith
 
 pub proper_live : (mark : Mark) → (mark ≡ Active) ⊎ (mark ≡ Valid) → IsProper mark
@@ -90,13 +130,19 @@ pub proper_old : IsProper Erasing
 proper_old _ e = cc
 
 -- the word of a whole mark is written
-pub marked_by : (page : ℕ) (mark : Mark) (old new : Device) → IsStep (marking page mark) old new → new ≡ device_after (marking page mark) old → is_marked new page mark ≡ true
+pub marked_by : (page : ℕ) (mark : Mark) (old new : Device) → IsStep (marking page mark) old new
+    → new ≡ device_after (marking page mark) old → is_marked new page mark ≡ true
 marked_by _ _ _ _ taken whole = search (rules, All-get_or, get_or-set_same)
 
 -- it was before, or is now
-pub marked_after : (page : ℕ) (mark : Mark) (old new : Device) → IsFormed old → page < page_count old.size → IsProper mark → (is_marked old page mark ≡ true → new ≡ old) → (is_marked old page mark ≡ false → IsOn old) → (is_marked old page mark ≡ false → new ≡ device_after (marking page mark) old) → is_marked new page mark ≡ true
+pub marked_after : (page : ℕ) (mark : Mark) (old new : Device) → IsFormed old
+    → page < page_count old.size → IsProper mark → (is_marked old page mark ≡ true → new ≡ old)
+    → (is_marked old page mark ≡ false → IsOn old)
+    → (is_marked old page mark ≡ false → new ≡ device_after (marking page mark) old)
+    → is_marked new page mark ≡ true
 marked_after page mark old new formed h proper same on done = search (rules, marked_by, mark_step)
 
 -- of the numbers that a receive word may have, this is the one
-pub one_receive : (number : ℕ) → IsGeneration number → (generation : ℕ) → Receive number ≡ Receive generation → IsGeneration generation
+pub one_receive : (number : ℕ) → IsGeneration number → (generation : ℕ)
+    → Receive number ≡ Receive generation → IsGeneration generation
 one_receive _ proper _ is = subst IsGeneration (cc is) proper

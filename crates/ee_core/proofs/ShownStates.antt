@@ -13,10 +13,12 @@ generation_in None = 0
 generation_in (Some live) = live.1
 
 -- what holds of the live set, named
-of_live : (Shows : Side → ℕ → Type 0) (device : Device) (side : Side) (generation : ℕ) → OfLive device Shows → live_of device ≡ Some (side, generation) → Shows side generation
+of_live : (Shows : Side → ℕ → Type 0) (device : Device) (side : Side) (generation : ℕ)
+    → OfLive device Shows → live_of device ≡ Some (side, generation) → Shows side generation
 of_live Shows _ _ generation found live = search rules
 
-live_here : (device : Device) (side : Side) (generation : ℕ) → IsLegal device → live_of device ≡ Some (side, generation) → IsLive device side generation
+live_here : (device : Device) (side : Side) (generation : ℕ) → IsLegal device
+    → live_of device ≡ Some (side, generation) → IsLive device side generation
 live_here device _ generation legal live = search rules
 
 unwritten : (written rest : Bool) → (not written && rest) ≡ true → written ≡ false
@@ -24,7 +26,8 @@ unwritten true _ e = absurd (cc e)
 unwritten false _ e = refl
 
 -- no page of a live set may be erased
-not_retired : (device : Device) (side : Side) (generation page : ℕ) → IsLive device side generation → page < device.size.pages → is_written (picture_of side device page 3) ≡ false
+not_retired : (device : Device) (side : Side) (generation page : ℕ) → IsLive device side generation
+    → page < device.size.pages → is_written (picture_of side device page 3) ≡ false
 not_retired _ _ _ page live h = search (rules, page_of_set, unwritten)
 
 marked-is_written : (mark : Mark) (word : Word) → is_written (marked_word mark word) ≡ true
@@ -33,38 +36,69 @@ marked-is_written _ (Held _) = refl
 marked-is_written _ Torn = refl
 
 -- a page's state after the marks up to this one
-marked_shown : (side : Side) (old new : Device) (last page : ℕ) → ((at : ℕ) → at < 4 → picture_of side new page at ≡ marked_to last (picture_of side old) page at) → is_written (picture_of side old page 3) ≡ false → state_at side new page ≡ marked_state side old last page
+marked_shown : (side : Side) (old new : Device) (last page : ℕ)
+    → ((at : ℕ) → at < 4
+    → picture_of side new page at ≡ marked_to last (picture_of side old) page at)
+    → is_written (picture_of side old page 3) ≡ false
+    → state_at side new page ≡ marked_state side old last page
 marked_shown side old new last page words free = search (rules, marked-is_written)
 
 -- of a set that was filled
-filled_shown : (side : Side) (device : Device) (size : Size) (generation : ℕ) (words : List Word) (page : ℕ) → ((at : ℕ) → at < 4 → picture_of side device page at ≡ filled_set size generation words page at) → state_at side device page ≡ filled_state (page_of_slot size (length words - 1)) page
+filled_shown : (side : Side) (device : Device) (size : Size) (generation : ℕ) (words : List Word)
+    (page : ℕ)
+    → ((at : ℕ) → at < 4
+    → picture_of side device page at ≡ filled_set size generation words page at)
+    → state_at side device page ≡ filled_state (page_of_slot size (length words - 1)) page
 filled_shown side device size _ words page drawn = search rules
 
 -- of a page that is as before
-same_shown : (side : Side) (old new : Device) (page : ℕ) → ((at : ℕ) → at < 4 → picture_of side new page at ≡ picture_of side old page at) → state_at side new page ≡ state_at side old page
+same_shown : (side : Side) (old new : Device) (page : ℕ)
+    → ((at : ℕ) → at < 4 → picture_of side new page at ≡ picture_of side old page at)
+    → state_at side new page ≡ state_at side old page
 same_shown _ _ _ page words = search rules
 
-retired_shown : (side : Side) (device : Device) (page : ℕ) → is_written (picture_of side device page 3) ≡ true → state_at side device page ≡ Erasing
+retired_shown : (side : Side) (device : Device) (page : ℕ)
+    → is_written (picture_of side device page 3) ≡ true → state_at side device page ≡ Erasing
 retired_shown _ _ _ written = rw written refl
 
-blank_shown : (side : Side) (device : Device) (page : ℕ) → ((at : ℕ) → at < 4 → picture_of side device page at ≡ Erased) → state_at side device page ≡ Unused
+blank_shown : (side : Side) (device : Device) (page : ℕ)
+    → ((at : ℕ) → at < 4 → picture_of side device page at ≡ Erased)
+    → state_at side device page ≡ Unused
 blank_shown _ _ _ words = search rules
 
 pub states_after_append_lem : StatesAfterAppend
 states_after_append_lem old change new side generation page store appends live h =
-    let shows = of_live (λ set n. ShowsAppended old change new set) old side generation appends.image live in
+    let shows =
+    of_live (λ set n. ShowsAppended old change new set) old side generation appends.image
+    live in
     let is = live_here old side generation store.legal live in
-    let now : page < new.size.pages = omega (arith, ap (λ size. size.pages) appends.goes_on.same_size) in
+    let now : page < new.size.pages =
+    omega (arith, ap (λ size. size.pages) appends.goes_on.same_size) in
     let last = page_of_slot old.size (state_of old).fill in (
       marked_shown side old new last page (λ at low.
-          shows.live_pages page at now (omega (arith, low, is.formed.within_limits.some_words, ap (λ (size : Size). size.words) appends.goes_on.same_size))
-          ∙ with_word-elsewhere _ _ _ (marked_to last (picture_of side old)) _ at (inr (λ e. omega arith)))
+          shows.live_pages page at now
+          (omega (
+            arith,
+            low,
+            is.formed.within_limits.some_words,
+            ap (λ (size : Size). size.words) appends.goes_on.same_size,
+          ))
+          ∙ with_word-elsewhere _ _ _ (marked_to last (picture_of side old)) _ at
+          (inr (λ e. omega arith)))
           (not_retired old side generation page is h),
-      same_shown (other side) old new page (λ at low. shows.old_pages page at now (omega (arith, low, is.formed.within_limits.some_words, ap (λ (size : Size). size.words) appends.goes_on.same_size))),
+      same_shown (other side) old new page
+          (λ at low. shows.old_pages page at now
+          (omega (
+            arith,
+            low,
+            is.formed.within_limits.some_words,
+            ap (λ (size : Size). size.words) appends.goes_on.same_size,
+          ))),
     )
 
 -- as many words as addresses
-element_counts : (address : ℕ) (value : Option ℕ) → length (element_at address value) ≡ cond (is_some value) 1 0
+element_counts : (address : ℕ) (value : Option ℕ)
+    → length (element_at address value) ≡ cond (is_some value) 1 0
 element_counts _ None = refl
 element_counts _ (Some _) = refl
 
@@ -83,13 +117,18 @@ moved_words_are_live_lem (Put address value ∷ changes) map apart =
     let others = map_after (Forget address) map in
     let after = changed_by changes others in
     let rest = moved_words_are_live_lem changes others apart.2 in
-    let one = (change_counts (Put address value) after apart.0) ∙ ap (λ held. live_in after + cond (is_some held) 0 1) (changed_by-other changes others address apart.1 ∙ forget-at map address _ refl) in
+    let one =
+    (change_counts (Put address value) after apart.0)
+    ∙ ap (λ held. live_in after + cond (is_some held) 0 1)
+    (changed_by-other changes others address apart.1 ∙ forget-at map address _ refl) in
     let same = same_counts _ _ (put_last _ map address value apart.1) in
     omega arith
-moved_words_are_live_lem (Forget address ∷ changes) map apart = moved_words_are_live_lem changes (map_after (Forget address) map) apart.2
+moved_words_are_live_lem (Forget address ∷ changes) map apart =
+    moved_words_are_live_lem changes (map_after (Forget address) map) apart.2
 
 -- a page that is left and may not be erased is blank
-left_blank : (changes : List Change) (side : Side) (device : Device) (page : ℕ) → is_left changes side device page ≡ false → is_used side device page ≡ false
+left_blank : (changes : List Change) (side : Side) (device : Device) (page : ℕ)
+    → is_left changes side device page ≡ false → is_used side device page ≡ false
 left_blank [] _ _ _ e = e
 left_blank (change ∷ []) _ _ _ e = absurd (cc e)
 left_blank (first ∷ _ ∷ _) _ _ _ e = e
@@ -102,17 +141,25 @@ blank_state : (words : List Word) → is_blank words ≡ true → state_of_words
 blank_state _ blank = search (rules, blank_word)
 
 -- where a page may not be erased, its words stay
-kept_word : (waits : ℕ → Bool) (picture : Picture) (page at : ℕ) → waits page ≡ false → retired_pages waits picture page at ≡ picture page at
+kept_word : (waits : ℕ → Bool) (picture : Picture) (page at : ℕ) → waits page ≡ false
+    → retired_pages waits picture page at ≡ picture page at
 kept_word _ _ _ at e = search rules
 
 pub states_after_transfer_lem : StatesAfterTransfer
 states_after_transfer_lem old changes new side generation page store moves proper live h =
-    let shows = of_live (λ set n. ShowsMoved old changes new set n) old side generation moves.image live in
-    let now : page < new.size.pages = omega (arith, ap (λ size. size.pages) moves.goes_on.same_size) in
+    let shows =
+    of_live (λ set n. ShowsMoved old changes new set n) old side generation moves.image live in
+    let now : page < new.size.pages =
+    omega (arith, ap (λ size. size.pages) moves.goes_on.same_size) in
     let is = live_here old side generation store.legal live in
-    let inside : 4 < new.size.words = omega (arith, ap (λ (size : Size). size.words) moves.goes_on.same_size) in
-    let fill = ap (λ state. state.fill) moves.state_is ∙ sym (moved_words_are_live_lem changes (state_of old).map proper) in (
-      filled_shown (other side) new old.size (generation + 1) (moved_words changes (state_of old).map) page (λ at low. shows.new_pages page at now (omega arith))
+    let inside : 4 < new.size.words =
+    omega (arith, ap (λ (size : Size). size.words) moves.goes_on.same_size) in
+    let fill =
+    ap (λ state. state.fill) moves.state_is
+    ∙ sym (moved_words_are_live_lem changes (state_of old).map proper) in (
+      filled_shown (other side) new old.size (generation + 1)
+          (moved_words changes (state_of old).map) page
+          (λ at low. shows.new_pages page at now (omega arith))
           ∙ ap (λ n. filled_state (page_of_slot old.size (n - 1)) page) (sym fill),
       elim (cases_Bool (is_left changes side old page)) [
         | inl left ↦
@@ -123,7 +170,8 @@ states_after_transfer_lem old changes new side generation page store moves prope
     )
 
 -- one page waits below the others
-lowest_is : (device : Device) (first second : ℕ) → IsLowestPending device first → IsLowestPending device second → first ≡ second
+lowest_is : (device : Device) (first second : ℕ) → IsLowestPending device first
+    → IsLowestPending device second → first ≡ second
 lowest_is _ first second one two = elim (cases_lt _ _) [
   | inl below ↦ absurd (two.none_lower first below one.waits)
   | inr from ↦ elim (cases_lt _ _) [
@@ -138,21 +186,30 @@ states_after_clean_lem old new lowest page erases is =
     search (rules, blank_state)
 
 -- where a page is blank, it is not marked
-not_waiting : (blank : Bool) → blank ≡ true → (picture : Picture) (page at : ℕ) → retired_pages (λ p. not blank) picture page at ≡ picture page at
-not_waiting _ e _ _ at = rw e (elim (cases_Bool (at == 3)) [ inl three ↦ rw three refl | inr other_place ↦ rw other_place refl ])
+not_waiting : (blank : Bool) → blank ≡ true → (picture : Picture) (page at : ℕ)
+    → retired_pages (λ p. not blank) picture page at ≡ picture page at
+not_waiting _ e _ _ at =
+    rw e
+    (elim (cases_Bool (at == 3))
+    [ inl three ↦ rw three refl | inr other_place ↦ rw other_place refl ])
 
 pub states_after_opening_lem : StatesAfterOpening
 states_after_opening_lem old new side generation page opens live h =
     let shows = of_live (λ set n. ShowsMarks old new set) old side generation opens.image live in
     let is = live_here old side generation opens.legal live in
-    let now : page < new.size.pages = omega (arith, ap (λ size. size.pages) opens.goes_on.same_size) in
+    let now : page < new.size.pages =
+    omega (arith, ap (λ size. size.pages) opens.goes_on.same_size) in
     let inside : 4 < new.size.words = omega arith in
     let words = page_at old (first_page old.size (other side) + page) in (
-      marked_shown side old new (last_used old side) page (λ at low. shows.live_pages page at now (omega arith)) (not_retired old side generation page is h),
+      marked_shown side old new (last_used old side) page
+          (λ at low. shows.live_pages page at now (omega arith))
+          (not_retired old side generation page is h),
       elim (cases_Bool (is_blank words)) [
         | inl blank ↦
             rw blank (blank_shown (other side) new page (λ at low.
-            shows.old_pages page at now (omega arith) ∙ not_waiting (is_blank words) blank (picture_of (other side) old) page at ∙ blank_word _ at blank))
+            shows.old_pages page at now (omega arith)
+            ∙ not_waiting (is_blank words) blank (picture_of (other side) old) page at
+            ∙ blank_word _ at blank))
         | inr written ↦
             search (rules, retired_shown, marked-is_written)
       ],
@@ -162,17 +219,23 @@ pub states_after_format_lem : StatesAfterFormat
 states_after_format_lem _ _ _ formatted h = search (rules, zero-div, filled_shown, blank_shown)
 
 -- the words of a page of the device are those of a page of one of its sets
-page_of_either : (old new : Device) (n at : ℕ) → new.size ≡ old.size → n < page_count old.size → at < old.size.words → ((side : Side) → IsDrawn side new (picture_of side old)) → word_at new n at ≡ word_at old n at
+page_of_either : (old new : Device) (n at : ℕ) → new.size ≡ old.size → n < page_count old.size
+    → at < old.size.words → ((side : Side) → IsDrawn side new (picture_of side old))
+    → word_at new n at ≡ word_at old n at
 page_of_either old new n at sizes h within drawn =
     let inside : at < new.size.words = omega (arith, ap (λ size. size.words) sizes) in
     elim (cases_lt n old.size.pages) [
       | inl first ↦
           let e : 0 + n ≡ n = omega arith in
-          ap (λ k. word_at new k at) (sym e) ∙ drawn First n at (omega (arith, ap (λ size. size.pages) sizes)) inside ∙ ap (λ k. word_at old k at) e
+          ap (λ k. word_at new k at) (sym e)
+          ∙ drawn First n at (omega (arith, ap (λ size. size.pages) sizes)) inside
+          ∙ ap (λ k. word_at old k at) e
       | inr second ↦
           let k = n - old.size.pages in
-          let now : n ≡ new.size.pages + (n - old.size.pages) = omega (arith, ap (λ size. size.pages) sizes) in
-          ap (λ p. word_at new p at) now ∙ drawn Second (n - old.size.pages) at (omega arith) inside ∙ ap (λ p. word_at old p at) (omega arith)
+          let now : n ≡ new.size.pages + (n - old.size.pages) =
+          omega (arith, ap (λ size. size.pages) sizes) in
+          ap (λ p. word_at new p at) now ∙ drawn Second (n - old.size.pages) at (omega arith) inside
+          ∙ ap (λ p. word_at old p at) (omega arith)
     ]
 
 pub pictures_tell_images_lem : PicturesTellImages

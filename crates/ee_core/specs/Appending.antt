@@ -25,32 +25,40 @@ MayTakeSlot old new side generation change =
 -- the change was programmed into that slot; no mark is lost, and the other set and
 -- all wear are as before
 pub record Pushed (old new : Device) (layout : Layout) (change : declared.Change) : Type 0 where
-  pub takes : TakesSlot old new layout.side layout.generation (map_after (map_change change) (map_in layout.side old))
+  pub takes : TakesSlot old new layout.side layout.generation
+      (map_after (map_change change) (map_in layout.side old))
   pub spells : SpellsChange (number_written change) (map_change change)
-  pub puts : PutsWord (first_page old.size layout.side + page_of_slot old.size layout.fill) (place_of_slot old.size layout.fill) (Held (number_written change)) old new
+  pub puts : PutsWord (first_page old.size layout.side + page_of_slot old.size layout.fill)
+      (place_of_slot old.size layout.fill) (Held (number_written change)) old new
   pub marks : KeepsMarks old new
   pub other : IsSameSet (other layout.side) old new
   pub wear : new.wear ≡ old.wear
 
 -- or power was cut in it
-pub record PushedPartly (old new : Device) (layout : Layout) (change : declared.Change) : Type 0 where
+pub record PushedPartly (old new : Device) (layout : Layout) (change : declared.Change)
+    : Type 0 where
   pub cut : MayTakeSlot old new layout.side layout.generation (map_change change)
-  pub begun : PutsPartly (first_page old.size layout.side + page_of_slot old.size layout.fill) (place_of_slot old.size layout.fill) (Held (number_written change)) old new
+  pub begun : PutsPartly (first_page old.size layout.side + page_of_slot old.size layout.fill)
+      (place_of_slot old.size layout.fill) (Held (number_written change)) old new
   pub marks : KeepsMarks old new
   pub other : IsSameSet (other layout.side) old new
   pub wear : new.wear ≡ old.wear
 
 -- the step that programs it ends so
-abbrev pub Pushes : {T E : Type 0} → Result T E → Device → Device → Layout → declared.Change → Type 0
+abbrev pub Pushes : {T E : Type 0} → Result T E → Device → Device → Layout → declared.Change
+    → Type 0
 Pushes (Ok done) old new layout change = Pushed old new layout change
 Pushes (Err cut) old new layout change = PushedPartly old new layout change
 
 -- The change stands in the slot, with the marks that come first where the slot begins a page, and
 -- this is the layout then. The other set and all wear are as before.
-pub record ChangeWritten (old new : Device) (layout after : Layout) (change : declared.Change) : Type 0 where
-  pub takes : TakesSlot old new layout.side layout.generation (map_after (map_change change) (map_in layout.side old))
+pub record ChangeWritten (old new : Device) (layout after : Layout) (change : declared.Change)
+    : Type 0 where
+  pub takes : TakesSlot old new layout.side layout.generation
+      (map_after (map_change change) (map_in layout.side old))
   pub spells : SpellsChange (number_written change) (map_change change)
-  pub drawn : IsDrawn layout.side new (with_change old.size layout.fill (number_written change) (picture_of layout.side old))
+  pub drawn : IsDrawn layout.side new
+      (with_change old.size layout.fill (number_written change) (picture_of layout.side old))
   pub layout_is : IsLayout new after
   pub same_set : after.side ≡ layout.side
   pub marked : IsMarked new layout.side
@@ -58,13 +66,16 @@ pub record ChangeWritten (old new : Device) (layout after : Layout) (change : de
   pub wear : new.wear ≡ old.wear
 
 -- or power was cut on the way
-pub record ChangeWrittenPartly (old new : Device) (layout : Layout) (change : declared.Change) : Type 0 where
+pub record ChangeWrittenPartly (old new : Device) (layout : Layout) (change : declared.Change)
+    : Type 0 where
   pub cut : MayTakeSlot old new layout.side layout.generation (map_change change)
-  pub begun : IsDrawnPartly layout.side new (picture_of layout.side old) (with_change old.size layout.fill (number_written change) (picture_of layout.side old))
+  pub begun : IsDrawnPartly layout.side new (picture_of layout.side old)
+      (with_change old.size layout.fill (number_written change) (picture_of layout.side old))
   pub other : IsSameSet (other layout.side) old new
   pub wear : new.wear ≡ old.wear
 
 -- the appending ends so
-abbrev pub WritesChange : {T E : Type 0} → Result T E → Device → Device → Layout → Layout → declared.Change → Type 0
+abbrev pub WritesChange : {T E : Type 0} → Result T E → Device → Device → Layout → Layout
+    → declared.Change → Type 0
 WritesChange (Ok done) old new layout after change = ChangeWritten old new layout after change
 WritesChange (Err cut) old new layout after change = ChangeWrittenPartly old new layout change

@@ -41,7 +41,9 @@ map_in side device = meaning (slots_of (set_of side device))
 
 -- the set is committed with a generation below this one, if at all
 abbrev pub IsOlder : Device → Side → ℕ → Type 0
-IsOlder device side generation = (committed : ℕ) → committed_generation (set_of side device) ≡ Some committed → committed < generation
+IsOlder device side generation =
+    (committed : ℕ) → committed_generation (set_of side device) ≡ Some committed
+    → committed < generation
 
 -- the live set, the pages of the other set that are not blank and all wear are as before
 pub record Stays (old new : Device) (side : Side) (generation : ℕ) : Type 0 where
@@ -51,7 +53,8 @@ pub record Stays (old new : Device) (side : Side) (generation : ℕ) : Type 0 wh
 
 -- no mark is lost
 abbrev pub KeepsMarks : Device → Device → Type 0
-KeepsMarks old new = (page : ℕ) (mark : Mark) → is_marked old page mark ≡ true → is_marked new page mark ≡ true
+KeepsMarks old new =
+    (page : ℕ) (mark : Mark) → is_marked old page mark ≡ true → is_marked new page mark ≡ true
 
 -- each page but this one is as before
 abbrev pub IsSameBut : ℕ → Device → Device → Type 0
@@ -86,8 +89,10 @@ ErasesPage (Err cut) old new side page = PageErasedPartly old new side page
 
 -- the page of this slot is marked as the one that is used, and those before it as used up
 pub record IsReady (device : Device) (side : Side) (slot : ℕ) : Type 0 where
-  pub valid : (page : ℕ) → page < page_of_slot device.size slot → is_marked device (first_page device.size side + page) Valid ≡ true
-  pub active : is_marked device (first_page device.size side + page_of_slot device.size slot) Active ≡ true
+  pub valid : (page : ℕ) → page < page_of_slot device.size slot
+      → is_marked device (first_page device.size side + page) Valid ≡ true
+  pub active : is_marked device (first_page device.size side + page_of_slot device.size slot) Active
+      ≡ true
 
 -- a map in which these addresses have what the other one says of them
 abbrev pub replaced_map : Map → (ℕ → Bool) → Map → Map
@@ -99,27 +104,34 @@ map_to map last address = if nat_le address last then map address else None
 
 -- The map moved to the other set with changes: each address with a value takes a slot there, the
 -- set's generation is one more, and as many pages of the set that was live are not blank as before.
-pub record HasMoved (old new : Device) (side : Side) (generation : ℕ) (changes : List Change) : Type 0 where
+pub record HasMoved (old new : Device) (side : Side) (generation : ℕ) (changes : List Change)
+    : Type 0 where
   pub live : IsLive new (other side) (generation + 1)
   pub same_size : new.size ≡ old.size
-  pub map_is : (address : ℕ) → map_in (other side) new address ≡ changed_by changes (map_in side old) address
-  pub fill_is : fill_of (slots_of (set_of (other side) new)) ≡ live_in (changed_by changes (map_in side old))
+  pub map_is : (address : ℕ)
+      → map_in (other side) new address ≡ changed_by changes (map_in side old) address
+  pub fill_is : fill_of (slots_of (set_of (other side) new))
+      ≡ live_in (changed_by changes (map_in side old))
   pub pending_is : pending_of (set_of side new) ≡ pending_of (set_of side old)
 
 -- one word of the device is this one, and each other is as before
 pub record PutsWord (page at : ℕ) (word : Word) (old new : Device) : Type 0 where
   pub there : word_at new page at ≡ word
-  pub elsewhere : (other_page place : ℕ) → (other_page ≢ page) ⊎ (place ≢ at) → word_at new other_page place ≡ word_at old other_page place
+  pub elsewhere : (other_page place : ℕ) → (other_page ≢ page) ⊎ (place ≢ at)
+      → word_at new other_page place ≡ word_at old other_page place
 
 -- a mark is set, and each other word is as before
 abbrev pub SetsMark : ℕ → Mark → Device → Device → Type 0
-SetsMark page mark old new = PutsWord page (place_of_mark mark) (marked_word mark (word_at old page (place_of_mark mark))) old new
+SetsMark page mark old new =
+    PutsWord page (place_of_mark mark) (marked_word mark (word_at old page (place_of_mark mark)))
+    old new
 
 -- the page is that of the last of so many slots of this set, its first one where there is none, and
 -- the place in it is the one behind that slot
 pub record IsBehind (size : Size) (side : Side) (place : Place) : Type 0 where
   pub page : place.page ≡ first_page size side + page_of_slot size (place.slot - 1)
-  pub at : place.at + page_of_slot size (place.slot - 1) * (size.words - header_words) ≡ header_words + place.slot
+  pub at : place.at + page_of_slot size (place.slot - 1) * (size.words - header_words)
+      ≡ header_words + place.slot
 
 -- the page and the place in it are those of the slot with this number, in this set
 pub record Stands (size : Size) (side : Side) (place : Place) : Type 0 where
@@ -136,15 +148,19 @@ opened_set size generation last words page at =
 -- the set holds these words, and is open up to the page of the last of them
 abbrev pub Holds : Device → Side → ℕ → List Word → Type 0
 Holds device side generation words =
-    IsDrawn side device (opened_set device.size generation (page_of_slot device.size (length words - 1)) words)
+    IsDrawn side device
+    (opened_set device.size generation (page_of_slot device.size (length words - 1)) words)
 
 -- the other set, which held so many words, holds some more
-pub record AddsWords (old new : Device) (side : Side) (generation count : ℕ) (more : List Word) : Type 0 where
-  pub new_pages : (words : List Word) → length words ≡ count → Holds old (other side) generation words → Holds new (other side) generation (words ++ more)
+pub record AddsWords (old new : Device) (side : Side) (generation count : ℕ) (more : List Word)
+    : Type 0 where
+  pub new_pages : (words : List Word) → length words ≡ count
+      → Holds old (other side) generation words → Holds new (other side) generation (words ++ more)
 
 -- the set holds these words, and the mark that commits it
 abbrev pub IsCommittedWith : Device → Side → ℕ → List Word → Type 0
 IsCommittedWith device side generation words =
     IsDrawn side device (λ page at.
     if (page == 0) && (at == 1) then mark_where true Active
-    else opened_set device.size generation (page_of_slot device.size (length words - 1)) words page at)
+    else opened_set device.size generation (page_of_slot device.size (length words - 1)) words page
+    at)

@@ -34,9 +34,13 @@ abbrev pub Writes : Device → ℕ → ℕ → Result Written WriteFault → Dev
 Writes old address value (Ok Appended) new = Appends old (Put address value) new
 Writes old address value (Ok Moved) new = Moves old (Put address value ∷ []) new
 Writes old address value (Err write.Off) new = IsOff old × (new ≡ old)
-Writes old address value (Err write.Full) new = IsOn old × IsFull (capacity old) (state_of old) address × (new ≡ old)
-Writes old address value (Err write.Spent) new = IsOn old × ¬ IsFull (capacity old) (state_of old) address × IsSpent (capacity old) (state_of old) × (new ≡ old)
-Writes old address value (Err write.Memory) new = Proceeds old (Put address value ∷ []) × ((state_of old).map address ≡ None) × (new ≡ old)
+Writes old address value (Err write.Full) new =
+    IsOn old × IsFull (capacity old) (state_of old) address × (new ≡ old)
+Writes old address value (Err write.Spent) new =
+    IsOn old × ¬ IsFull (capacity old) (state_of old) address
+    × IsSpent (capacity old) (state_of old) × (new ≡ old)
+Writes old address value (Err write.Memory) new =
+    Proceeds old (Put address value ∷ []) × ((state_of old).map address ≡ None) × (new ≡ old)
 Writes old address value (Err write.Cut) new = IsCutChange old (Put address value) new
 
 -- a forgetting likewise, of an address that has a value; it needs no memory
@@ -44,8 +48,11 @@ abbrev pub Forgets : Device → ℕ → Result Written ForgetFault → Device �
 Forgets old address (Ok Appended) new = Appends old (Forget address) new
 Forgets old address (Ok Moved) new = Moves old (Forget address ∷ []) new
 Forgets old address (Err forget.Off) new = IsOff old × (new ≡ old)
-Forgets old address (Err forget.Absent) new = IsOn old × ((state_of old).map address ≡ None) × (new ≡ old)
-Forgets old address (Err forget.Spent) new = IsOn old × ((state_of old).map address ≢ None) × IsSpent (capacity old) (state_of old) × (new ≡ old)
+Forgets old address (Err forget.Absent) new =
+    IsOn old × ((state_of old).map address ≡ None) × (new ≡ old)
+Forgets old address (Err forget.Spent) new =
+    IsOn old × ((state_of old).map address ≢ None) × IsSpent (capacity old) (state_of old)
+    × (new ≡ old)
 Forgets old address (Err forget.Cut) new = IsCutChange old (Forget address) new
 
 -- what is stored of a list of values with no transfer: nothing, or its one value in a free slot
@@ -62,10 +69,14 @@ WritesAll old puts (Ok Appended) new = AppendsAll old puts new
 WritesAll old puts (Ok Moved) new = IsEachOnce puts × Moves old (puts_of puts) new
 WritesAll old puts (Err all.Off) new = IsOff old × (new ≡ old)
 WritesAll old puts (Err (all.Twice place)) new = IsOn old × IsFirstTwice puts place × (new ≡ old)
-WritesAll old puts (Err all.Full) new = IsOn old × IsEachOnce puts × HaveNoPlace (capacity old) (state_of old) (puts_of puts) × (new ≡ old)
+WritesAll old puts (Err all.Full) new =
+    IsOn old × IsEachOnce puts × HaveNoPlace (capacity old) (state_of old) (puts_of puts)
+    × (new ≡ old)
 WritesAll old puts (Err all.Spent) new =
-    IsOn old × IsEachOnce puts × ¬ HaveNoPlace (capacity old) (state_of old) (puts_of puts) × HaveNoGeneration (capacity old) (state_of old) (puts_of puts) × (new ≡ old)
-WritesAll old puts (Err all.Memory) new = IsEachOnce puts × Proceeds old (puts_of puts) × HasNew puts (state_of old).map × (new ≡ old)
+    IsOn old × IsEachOnce puts × ¬ HaveNoPlace (capacity old) (state_of old) (puts_of puts)
+    × HaveNoGeneration (capacity old) (state_of old) (puts_of puts) × (new ≡ old)
+WritesAll old puts (Err all.Memory) new =
+    IsEachOnce puts × Proceeds old (puts_of puts) × HasNew puts (state_of old).map × (new ≡ old)
 WritesAll old puts (Err all.Cut) new = IsEachOnce puts × IsCutMaking old (puts_of puts) new
 
 -- the page waits to be erased: it is one of the set that is not live, and it is not blank
@@ -112,7 +123,8 @@ pub record ErasesOne (old new : Device) : Type 0 where
 pub record IsCutClean (old new : Device) : Type 0 where
   pub cut : IsCut old new
   pub some : 0 < (state_of old).pending
-  pub state_is : (state_of new ≡ state_of old) ⊎ (state_of new ≡ with_pending ((state_of old).pending - 1) (state_of old))
+  pub state_is : (state_of new ≡ state_of old)
+      ⊎ (state_of new ≡ with_pending ((state_of old).pending - 1) (state_of old))
   pub lowest : KeepsAllButLowest old new
 
 -- a clean step erases the lowest page of those that wait, if there is one

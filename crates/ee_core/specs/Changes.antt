@@ -91,12 +91,15 @@ pub record Moves (old : Device) (changes : List Change) (new : Device) : Type 0 
 
 -- With a slot free, a cut leaves the state as it was, or a slot more torn, or the change appended.
 abbrev pub IsCutAppend : State → Change → State → Type 0
-IsCutAppend old change new = (new ≡ old) ⊎ (new ≡ torn_state old) ⊎ (new ≡ appended_state change old)
+IsCutAppend old change new =
+    (new ≡ old) ⊎ (new ≡ torn_state old) ⊎ (new ≡ appended_state change old)
 
 -- In a transfer, it leaves the state as it was but for the pages that wait to be erased, of which a
 -- set has so many, or the map moved with the changes, and so many waiting.
 abbrev pub IsCutMove : ℕ → ℕ → State → List Change → State → Type 0
-IsCutMove pages left old changes new = ((pending : ℕ) × (pending ≤ pages) × (new ≡ with_pending pending old)) ⊎ (new ≡ moved_state left changes old)
+IsCutMove pages left old changes new =
+    ((pending : ℕ) × (pending ≤ pages) × (new ≡ with_pending pending old))
+    ⊎ (new ≡ moved_state left changes old)
 
 -- Power was cut in a change. With a slot free no page was erased; with none free, the pages that
 -- waited up to one, or all. No more slots were used than there are, so it is one or the other.
@@ -105,16 +108,20 @@ pub record IsCutChange (old : Device) (change : Change) (new : Device) : Type 0 
   pub cut : IsCut old new
   pub within : (state_of old).fill ≤ capacity old
   pub free : (state_of old).fill < capacity old → IsCutAppend (state_of old) change (state_of new)
-  pub all_used : (state_of old).fill ≡ capacity old → IsCutMove old.size.pages old.size.pages (state_of old) (change ∷ []) (state_of new)
+  pub all_used : (state_of old).fill ≡ capacity old
+      → IsCutMove old.size.pages old.size.pages (state_of old) (change ∷ []) (state_of new)
   pub no_wear : (state_of old).fill < capacity old → new.wear ≡ old.wear
-  pub free_words : (state_of old).fill < capacity old → OfLive old (λ side generation. ShowsCutAppend old change new side)
-  pub used_words : (state_of old).fill ≡ capacity old → OfLive old (λ side generation. ShowsCutMove old (change ∷ []) new side generation)
+  pub free_words : (state_of old).fill < capacity old
+      → OfLive old (λ side generation. ShowsCutAppend old change new side)
+  pub used_words : (state_of old).fill ≡ capacity old
+      → OfLive old (λ side generation. ShowsCutMove old (change ∷ []) new side generation)
 
 -- Power was cut in a transfer with several changes: the map is as it was, or has them all.
 pub record IsCutTransfer (old : Device) (changes : List Change) (new : Device) : Type 0 where
   pub proceeds : Proceeds old changes
   pub cut : IsCut old new
-  pub state_is : IsCutMove old.size.pages (pages_left changes old) (state_of old) changes (state_of new)
+  pub state_is : IsCutMove old.size.pages (pages_left changes old) (state_of old) changes
+      (state_of new)
   pub words : OfLive old (λ side generation. ShowsCutMove old changes new side generation)
 
 -- power was cut in making these changes

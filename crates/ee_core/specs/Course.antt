@@ -17,7 +17,8 @@ abbrev pub last_given : List (ℕ × ℕ) → ℕ → ℕ
 last_given found given = last_of 0 (take given found)
 
 abbrev pub course_of : List (ℕ × ℕ) → Option ℕ → ℕ → Course
-course_of found through given = record { after = last_given found given; ready = drop given found; through = through }
+course_of found through given =
+    record { after = last_given found given; ready = drop given found; through = through }
 
 -- it goes over the live addresses of this map
 pub record GoesOver (map : Map) (course : Course) : Type 0 where

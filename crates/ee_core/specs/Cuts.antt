@@ -21,7 +21,8 @@ IsPartlyDone old whole new = (new ≡ old) ⊎ (new ≡ whole) ⊎ ((new ≡ Tor
 -- drawn as the second.
 abbrev pub IsDrawnPartly : Side → Device → Picture → Picture → Type 0
 IsDrawnPartly side device old whole =
-    (page at : ℕ) → page < device.size.pages → at < device.size.words → IsPartlyDone (old page at) (whole page at) (picture_of side device page at)
+    (page at : ℕ) → page < device.size.pages → at < device.size.words
+    → IsPartlyDone (old page at) (whole page at) (picture_of side device page at)
 
 -- Power was cut in erasing pages by rising number: those of these that are not blank, where the
 -- first has this number. It was cut at one of them, which has worn, as those of them before it
@@ -32,40 +33,53 @@ pub record ErasesPartly (first : ℕ) (pages : List (List Word)) (old new : Devi
   pub wear : WearsTo page (not_blank_from first pages) old new
   pub before : (lower : ℕ) → first ≤ lower → lower < page → is_blank (page_at new lower) ≡ true
   pub here : IsPartlyErased (page_at old page) (page_at new page)
-  pub others : (other : ℕ) → (other < first) ⊎ (page < other) → page_at new other ≡ page_at old other
+  pub others : (other : ℕ) → (other < first) ⊎ (page < other)
+      → page_at new other ≡ page_at old other
 
 -- Power was cut in a transfer, behind its erases: each page of the other set that was not blank has
 -- worn, and no other page; in that set each word is erased, as the whole transfer leaves it, or
 -- torn; in the set that was live each mark that its page may be erased, if that isn't blank, is as
 -- before, set or torn, and each other word is as before.
-pub record MovesPartly (old new : Device) (side : Side) (generation : ℕ) (words : List Word) : Type 0 where
+pub record MovesPartly (old new : Device) (side : Side) (generation : ℕ) (words : List Word)
+    : Type 0 where
   pub wear : Wears (not_blank_in (other side) old) old new
-  pub new_pages : IsDrawnPartly (other side) new blank_picture (filled_set old.size (generation + 1) words)
-  pub old_pages : IsDrawnPartly side new (picture_of side old) (retired_pages (is_used side old) (picture_of side old))
+  pub new_pages : IsDrawnPartly (other side) new blank_picture
+      (filled_set old.size (generation + 1) words)
+  pub old_pages : IsDrawnPartly side new (picture_of side old)
+      (retired_pages (is_used side old) (picture_of side old))
 
 -- ---- the parts of a call
 
 -- in a transfer, before a mark of the set that was live
-pub record MovesMapPartly (old new : Device) (side : Side) (generation : ℕ) (words : List Word) : Type 0 where
+pub record MovesMapPartly (old new : Device) (side : Side) (generation : ℕ) (words : List Word)
+    : Type 0 where
   pub wear : Wears (not_blank_in (other side) old) old new
-  pub new_pages : IsDrawnPartly (other side) new blank_picture (filled_set old.size (generation + 1) words)
+  pub new_pages : IsDrawnPartly (other side) new blank_picture
+      (filled_set old.size (generation + 1) words)
   pub live_pages : IsDrawn side new (picture_of side old)
 
 -- power was cut in programming this word, and each other word is as before
 pub record PutsPartly (page at : ℕ) (word : Word) (old new : Device) : Type 0 where
   pub there : IsPartlyDone (word_at old page at) word (word_at new page at)
-  pub elsewhere : (other_page place : ℕ) → (other_page ≢ page) ⊎ (place ≢ at) → word_at new other_page place ≡ word_at old other_page place
+  pub elsewhere : (other_page place : ℕ) → (other_page ≢ page) ⊎ (place ≢ at)
+      → word_at new other_page place ≡ word_at old other_page place
 
 -- a set that is filled with these words: each of its words is erased, as in the set
 -- that is filled, or torn
 abbrev pub FillsPartly : Device → Side → ℕ → List Word → Type 0
 FillsPartly device side generation words =
-    IsDrawnPartly side device blank_picture (opened_set device.size generation (page_of_slot device.size (length words - 1)) words)
+    IsDrawnPartly side device blank_picture
+    (opened_set device.size generation (page_of_slot device.size (length words - 1)) words)
 
 -- power was cut in adding words to the other set, which held so many
-pub record AddsPartly (old new : Device) (side : Side) (generation count : ℕ) (more : List Word) : Type 0 where
-  pub new_pages : (words : List Word) → length words ≡ count → Holds old (other side) generation words → FillsPartly new (other side) generation (words ++ more)
+pub record AddsPartly (old new : Device) (side : Side) (generation count : ℕ) (more : List Word)
+    : Type 0 where
+  pub new_pages : (words : List Word) → length words ≡ count
+      → Holds old (other side) generation words
+      → FillsPartly new (other side) generation (words ++ more)
 
 -- in setting a mark
 abbrev pub SetsPartly : ℕ → Mark → Device → Device → Type 0
-SetsPartly page mark old new = PutsPartly page (place_of_mark mark) (marked_word mark (word_at old page (place_of_mark mark))) old new
+SetsPartly page mark old new =
+    PutsPartly page (place_of_mark mark) (marked_word mark (word_at old page (place_of_mark mark)))
+    old new

@@ -14,7 +14,8 @@ use Rattle.ee_core.specs.declared.variables.ClearFault.TheVariants as clear
 -- nothing has a value, in the next generation, and so many pages of the set that was
 -- live wait to be erased
 abbrev pub cleared_state : ℕ → State → State
-cleared_state pages state = record { map = λ address. None; fill = 0; generation = state.generation + 1; pending = pages }
+cleared_state pages state =
+    record { map = λ address. None; fill = 0; generation = state.generation + 1; pending = pages }
 
 -- the device is on, a slot is used, and a generation is left for a transfer
 pub record MayClear (device : Device) : Type 0 where
@@ -44,10 +45,14 @@ pub record Empties (old new : Device) : Type 0 where
 pub record IsCutClear (old new : Device) : Type 0 where
   pub may : MayClear old
   pub cut : IsCut old new
-  pub state_is : ((pending : ℕ) × (pending ≤ old.size.pages) × (state_of new ≡ with_pending pending (state_of old)))
+  pub state_is
+      :
+      ((pending : ℕ) × (pending ≤ old.size.pages)
+      × (state_of new ≡ with_pending pending (state_of old)))
       ⊎ (state_of new ≡ cleared_state (used_pages_of old) (state_of old))
   pub words : OfLive old (λ side generation.
-      ErasesPartly (first_page old.size (other side)) (set_of (other side) old) old new ⊎ MovesPartly old new side generation [])
+      ErasesPartly (first_page old.size (other side)) (set_of (other side) old) old new
+      ⊎ MovesPartly old new side generation [])
 
 -- A clear empties the store, or finds no slot used, and nothing changes; or it was refused, since
 -- the device was off or no generation is left, and nothing changed; or power was cut.
@@ -55,5 +60,7 @@ abbrev pub Clears : Device → Result Bool ClearFault → Device → Type 0
 Clears old (Ok true) new = Empties old new
 Clears old (Ok false) new = IsOn old × ((state_of old).fill ≡ 0) × (new ≡ old)
 Clears old (Err clear.Off) new = IsOff old × (new ≡ old)
-Clears old (Err clear.Spent) new = IsOn old × (0 < (state_of old).fill) × ((state_of old).generation ≡ greatest_generation) × (new ≡ old)
+Clears old (Err clear.Spent) new =
+    IsOn old × (0 < (state_of old).fill) × ((state_of old).generation ≡ greatest_generation)
+    × (new ≡ old)
 Clears old (Err clear.Cut) new = IsCutClear old new

@@ -15,13 +15,15 @@ last_used device side = page_of_slot device.size (fill_of (slots_of (set_of side
 -- in this live set the pages before the last used one are marked valid, and that one is marked
 -- active
 pub record IsLiveMarked (device : Device) (side : Side) : Type 0 where
-  pub valid : (page : ℕ) → page < last_used device side → is_marked device (first_page device.size side + page) Valid ≡ true
+  pub valid : (page : ℕ) → page < last_used device side
+      → is_marked device (first_page device.size side + page) Valid ≡ true
   pub active : is_marked device (first_page device.size side + last_used device side) Active ≡ true
 
 -- each page of this set that is not blank is marked as one that may be erased
 abbrev pub IsOldMarked : Device → Side → Type 0
 IsOldMarked device side = (page : ℕ) → page < device.size.pages
-    → (is_blank (page_at device (first_page device.size side + page)) ≡ true) ⊎ (is_marked device (first_page device.size side + page) Erasing ≡ true)
+    → (is_blank (page_at device (first_page device.size side + page)) ≡ true)
+    ⊎ (is_marked device (first_page device.size side + page) Erasing ≡ true)
 
 -- both, for the live set and the other one
 pub record IsMarked (device : Device) (side : Side) : Type 0 where
@@ -30,7 +32,8 @@ pub record IsMarked (device : Device) (side : Side) : Type 0 where
 
 -- no mark is left to set
 abbrev pub IsFinished : Device → Type 0
-IsFinished device = (side : Side) (generation : ℕ) → live_of device ≡ Some (side, generation) → IsMarked device side
+IsFinished device =
+    (side : Side) (generation : ℕ) → live_of device ≡ Some (side, generation) → IsMarked device side
 
 -- the device of a store: its image is legal, and while it is on no mark is left to set
 pub record IsStore (device : Device) : Type 0 where

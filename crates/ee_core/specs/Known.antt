@@ -9,7 +9,8 @@ use Rattle.ee_core.specs.declared.known.Known.{Known}
 
 -- A store of this device knows this of it. While it is on, the layout is its own, and the
 -- look-up finds its values.
-pub record Knows {L : Type 0} (finds : L → List Word → Type 0) (device : Device) (known : Known L) : Type 0 where
+pub record Knows {L : Type 0} (finds : L → List Word → Type 0) (device : Device) (known : Known L)
+    : Type 0 where
   pub store : IsStore device
   pub layout : IsOn device → IsLayout device known.layout
   pub fits : IsOn device → finds known.lookup (slots_by known.layout device)

@@ -19,7 +19,10 @@ use Rattle.ee_core.specs.declared.opening.OpenFault.TheVariants.{Scan, Cut}
 -- of the other set that is not blank may be erased
 pub record ShowsMarks (old new : Device) (side : Side) : Type 0 where
   pub live_pages : IsDrawn side new (marked_to (last_used old side) (picture_of side old))
-  pub old_pages : IsDrawn (other side) new (retired_pages (λ page. not (is_blank (page_at old (first_page old.size (other side) + page)))) (picture_of (other side) old))
+  pub old_pages : IsDrawn (other side) new
+      (retired_pages
+      (λ page. not (is_blank (page_at old (first_page old.size (other side) + page))))
+      (picture_of (other side) old))
 
 -- The image was legal; its state is as before, the same set is live, the same pages wait, and none
 -- was erased. Where no mark was left, nothing changed.
@@ -37,9 +40,13 @@ pub record Opens (old new : Device) : Type 0 where
 -- what is drawn when power was cut in an opening: of the marks that were left to set each is as
 -- before, set or torn; each other word is as before
 pub record ShowsCutMarks (old new : Device) (side : Side) : Type 0 where
-  pub live_pages : IsDrawnPartly side new (picture_of side old) (marked_to (last_used old side) (picture_of side old))
+  pub live_pages : IsDrawnPartly side new (picture_of side old)
+      (marked_to (last_used old side) (picture_of side old))
   pub old_pages : let before = picture_of (other side) old in
-      IsDrawnPartly (other side) new before (retired_pages (λ page. not (is_blank (page_at old (first_page old.size (other side) + page)))) before)
+      IsDrawnPartly (other side) new before
+      (retired_pages
+      (λ page. not (is_blank (page_at old (first_page old.size (other side) + page))))
+      before)
 
 -- power was cut in setting a mark; the state is as before, and no page was erased
 pub record IsCutOpening (old new : Device) : Type 0 where

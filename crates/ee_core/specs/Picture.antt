@@ -26,11 +26,14 @@ picture_of side device page at = word_at device (first_page device.size side + p
 -- each word of the set is as the picture shows it
 abbrev pub IsDrawn : Side → Device → Picture → Type 0
 IsDrawn side device picture =
-    (page at : ℕ) → page < device.size.pages → at < device.size.words → picture_of side device page at ≡ picture page at
+    (page at : ℕ) → page < device.size.pages → at < device.size.words
+    → picture_of side device page at ≡ picture page at
 
 -- it holds of the live set and its generation
 abbrev pub OfLive : Device → (Side → ℕ → Type 0) → Type 0
-OfLive device Holds = (side : Side) × (generation : ℕ) × (live_of device ≡ Some (side, generation)) × Holds side generation
+OfLive device Holds =
+    (side : Side) × (generation : ℕ) × (live_of device ≡ Some (side, generation))
+    × Holds side generation
 
 -- a set of blank pages
 abbrev pub blank_picture : Picture
@@ -38,7 +41,8 @@ blank_picture page at = Erased
 
 -- with this word in one place
 abbrev pub picture_with_word : ℕ → ℕ → Word → Picture → Picture
-picture_with_word there place word picture page at = if (page == there) && (at == place) then word else picture page at
+picture_with_word there place word picture page at =
+    if (page == there) && (at == place) then word else picture page at
 
 -- A mark is set where its word is erased; a word that is written already, whole or torn, stays.
 abbrev pub marked_word : Mark → Word → Word
@@ -51,7 +55,9 @@ marked_word mark Torn = Torn
 abbrev pub marked_to : ℕ → Picture → Picture
 marked_to last picture page at =
     if (at == 2) && nat_lt page last then marked_word Valid (picture page at)
-    else (if (at == 1) && (page == last) then marked_word Active (picture page at) else picture page at)
+    else
+    (if (at == 1)
+    && (page == last) then marked_word Active (picture page at) else picture page at)
 
 -- whether a page of a set is not blank
 abbrev pub is_used : Side → Device → ℕ → Bool
@@ -59,7 +65,8 @@ is_used side device page = not (is_blank (page_at device (first_page device.size
 
 -- the mark of each of these pages that it may be erased
 abbrev pub retired_pages : (ℕ → Bool) → Picture → Picture
-retired_pages waits picture page at = if (at == 3) && waits page then marked_word Erasing (picture page at) else picture page at
+retired_pages waits picture page at =
+    if (at == 3) && waits page then marked_word Erasing (picture page at) else picture page at
 
 -- the number of a change's word: a forgetting has the value forgotten
 abbrev pub value_forgotten : Option ℕ → ℕ
@@ -75,7 +82,8 @@ number_of_change map (Forget address) = forgetting address (value_forgotten (map
 -- is the first of a further page.
 abbrev pub with_change : Size → ℕ → ℕ → Picture → Picture
 with_change size fill number picture =
-    picture_with_word (page_of_slot size fill) (place_of_slot size fill) (Held number) (marked_to (page_of_slot size fill) picture)
+    picture_with_word (page_of_slot size fill) (place_of_slot size fill) (Held number)
+    (marked_to (page_of_slot size fill) picture)
 
 -- the element of an address that has a value
 abbrev pub element_at : ℕ → Option ℕ → List Word
@@ -85,7 +93,8 @@ element_at address (Some value) = Held (element address value) ∷ []
 -- the elements of the addresses 1 to this one, by rising address
 unfoldable pub elements_to : Map → ℕ → List Word
 elements_to map zero = []
-elements_to map (suc address) = elements_to map address ++ element_at (suc address) (map (suc address))
+elements_to map (suc address) =
+    elements_to map address ++ element_at (suc address) (map (suc address))
 
 -- of all addresses
 abbrev pub elements_of : Map → List Word
@@ -100,7 +109,8 @@ put_words (Forget address ∷ changes) = put_words changes
 -- the map without the addresses of these changes
 abbrev pub map_without : List Change → Map → Map
 map_without [] map = map
-map_without (change ∷ changes) map = map_without changes (map_after (Forget (address_of change)) map)
+map_without (change ∷ changes) map =
+    map_without changes (map_after (Forget (address_of change)) map)
 
 -- what a transfer puts into the new set: the elements that are put first, and then those of
 -- the other addresses

@@ -38,7 +38,8 @@ names changes address = list_any (λ change. address_of change == address) chang
 -- each change is of a proper address, and no later one is of the same
 abbrev pub AreApart : List Change → Type 0
 AreApart [] = Unit {0}
-AreApart (change ∷ changes) = IsAddress (address_of change) × (names changes (address_of change) ≡ false) × AreApart changes
+AreApart (change ∷ changes) =
+    IsAddress (address_of change) × (names changes (address_of change) ≡ false) × AreApart changes
 
 -- one of the values is put at an address that has none in this map
 abbrev pub HasNew : List listed.Put → Map → Type 0
@@ -77,4 +78,6 @@ HasAll (put ∷ puts) map = (map put.address ≡ Some put.value) × HasAll puts 
 
 -- a list that has each address once is there in the map after it
 abbrev pub ListsAreThere : Type 0
-ListsAreThere = (puts : List listed.Put) (map : Map) → IsEachOnce puts → HasAll puts (changed_by (puts_of puts) map)
+ListsAreThere =
+    (puts : List listed.Put) (map : Map) → IsEachOnce puts
+    → HasAll puts (changed_by (puts_of puts) map)

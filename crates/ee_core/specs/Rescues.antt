@@ -38,10 +38,12 @@ pub record IsRescued (old : Device) (rescued : Rescued) (new : Device) : Type 0 
   pub rescues : Rescues old side generation
   pub store : IsStore new
   pub goes_on : GoesOn old new
-  pub state_is : state_of new ≡ moved_state (pending_of (set_of side old)) [] (state_with old side generation)
+  pub state_is : state_of new
+      ≡ moved_state (pending_of (set_of side old)) [] (state_with old side generation)
   pub map_is : (address : ℕ) → (state_of new).map address ≡ rescued_map old address
   pub live_is : live_of new ≡ Some (other side, generation + 1)
-  pub new_pages : IsDrawn (other side) new (filled_set old.size (generation + 1) (elements_of (map_in side old)))
+  pub new_pages : IsDrawn (other side) new
+      (filled_set old.size (generation + 1) (elements_of (map_in side old)))
   pub old_pages : IsDrawn side new (retired_pages (is_used side old) (picture_of side old))
   pub wear : Wears (not_blank_in (other side) old) old new
   pub bad_is : rescued.bad_words ≡ bad_words old
@@ -68,7 +70,9 @@ pub record IsCutRescue (old new : Device) : Type 0 where
 abbrev pub RescueFails : Device → RescueFault → Device → Type 0
 RescueFails old faults.NothingBegun new = (rescued_side old ≡ None) × (new ≡ old)
 RescueFails old faults.Spent new =
-    ((side : Side) × (rescued_side old ≡ Some side) × (named_generation (set_of side old) ≡ greatest_generation)) × (new ≡ old)
+    ((side : Side) × (rescued_side old ≡ Some side)
+    × (named_generation (set_of side old) ≡ greatest_generation))
+    × (new ≡ old)
 RescueFails old faults.Cut new = IsCutRescue old new
 
 -- ---- cuts, one after another
@@ -96,15 +100,19 @@ IsMadeStore old new = ((rescued : Rescued) × IsRescued old rescued new) ⊎ Ope
 -- where a set is held, its map is found behind any cuts
 abbrev pub HeldThroughCuts : Type 0
 HeldThroughCuts =
-    (old : Device) (side : Side) (generation : ℕ) (cuts : List Device) (new : Device) → IsHeld old side generation → AreCutTries old cuts → IsMadeStore (last_on old cuts) new
+    (old : Device) (side : Side) (generation : ℕ) (cuts : List Device) (new : Device)
+    → IsHeld old side generation → AreCutTries old cuts → IsMadeStore (last_on old cuts) new
     → (address : ℕ) → (state_of new).map address ≡ rescued_map old address
 
 -- The word that went bad was the newest element or forgetting of the address, which has what
 -- the other slots say.
 pub record CostsNewest (old new : Device) (side : Side) (page at address : ℕ) : Type 0 where
   pub in_slot : 3 < at
-  pub newest : IsNewest (slots_of (set_of side old)) (page * (old.size.words - 4) + (at - 4)) address
-  pub map_is : (state_of new).map address ≡ meaning_without (slots_of (set_of side old)) (page * (old.size.words - 4) + (at - 4)) address
+  pub newest : IsNewest (slots_of (set_of side old)) (page * (old.size.words - 4) + (at - 4))
+      address
+  pub map_is : (state_of new).map address
+      ≡ meaning_without (slots_of (set_of side old)) (page * (old.size.words - 4) + (at - 4))
+      address
 
 -- One word of a live set went bad. Openings and rescues are cut, as often as it likes, and
 -- one is not: each address has what it had, but for the one of which that word was the
@@ -112,16 +120,20 @@ pub record CostsNewest (old new : Device) (side : Side) (page at address : ℕ) 
 -- them, and that none was cut.
 abbrev pub OneWordCostsNoMore : Type 0
 OneWordCostsNoMore =
-    (old changed : Device) (side : Side) (generation page at : ℕ) (word : Word) (cuts : List Device) (new : Device)
+    (old changed : Device) (side : Side) (generation page at : ℕ) (word : Word) (cuts : List Device)
+    (new : Device)
     → IsLive old side generation → PutsInSet old changed side page at word → WentBad at word
     → (page ≡ 0 → at < 2 → (is_written word ≡ true) × IsToldApart old side × (cuts ≡ []))
     → AreCutTries changed cuts → IsMadeStore (last_on changed cuts) new
-    → (address : ℕ) → ((state_of new).map address ≡ (state_of old).map address) ⊎ CostsNewest old new side page at address
+    → (address : ℕ)
+    → ((state_of new).map address ≡ (state_of old).map address)
+    ⊎ CostsNewest old new side page at address
 
 -- one of the set that waits costs nothing
 abbrev pub WaitingWordCostsNoMore : Type 0
 WaitingWordCostsNoMore =
-    (old changed : Device) (side : Side) (generation page at : ℕ) (word : Word) (cuts : List Device) (new : Device)
+    (old changed : Device) (side : Side) (generation page at : ℕ) (word : Word) (cuts : List Device)
+    (new : Device)
     → IsLive old side generation → PutsInSet old changed (other side) page at word → WentBad at word
     → (page ≡ 0 → at < 2 → IsToldApart old side × (cuts ≡ []))
     → AreCutTries changed cuts → IsMadeStore (last_on changed cuts) new

@@ -50,7 +50,8 @@ Follows (DidRead address answer) old new = Reads old address answer × (new ≡ 
 -- calls in their order: each is made on the device that the one before it left
 abbrev pub IsRun : List Call → Device → Device → Type 0
 IsRun [] old new = new ≡ old
-IsRun (call ∷ calls) old new = (between : Device) × Follows call old between × IsRun calls between new
+IsRun (call ∷ calls) old new =
+    (between : Device) × Follows call old between × IsRun calls between new
 
 -- whether the call moved the map to the other set
 abbrev pub is_transfer : Call → Bool
@@ -95,7 +96,8 @@ IsAnsweredBy map call = Unit {0}
 -- each read is answered by the map that the changes before it made of this one
 abbrev pub AreAnsweredFrom : Map → List Call → Type 0
 AreAnsweredFrom map [] = Unit {0}
-AreAnsweredFrom map (call ∷ calls) = IsAnsweredBy map call × AreAnsweredFrom (changed_by (changes_of_call call) map) calls
+AreAnsweredFrom map (call ∷ calls) =
+    IsAnsweredBy map call × AreAnsweredFrom (changed_by (changes_of_call call) map) calls
 
 -- power, cuts and size are as before
 abbrev pub RunsGoOn : Type 0
@@ -112,21 +114,26 @@ is_single call = true
 -- erased as often as can be counted.
 abbrev pub EachTransferErasesASet : Type 0
 EachTransferErasesASet =
-    (calls : List Call) (old new : Device) → IsWholeRun calls old new → All (λ call. is_single call ≡ true) calls → CountsWear new
-    → total_wear_of new + (state_of new).pending ≡ total_wear_of old + (state_of old).pending + transfers calls * old.size.pages
+    (calls : List Call) (old new : Device) → IsWholeRun calls old new
+    → All (λ call. is_single call ≡ true) calls → CountsWear new
+    → total_wear_of new + (state_of new).pending
+    ≡ total_wear_of old + (state_of old).pending + transfers calls * old.size.pages
 
 -- With lists of several and clears, which move the map whether the set that it leaves is full or
 -- not, they are no more.
 abbrev pub NoTransferErasesMore : Type 0
 NoTransferErasesMore =
     (calls : List Call) (old new : Device) → IsWholeRun calls old new → CountsWear new
-    → total_wear_of new + (state_of new).pending ≤ total_wear_of old + (state_of old).pending + transfers calls * old.size.pages
+    → total_wear_of new + (state_of new).pending ≤ total_wear_of old + (state_of old).pending
+    + transfers calls * old.size.pages
 
 -- so where none waited, and none waits at the end, as many pages were erased
 abbrev pub CleanRunsEraseSets : Type 0
 CleanRunsEraseSets =
-    (calls : List Call) (old new : Device) → IsWholeRun calls old new → All (λ call. is_single call ≡ true) calls → CountsWear new → (state_of old).pending ≡ 0
-    → (state_of new).pending ≡ 0 → total_wear_of new ≡ total_wear_of old + transfers calls * old.size.pages
+    (calls : List Call) (old new : Device) → IsWholeRun calls old new
+    → All (λ call. is_single call ≡ true) calls → CountsWear new → (state_of old).pending ≡ 0
+    → (state_of new).pending ≡ 0
+    → total_wear_of new ≡ total_wear_of old + transfers calls * old.size.pages
 
 -- the page is one of the live set
 pub record IsLivePage (device : Device) (page : ℕ) : Type 0 where
@@ -154,13 +161,15 @@ pub record WearsAtMost (moves page : ℕ) (old new : Device) : Type 0 where
 -- each page is erased at every second transfer at the most
 abbrev pub EachPageWearsEverySecondTransfer : Type 0
 EachPageWearsEverySecondTransfer =
-    (calls : List Call) (old new : Device) (page : ℕ) → IsWholeRun calls old new → WearsAtMost (transfers calls) page old new
+    (calls : List Call) (old new : Device) (page : ℕ) → IsWholeRun calls old new
+    → WearsAtMost (transfers calls) page old new
 
 -- So from a legal image in which no page waits, no page is erased more often than every second
 -- transfer, rounded up.
 abbrev pub NoPageWearsMore : Type 0
 NoPageWearsMore =
-    (calls : List Call) (old new : Device) (page : ℕ) → IsWholeRun calls old new → IsLegal old → (state_of old).pending ≡ 0
+    (calls : List Call) (old new : Device) (page : ℕ) → IsWholeRun calls old new → IsLegal old
+    → (state_of old).pending ≡ 0
     → page < page_count old.size → wear_at new page ≤ wear_at old page + (transfers calls + 1) / 2
 
 -- And from any legal image no page is erased more than once more often than every second transfer.
@@ -174,4 +183,5 @@ NoPageWearsMuchMore =
 abbrev pub TheStoreIsAMap : Type 0
 TheStoreIsAMap =
     (calls : List Call) (old new : Device) → IsWholeRun calls old new
-    → ((state_of new).map ≡ changed_by (flat_map changes_of_call calls) (state_of old).map) × AreAnsweredFrom (state_of old).map calls
+    → ((state_of new).map ≡ changed_by (flat_map changes_of_call calls) (state_of old).map)
+    × AreAnsweredFrom (state_of old).map calls

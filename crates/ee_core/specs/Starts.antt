@@ -96,7 +96,8 @@ WritesFormat (Err cut) old new = FormatWrittenPartly old new
 -- so many starts, one after another, in each of which power was cut and then came back
 abbrev pub AreCutStarts : ℕ → Device → Device → Type 0
 AreCutStarts zero old new = new ≡ old
-AreCutStarts (suc more) old new = (between : Device) × StartFails old Cut between × AreCutStarts more (with_power_on between) new
+AreCutStarts (suc more) old new =
+    (between : Device) × StartFails old Cut between × AreCutStarts more (with_power_on between) new
 
 -- what a start of the device may answer: a store with nothing in it, or, where a cut is left, a cut
 pub record StartsEmpty (device : Device) : Type 0 where

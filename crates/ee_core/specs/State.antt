@@ -65,7 +65,8 @@ formatted_state = record { map = λ address. None; fill = 0; generation = 1; pen
 
 -- a change is appended: it takes a slot
 abbrev pub appended_state : Change → State → State
-appended_state change state = record state { map = map_after change state.map; fill = state.fill + 1 }
+appended_state change state =
+    record state { map = map_after change state.map; fill = state.fill + 1 }
 
 -- a slot is torn
 abbrev pub torn_state : State → State
@@ -91,7 +92,8 @@ with_pending pages state = record state { pending = pages }
 abbrev pub not_blank_from : ℕ → List (List Word) → List ℕ
 not_blank_from number [] = []
 not_blank_from number (page ∷ pages) =
-    if is_blank page then not_blank_from (number + 1) pages else number ∷ not_blank_from (number + 1) pages
+    if is_blank page then not_blank_from (number + 1) pages else number
+    ∷ not_blank_from (number + 1) pages
 
 -- the pages of a set that are not blank, by their numbers in the device
 abbrev pub not_blank_in : Side → Device → List ℕ

@@ -42,7 +42,8 @@ pub record IsOpenFor (device : Device) (layout : Layout) (place : Place) : Type 
 
 -- These words were added to the other set, of which so many slots were written; now this many are,
 -- and the set means this map. The live set and all wear are as before.
-pub record Filled (old new : Device) (layout : Layout) (count : ℕ) (words : List Word) (map : Map) (written : ℕ) : Type 0 where
+pub record Filled (old new : Device) (layout : Layout) (count : ℕ) (words : List Word) (map : Map)
+    (written : ℕ) : Type 0 where
   pub keeps : KeepsSide old new layout.side
   pub filling : IsFilling new (other layout.side) (layout.generation + 1) written
   pub map_is : (address : ℕ) → map_in (other layout.side) new address ≡ map address
@@ -51,14 +52,17 @@ pub record Filled (old new : Device) (layout : Layout) (count : ℕ) (words : Li
   pub wear : new.wear ≡ old.wear
 
 -- or they were added in part, when power was cut
-pub record FilledPartly (old new : Device) (layout : Layout) (count : ℕ) (words : List Word) : Type 0 where
+pub record FilledPartly (old new : Device) (layout : Layout) (count : ℕ) (words : List Word)
+    : Type 0 where
   pub keeps : KeepsSide old new layout.side
   pub begun : AddsPartly old new layout.side (layout.generation + 1) count words
   pub wear : new.wear ≡ old.wear
 
 -- a call ends so; what it gives says how many slots are written
-abbrev pub Fills : {T E : Type 0} → Result T E → (T → ℕ) → Device → Device → Layout → ℕ → List Word → Map → Type 0
-Fills (Ok value) written old new layout count words map = Filled old new layout count words map (written value)
+abbrev pub Fills : {T E : Type 0} → Result T E → (T → ℕ) → Device → Device → Layout → ℕ → List Word
+    → Map → Type 0
+Fills (Ok value) written old new layout count words map =
+    Filled old new layout count words map (written value)
 Fills (Err error) written old new layout count words map = FilledPartly old new layout count words
 
 -- in the other set, of which so many slots are written, the page of the next one has its receive
@@ -66,16 +70,20 @@ Fills (Err error) written old new layout count words map = FilledPartly old new 
 pub record OpensForSlot (old new : Device) (layout : Layout) (count : ℕ) : Type 0 where
   pub keeps : KeepsSide old new layout.side
   pub filling : IsFilling new (other layout.side) (layout.generation + 1) count
-  pub same_slots : slots_of (set_of (other layout.side) new) ≡ slots_of (set_of (other layout.side) old)
+  pub same_slots : slots_of (set_of (other layout.side) new)
+      ≡ slots_of (set_of (other layout.side) old)
   pub opens : (words : List Word) → length words ≡ count
-      → IsDrawn (other layout.side) old (opened_set old.size (layout.generation + 1) (page_of_slot old.size (count - 1)) words)
-      → IsDrawn (other layout.side) new (opened_set old.size (layout.generation + 1) (page_of_slot old.size count) words)
+      → IsDrawn (other layout.side) old
+      (opened_set old.size (layout.generation + 1) (page_of_slot old.size (count - 1)) words)
+      → IsDrawn (other layout.side) new
+      (opened_set old.size (layout.generation + 1) (page_of_slot old.size count) words)
   pub wear : new.wear ≡ old.wear
 
 -- or power was cut in that word
 pub record OpensForSlotPartly (old new : Device) (layout : Layout) (count : ℕ) : Type 0 where
   pub keeps : KeepsSide old new layout.side
-  pub begun : SetsPartly (first_page old.size (other layout.side) + page_of_slot old.size count) (Receive (layout.generation + 1)) old new
+  pub begun : SetsPartly (first_page old.size (other layout.side) + page_of_slot old.size count)
+      (Receive (layout.generation + 1)) old new
   pub wear : new.wear ≡ old.wear
 
 -- the mark ends so
@@ -84,24 +92,35 @@ ReceivesSlot (Ok done) old new layout count = OpensForSlot old new layout count
 ReceivesSlot (Err cut) old new layout count = OpensForSlotPartly old new layout count
 
 -- then the change stands in that slot
-pub record PutsInSlot (old new : Device) (layout : Layout) (count : ℕ) (change : declared.Change) : Type 0 where
+pub record PutsInSlot (old new : Device) (layout : Layout) (count : ℕ) (change : declared.Change)
+    : Type 0 where
   pub keeps : KeepsSide old new layout.side
   pub filling : IsFilling new (other layout.side) (layout.generation + 1) (count + 1)
-  pub slot : (number : ℕ) × SpellsChange number (map_change change) × (slots_of (set_of (other layout.side) new) ≡ slice_set (slots_of (set_of (other layout.side) old)) count (Held number))
-  pub map_is : (address : ℕ) → map_in (other layout.side) new address ≡ map_after (map_change change) (map_in (other layout.side) old) address
+  pub slot : (number : ℕ) × SpellsChange number (map_change change)
+      × (slots_of (set_of (other layout.side) new)
+      ≡ slice_set (slots_of (set_of (other layout.side) old)) count (Held number))
+  pub map_is : (address : ℕ)
+      → map_in (other layout.side) new address
+      ≡ map_after (map_change change) (map_in (other layout.side) old) address
   pub puts : (words : List Word) → length words ≡ count
-      → IsDrawn (other layout.side) old (opened_set old.size (layout.generation + 1) (page_of_slot old.size count) words)
-      → IsDrawn (other layout.side) new (opened_set old.size (layout.generation + 1) (page_of_slot old.size count) (words ++ (Held (number_written change) ∷ [])))
+      → IsDrawn (other layout.side) old
+      (opened_set old.size (layout.generation + 1) (page_of_slot old.size count) words)
+      → IsDrawn (other layout.side) new
+      (opened_set old.size (layout.generation + 1) (page_of_slot old.size count)
+      (words ++ (Held (number_written change) ∷ [])))
   pub wear : new.wear ≡ old.wear
 
 -- or power was cut in it
-pub record PutsInSlotPartly (old new : Device) (layout : Layout) (count : ℕ) (change : declared.Change) : Type 0 where
+pub record PutsInSlotPartly (old new : Device) (layout : Layout) (count : ℕ)
+    (change : declared.Change) : Type 0 where
   pub keeps : KeepsSide old new layout.side
-  pub begun : PutsPartly (first_page old.size (other layout.side) + page_of_slot old.size count) (place_of_slot old.size count) (Held (number_written change)) old new
+  pub begun : PutsPartly (first_page old.size (other layout.side) + page_of_slot old.size count)
+      (place_of_slot old.size count) (Held (number_written change)) old new
   pub wear : new.wear ≡ old.wear
 
 -- the step that programs it ends so
-abbrev pub ProgramsSlot : {T E : Type 0} → Result T E → Device → Device → Layout → ℕ → declared.Change → Type 0
+abbrev pub ProgramsSlot : {T E : Type 0} → Result T E → Device → Device → Layout → ℕ
+    → declared.Change → Type 0
 ProgramsSlot (Ok done) old new layout count change = PutsInSlot old new layout count change
 ProgramsSlot (Err cut) old new layout count change = PutsInSlotPartly old new layout count change
 
@@ -117,7 +136,8 @@ pub record OtherCleared (old new : Device) (side : Side) : Type 0 where
 -- or power was cut in one of these erases
 pub record OtherClearedPartly (old new : Device) (side : Side) : Type 0 where
   pub keeps : KeepsSide old new side
-  pub partly : IsOn old → ErasesPartly (first_page old.size (other side)) (set_of (other side) old) old new
+  pub partly : IsOn old
+      → ErasesPartly (first_page old.size (other side)) (set_of (other side) old) old new
 
 -- the erases end so
 abbrev pub ClearsOther : {T E : Type 0} → Result T E → Device → Device → Side → Type 0
@@ -135,7 +155,8 @@ pub record OtherOpened (old new : Device) (layout : Layout) : Type 0 where
 -- or power was cut in it: whatever words the set is to hold, it is on the way to them
 pub record OtherOpenedPartly (old new : Device) (layout : Layout) : Type 0 where
   pub keeps : KeepsSide old new layout.side
-  pub begun : (words : List Word) → FillsPartly new (other layout.side) (layout.generation + 1) words
+  pub begun : (words : List Word)
+      → FillsPartly new (other layout.side) (layout.generation + 1) words
   pub wear : new.wear ≡ old.wear
 
 -- the opening ends so
@@ -153,10 +174,12 @@ pub record OtherCommitted (old new : Device) (layout : Layout) : Type 0 where
 
 -- or power was cut in it
 pub record OtherCommittedPartly (old new : Device) (layout : Layout) : Type 0 where
-  pub cut : KeepsSide old new layout.side ⊎ IsCommitted old new (other layout.side) (layout.generation + 1)
+  pub cut : KeepsSide old new layout.side
+      ⊎ IsCommitted old new (other layout.side) (layout.generation + 1)
   pub same_set : IsSameSet layout.side old new
   pub begun : (words : List Word) → Holds old (other layout.side) (layout.generation + 1) words
-      → IsDrawnPartly (other layout.side) new blank_picture (filled_set old.size (layout.generation + 1) words)
+      → IsDrawnPartly (other layout.side) new blank_picture
+      (filled_set old.size (layout.generation + 1) words)
   pub same_size : new.size ≡ old.size
   pub wear : new.wear ≡ old.wear
 
@@ -170,7 +193,8 @@ CommitsOther (Err cut) old new layout = OtherCommittedPartly old new layout
 -- The map moved with the changes to the other set, which is committed with these words, one in each
 -- of so many slots. Each page of that set that was not blank was erased first. The words of the set
 -- that was live are as before.
-pub record MapMoved (old new : Device) (layout : Layout) (changes : List Change) (words : List Word) (count : ℕ) : Type 0 where
+pub record MapMoved (old new : Device) (layout : Layout) (changes : List Change) (words : List Word)
+    (count : ℕ) : Type 0 where
   pub moved : HasMoved old new layout.side layout.generation changes
   pub as_many : count ≡ length words
   pub each_once : count ≡ live_in (changed_by changes (map_in layout.side old))
@@ -180,30 +204,41 @@ pub record MapMoved (old new : Device) (layout : Layout) (changes : List Change)
 
 -- Or power was cut on the way: in those erases, or behind them, and then the words are as is said;
 -- the live set is as before, or the map has moved.
-pub record MapMovedPartly (old new : Device) (layout : Layout) (changes : List Change) (words : List Word) (Leaves : Device → Device → Side → ℕ → List Word → Type 0) : Type 0 where
+pub record MapMovedPartly (old new : Device) (layout : Layout) (changes : List Change)
+    (words : List Word) (Leaves : Device → Device → Side → ℕ → List Word → Type 0) : Type 0 where
   pub left : IsOn old
-      → ErasesPartly (first_page old.size (other layout.side)) (set_of (other layout.side) old) old new
+      → ErasesPartly (first_page old.size (other layout.side)) (set_of (other layout.side) old) old
+      new
       ⊎ Leaves old new layout.side layout.generation words
   pub cut : KeepsSide old new layout.side ⊎ HasMoved old new layout.side layout.generation changes
 
 -- a call ends so; what it gives says how many slots are taken
-abbrev pub MovesMap : {T E : Type 0} → Result T E → (T → ℕ) → Device → Device → Layout → List Change → List Word → Type 0
-MovesMap (Ok value) taken old new layout changes words = MapMoved old new layout changes words (taken value)
-MovesMap (Err error) taken old new layout changes words = MapMovedPartly old new layout changes words MovesMapPartly
+abbrev pub MovesMap : {T E : Type 0} → Result T E → (T → ℕ) → Device → Device → Layout → List Change
+    → List Word → Type 0
+MovesMap (Ok value) taken old new layout changes words =
+    MapMoved old new layout changes words (taken value)
+MovesMap (Err error) taken old new layout changes words =
+    MapMovedPartly old new layout changes words MovesMapPartly
 
 -- The map moved so, and each mark of its new set, and of the pages that wait then, is set. This
 -- is the layout then.
-pub record SetMoved (old new : Device) (layout after : Layout) (changes : List Change) (words : List Word) : Type 0 where
+pub record SetMoved (old new : Device) (layout after : Layout) (changes : List Change)
+    (words : List Word) : Type 0 where
   pub moved : HasMoved old new layout.side layout.generation changes
   pub as_many : after.fill ≡ length words
   pub layout_is : IsLayout new after
   pub other_set : after.side ≡ other layout.side
   pub marked : IsMarked new (other layout.side)
-  pub new_pages : IsDrawn (other layout.side) new (filled_set old.size (layout.generation + 1) words)
-  pub old_pages : IsDrawn layout.side new (retired_pages (is_used layout.side old) (picture_of layout.side old))
+  pub new_pages : IsDrawn (other layout.side) new
+      (filled_set old.size (layout.generation + 1) words)
+  pub old_pages : IsDrawn layout.side new
+      (retired_pages (is_used layout.side old) (picture_of layout.side old))
   pub wear : Wears (not_blank_in (other layout.side) old) old new
 
 -- a transfer ends so; what it gives says the layout
-abbrev pub MovesSet : {T E : Type 0} → Result T E → (T → Layout) → Device → Device → Layout → List Change → List Word → Type 0
-MovesSet (Ok value) after old new layout changes words = SetMoved old new layout (after value) changes words
-MovesSet (Err error) after old new layout changes words = MapMovedPartly old new layout changes words MovesPartly
+abbrev pub MovesSet : {T E : Type 0} → Result T E → (T → Layout) → Device → Device → Layout
+    → List Change → List Word → Type 0
+MovesSet (Ok value) after old new layout changes words =
+    SetMoved old new layout (after value) changes words
+MovesSet (Err error) after old new layout changes words =
+    MapMovedPartly old new layout changes words MovesPartly

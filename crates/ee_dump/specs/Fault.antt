@@ -14,7 +14,8 @@ use Rattle.ee_dump.specs.declared.fault.WriteFault.TheVariants.{Memory as NoMemo
 -- a dump of pairs has the length of its size, and this is the first that sums to less than all ones
 abbrev pub HasLowPair : Form → Size → List ℕ → ℕ → ℕ → Type 0
 HasLowPair Words size dump page at = ⊥
-HasLowPair Pairs size dump page at = (length dump ≡ dump_length Pairs size) × IsFirstLowPair size dump page at
+HasLowPair Pairs size dump page at =
+    (length dump ≡ dump_length Pairs size) × IsFirstLowPair size dump page at
 
 -- why bytes are not read as a dump of this size
 abbrev pub IsDumpFault : Form → Size → List ℕ → DumpFault → Type 0

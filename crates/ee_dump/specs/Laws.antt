@@ -16,32 +16,48 @@ unworn_device device = record (blank_device device.size) { image = device.image 
 -- ones
 abbrev pub ImportOfExport : Type 0
 ImportOfExport =
-    (form : Form) (device other : Device) (dump : List ℕ) → IsFormed device → IsDump form device dump
+    (form : Form) (device other : Device) (dump : List ℕ) → IsFormed device
+    → IsDump form device dump
     → (IsFormed other → IsImport form device.size dump other → other ≡ unworn_device device)
     × ((page at : ℕ) → HasLowPair form device.size dump page at → ⊥)
 
 -- bytes of the right length make a device, and are its dump
 abbrev pub ExportOfImport : Type 0
-ExportOfImport = (size : Size) (dump : List ℕ) → IsWithinLimits size → All (λ byte. byte < 256) dump → length dump ≡ dump_length Words size → (device : Device) × IsFormed device × IsImport Words size dump device
+ExportOfImport =
+    (size : Size) (dump : List ℕ) → IsWithinLimits size → All (λ byte. byte < 256) dump
+    → length dump ≡ dump_length Words size
+    → (device : Device) × IsFormed device × IsImport Words size dump device
 
 -- what made a device is its dump, where no word of it is torn
 abbrev pub WholeImportIsADump : Type 0
-WholeImportIsADump = (form : Form) (size : Size) (dump : List ℕ) (device : Device) → IsFormed device → IsImport form size dump device → ((page : ℕ) → IsWholePage device page) → IsDump form device dump
+WholeImportIsADump =
+    (form : Form) (size : Size) (dump : List ℕ) (device : Device) → IsFormed device
+    → IsImport form size dump device → ((page : ℕ) → IsWholePage device page)
+    → IsDump form device dump
 
 -- two devices of one size, one dump and one wear are the same, but for power and cuts
 abbrev pub OneDevice : Type 0
-OneDevice = (form : Form) (device other : Device) (dump : List ℕ) → IsFormed device → IsFormed other → device.size ≡ other.size → device.wear ≡ other.wear → IsDump form device dump → IsDump form other dump
+OneDevice =
+    (form : Form) (device other : Device) (dump : List ℕ) → IsFormed device → IsFormed other
+    → device.size ≡ other.size → device.wear ≡ other.wear → IsDump form device dump
+    → IsDump form other dump
     → other ≡ record device { cuts = other.cuts; cuts_left = other.cuts_left; on = other.on }
 
 -- the dump of a device has the length of its size
 abbrev pub DumpsAreRead : Type 0
-DumpsAreRead = (form : Form) (device : Device) (dump : List ℕ) → IsFormed device → IsDump form device dump → length dump ≡ dump_length form device.size
+DumpsAreRead =
+    (form : Form) (device : Device) (dump : List ℕ) → IsFormed device → IsDump form device dump
+    → length dump ≡ dump_length form device.size
 
 -- a device has a dump or a torn word
 abbrev pub DumpOrTorn : Type 0
-DumpOrTorn = (form : Form) (device : Device) → ((dump : List ℕ) × IsDump form device dump) ⊎ ((page : ℕ) × (at : ℕ) × IsFirstTorn device page at)
+DumpOrTorn =
+    (form : Form) (device : Device)
+    → ((dump : List ℕ) × IsDump form device dump)
+    ⊎ ((page : ℕ) × (at : ℕ) × IsFirstTorn device page at)
 
 -- and not both
 abbrev pub OneTorn : Type 0
 OneTorn = (form : Form) (device : Device) (page at : ℕ) → IsFirstTorn device page at
-    → ((dump : List ℕ) → IsDump form device dump → ⊥) × ((other place : ℕ) → IsFirstTorn device other place → (other ≡ page) × (place ≡ at))
+    → ((dump : List ℕ) → IsDump form device dump → ⊥)
+    × ((other place : ℕ) → IsFirstTorn device other place → (other ≡ page) × (place ≡ at))

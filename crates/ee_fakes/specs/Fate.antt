@@ -18,7 +18,9 @@ word_of_fate AllTorn before after = Torn
 
 -- what an erase leaves of the words of a page, as the list says, and past its end as `rest` says
 unfoldable pub page_of_fates : List Left → Left → List Word → List Word
-page_of_fates list rest words = map (λ placed. word_of_fate (slice_index_or list placed.0 rest) placed.1 Erased) (enumerate_from 0 words)
+page_of_fates list rest words =
+    map (λ placed. word_of_fate (slice_index_or list placed.0 rest) placed.1 Erased)
+    (enumerate_from 0 words)
 
 -- the device once power is cut
 abbrev pub with_power_gone : Device → Device
@@ -28,9 +30,13 @@ with_power_gone device = record device { cuts = one_more device.cuts; on = false
 abbrev pub device_after_fate : Step → Fate → Device → Device
 device_after_fate step Done device = device_after step device
 device_after_fate (Program page at value) (Cut list) device =
-    with_power_gone (with_word page at (word_of_fate (slice_index_or list.now 0 Before) Erased (Held value)) device)
+    with_power_gone
+    (with_word page at (word_of_fate (slice_index_or list.now 0 Before) Erased (Held value))
+    device)
 device_after_fate (Erase page) (Cut list) device =
-    with_power_gone (with_page_worn page (with_page page (page_of_fates list.now Before (page_at device page)) device))
+    with_power_gone
+    (with_page_worn page
+    (with_page page (page_of_fates list.now Before (page_at device page)) device))
 
 -- the fate of the step that comes; where the list has ended, it is done
 abbrev pub next_fate : List Fate → Fate

@@ -8,7 +8,18 @@ use Rattle.ee_flash.specs.Size.{IsWithinLimits, Size, page_count}
 use Rattle.ee_flash.specs.declared.word.Word.{Word}
 use Rattle.ee_pairs.specs.Nor.{IsNorFormed, IsNorNumber, number_count}
 
-pub IsFormed-listed : (size : Size) (cells : List Word) (wear : List ℕ) (cuts : ℕ) (on : Bool) → IsWithinLimits size → length cells ≡ page_count size * size.words → All IsBelowAllOnes cells → length wear ≡ page_count size → All (λ count. count ≤ all_ones) wear → cuts ≤ all_ones → IsFormed (record { size = size; image = pages_of size cells; wear = wear; cuts = cuts; cuts_left = None; on = on })
+pub IsFormed-listed : (size : Size) (cells : List Word) (wear : List ℕ) (cuts : ℕ) (on : Bool)
+    → IsWithinLimits size → length cells ≡ page_count size * size.words → All IsBelowAllOnes cells
+    → length wear ≡ page_count size → All (λ count. count ≤ all_ones) wear → cuts ≤ all_ones
+    → IsFormed
+    (record {
+      size = size;
+      image = pages_of size cells;
+      wear = wear;
+      cuts = cuts;
+      cuts_left = None;
+      on = on;
+    })
 IsFormed-listed size cells wear cuts on limits filled below worn fits cut = record {
   within_limits = limits;
   image_length = length-pages_of size cells;
@@ -20,7 +31,21 @@ IsFormed-listed size cells wear cuts on limits filled below worn fits cut = reco
   cuts_left_fit = λ left none. cc;
 }
 
-pub IsNorFormed-listed : (size : Size) (image : List (List ℕ)) (wear : List ℕ) (cuts : ℕ) (on : Bool) → IsWithinLimits size → length image ≡ page_count size → All (λ page. length page ≡ number_count size) image → All (All IsNorNumber) image → length wear ≡ page_count size → All IsNorNumber wear → cuts ≤ all_ones → IsNorFormed (record { size = size; clears_first = false; image = image; wear = wear; cuts = cuts; cuts_left = None; on = on })
+pub IsNorFormed-listed : (size : Size) (image : List (List ℕ)) (wear : List ℕ) (cuts : ℕ)
+    (on : Bool)
+    → IsWithinLimits size → length image ≡ page_count size
+    → All (λ page. length page ≡ number_count size) image → All (All IsNorNumber) image
+    → length wear ≡ page_count size → All IsNorNumber wear → cuts ≤ all_ones
+    → IsNorFormed
+    (record {
+      size = size;
+      clears_first = false;
+      image = image;
+      wear = wear;
+      cuts = cuts;
+      cuts_left = None;
+      on = on;
+    })
 IsNorFormed-listed size image wear cuts on limits pages numbers fit worn fits cut = record {
   within_limits = limits;
   image_length = pages;

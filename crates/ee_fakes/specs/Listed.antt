@@ -31,7 +31,10 @@ module _ {A : Type 0} where
 -- what a step leaves: nothing changes while power is off; else it takes the first fate of the list
 abbrev pub after_listed_step : Step → Listed → Listed
 after_listed_step step old =
-    if old.device.on then record { device = device_after_fate step (next_fate old.fates) old.device; fates = drop 1 old.fates } else old
+    if old.device.on then record {
+      device = device_after_fate step (next_fate old.fates) old.device;
+      fates = drop 1 old.fates;
+    } else old
 
 -- the step that comes is done
 abbrev pub IsNextDone : Listed → Type 0

@@ -49,4 +49,5 @@ behind fault = Nothing
 
 -- these words make the line, between what stands before and behind them
 unfoldable pub AreLineWords : Fault → List ℕ → Type 0
-AreLineWords fault words = beside_text (before fault) ++ words ++ beside_text (behind fault) ≡ cause fault
+AreLineWords fault words =
+    beside_text (before fault) ++ words ++ beside_text (behind fault) ≡ cause fault

@@ -71,7 +71,8 @@ cause ValuesText = codes "values text"
 cause (BadValue entry) = codes "values entry " ++ decimal entry ++ codes " bad field"
 cause (UnknownValue entry) = codes "values entry " ++ decimal entry ++ codes " unknown name"
 cause (ValueOutOfRange entry min max) =
-    codes "values entry " ++ decimal entry ++ codes " out of range " ++ decimal min ++ codes " " ++ decimal max
+    codes "values entry " ++ decimal entry ++ codes " out of range " ++ decimal min ++ codes " "
+    ++ decimal max
 cause (FullAt entry) = codes "values entry " ++ decimal entry ++ codes " full"
 cause (SpentAt entry) = codes "values entry " ++ decimal entry ++ codes " spent"
 cause Memory = codes "out of memory"

@@ -18,7 +18,9 @@ at_once = record { after = 0; tear = Nothing }
 -- `no_fuse_no_cut` needs that there is no fuse: on a blank device with one that cuts the first
 -- step, an erase ends with the power off, and as a whole step would leave it on
 pub no_fuse_no_cut_needs_no_fuse : (size : Size)
-    → ((steps : List Step) (memory : Memory) → IsOn memory.device → (after_steps steps memory).device ≡ all_completed steps memory.device) → ⊥
+    → ((steps : List Step) (memory : Memory) → IsOn memory.device
+    → (after_steps steps memory).device ≡ all_completed steps memory.device)
+    → ⊥
 no_fuse_no_cut_needs_no_fuse size law =
     let same = law (Erase 0 ∷ []) (with_fuse at_once (unused_memory (blank_device size))) refl in
     true≢false (sym (ap (λ (device : Device). device.on) same))
@@ -30,16 +32,29 @@ again count = replicate count (Program 0 0 0)
 
 programs_again : (count : ℕ) → programs (again count) ≡ count
 programs_again zero = refl
-programs_again (suc count) = omega (arith, programs_again count, sum_by-cons (λ step. cond (is_program step) 1 0) (Program 0 0 0) (again count))
+programs_again (suc count) =
+    omega (
+      arith,
+      programs_again count,
+      sum_by-cons (λ step. cond (is_program step) 1 0) (Program 0 0 0) (again count),
+    )
 
 erases_again : (count : ℕ) → erases (again count) ≡ 0
 erases_again zero = refl
-erases_again (suc count) = omega (arith, erases_again count, sum_by-cons (λ step. cond (is_erase step) 1 0) (Program 0 0 0) (again count))
+erases_again (suc count) =
+    omega (
+      arith,
+      erases_again count,
+      sum_by-cons (λ step. cond (is_erase step) 1 0) (Program 0 0 0) (again count),
+    )
 
 pub programs_need_erases_needs_steps_that_can_be_taken : (size : Size)
-    → ((steps : List Step) (device : Device) → programs steps ≤ erased_words device + device.size.words * erases steps) → ⊥
+    → ((steps : List Step) (device : Device)
+    → programs steps ≤ erased_words device + device.size.words * erases steps)
+    → ⊥
 programs_need_erases_needs_steps_that_can_be_taken size law =
     let device = blank_device size in
     let steps = again (erased_words device + 1) in
-    let none : size.words * erases steps ≡ 0 = ap (λ n. size.words * n) (erases_again (erased_words device + 1)) ∙ omega arith in
+    let none : size.words * erases steps ≡ 0 =
+    ap (λ n. size.words * n) (erases_again (erased_words device + 1)) ∙ omega arith in
     absurd (omega (arith, law steps device, programs_again (erased_words device + 1), none))

@@ -8,27 +8,31 @@ use Rattle.ee_flash.specs.Size.{page_count}
 use Rattle.ee_flash.specs.declared.word.Word.TheVariants.{Erased}
 
 -- a run has as many numbers as it has words
-pub length-run_of : (device : Device) (page at count : ℕ) → IsFormed device → page < page_count device.size
-    → at + count ≤ device.size.words → length (run_of device page at count) ≡ count
+pub length-run_of : (device : Device) (page at count : ℕ) → IsFormed device
+    → page < page_count device.size → at + count ≤ device.size.words
+    → length (run_of device page at count) ≡ count
 length-run_of device page at count formed in_range within =
     let words = page_at device page in
-    let as_long : length words ≡ device.size.words = formed.page_lengths page [] (omega (arith, formed.image_length)) in
-    length-map (take count (drop at words)) number_of ∙ simp (length-take, length-drop) (omega arith)
+    let as_long : length words ≡ device.size.words =
+    formed.page_lengths page [] (omega (arith, formed.image_length)) in
+    length-map (take count (drop at words)) number_of
+    ∙ simp (length-take, length-drop) (omega arith)
 
 -- each is that of its word
-pub get_or-run_of : (device : Device) (page at count k : ℕ) → IsFormed device → page < page_count device.size
-    → at + count ≤ device.size.words → k < count
+pub get_or-run_of : (device : Device) (page at count k : ℕ) → IsFormed device
+    → page < page_count device.size → at + count ≤ device.size.words → k < count
     → get_or (run_of device page at count) k 0 ≡ number_of (word_at device page (at + k))
 get_or-run_of device page at count k formed in_range within below =
     let words = page_at device page in
     let part = take count (drop at words) in
     let long = length-run_of device page at count formed in_range within in
     get_or-map number_of part k Erased 0 (omega (arith, length-map part number_of))
-    ∙ ap number_of (get_or-take count (drop at words) k Erased below ∙ get_or-drop at words k Erased)
+    ∙ ap number_of
+    (get_or-take count (drop at words) k Erased below ∙ get_or-drop at words k Erased)
 
 -- numbers that are those of the words of a page place by place are its run
-pub same_run : (device : Device) (page at : ℕ) (room : List ℕ) → IsFormed device → page < page_count device.size
-    → at + length room ≤ device.size.words
+pub same_run : (device : Device) (page at : ℕ) (room : List ℕ) → IsFormed device
+    → page < page_count device.size → at + length room ≤ device.size.words
     → ((k : ℕ) → k < length room → get_or room k 0 ≡ number_of (word_at device page (at + k)))
     → room ≡ run_of device page at (length room)
 same_run device page at room formed in_range within each =

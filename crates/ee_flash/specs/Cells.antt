@@ -12,4 +12,5 @@ pub record HasLengths (size : Size) (cells : List Word) (wear : List ℕ) : Type
 
 -- a device of these words and wears that no step has met
 abbrev pub device_from : Size → List Word → List ℕ → Device
-device_from size cells wear = record (blank_device size) { image = pages_of size cells; wear = wear }
+device_from size cells wear =
+    record (blank_device size) { image = pages_of size cells; wear = wear }

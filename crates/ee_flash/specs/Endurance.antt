@@ -80,5 +80,7 @@ least_wear size programs = (programs - 1) / word_count size
 -- often.
 abbrev pub SomePageWears : Type 0
 SomePageWears =
-    (changes : ℕ) (steps : List Step) (device : Device) → AreTaken steps device → changes ≤ programs steps
-    → (page : ℕ) × (page < page_count device.size) × (least_wear device.size changes ≤ erases_of page steps)
+    (changes : ℕ) (steps : List Step) (device : Device) → AreTaken steps device
+    → changes ≤ programs steps
+    → (page : ℕ) × (page < page_count device.size)
+    × (least_wear device.size changes ≤ erases_of page steps)

@@ -14,34 +14,56 @@ use Rattle.ee_flash.specs.Fuse.{cuts_left_of}
 use Rattle.ee_flash.specs.declared.fuse.Fuse.{Fuse}
 use Rattle.ee_flash.specs.declared.word.Word.{Word}
 
-pub length-pages_of : (size : Size) (cells : List Word) → length (pages_of size cells) ≡ page_count size
+pub length-pages_of : (size : Size) (cells : List Word)
+    → length (pages_of size cells) ≡ page_count size
 unfolding pages_of
 length-pages_of size cells = length-map-range_with_len (page_words size cells) 0 (page_count size)
 
-pub page-pages_of : (size : Size) (cells : List Word) (page : ℕ) (none : List Word) → page < page_count size → slice_index_or (pages_of size cells) page none ≡ page_words size cells page
+pub page-pages_of : (size : Size) (cells : List Word) (page : ℕ) (none : List Word)
+    → page < page_count size
+    → slice_index_or (pages_of size cells) page none ≡ page_words size cells page
 unfolding pages_of
-page-pages_of size cells page none h = get_or-map-range_with_len (page_words size cells) 0 (page_count size) page page none h (omega arith)
+page-pages_of size cells page none h =
+    get_or-map-range_with_len (page_words size cells) 0 (page_count size) page page none h
+    (omega arith)
 
-pub length-page_words : (size : Size) (cells : List Word) (page : ℕ) → length cells ≡ page_count size * size.words → page < page_count size → length (page_words size cells page) ≡ size.words
+pub length-page_words : (size : Size) (cells : List Word) (page : ℕ)
+    → length cells ≡ page_count size * size.words → page < page_count size
+    → length (page_words size cells page) ≡ size.words
 length-page_words size cells page e h =
     let fits = row_fits page size.words (page_count size) size.words h (omega arith) in
     simp (length-take, length-drop) (omega arith)
 
-pub page_lengths : (size : Size) (cells : List Word) → length cells ≡ page_count size * size.words → All (λ page. length page ≡ size.words) (pages_of size cells)
+pub page_lengths : (size : Size) (cells : List Word) → length cells ≡ page_count size * size.words
+    → All (λ page. length page ≡ size.words) (pages_of size cells)
 page_lengths size cells e k none h =
     let below : k < page_count size = omega (arith, length-pages_of size cells) in
     rw (page-pages_of size cells k none below) (length-page_words size cells k e below)
 
-pub below_all_ones : (size : Size) (cells : List Word) → All IsBelowAllOnes cells → All (All IsBelowAllOnes) (pages_of size cells)
+pub below_all_ones : (size : Size) (cells : List Word) → All IsBelowAllOnes cells
+    → All (All IsBelowAllOnes) (pages_of size cells)
 below_all_ones size cells each k none h =
     let below : k < page_count size = omega (arith, length-pages_of size cells) in
-    rw (page-pages_of size cells k none below) (All-take IsBelowAllOnes size.words _ (All-drop IsBelowAllOnes (k * size.words) cells each))
+    rw (page-pages_of size cells k none below)
+    (All-take IsBelowAllOnes size.words _ (All-drop IsBelowAllOnes (k * size.words) cells each))
 
 cuts_left_fit : (fuse : Option Fuse) (left : ℕ) → cuts_left_of fuse ≡ Some left → left ≤ all_ones
 cuts_left_fit None left e = let same : 0 ≡ left = same_Some 0 left e in omega arith
 cuts_left_fit (Some fuse) left e = let same : 1 ≡ left = same_Some 1 left e in omega arith
 
-pub IsFormed-pages_of : (size : Size) (cells : List Word) (wear : List ℕ) (cuts : ℕ) (fuse : Option Fuse) (on : Bool) → IsWithinLimits size → length cells ≡ page_count size * size.words → All IsBelowAllOnes cells → length wear ≡ page_count size → All (λ count. count ≤ all_ones) wear → cuts ≤ all_ones → IsFormed (record { size = size; image = pages_of size cells; wear = wear; cuts = cuts; cuts_left = cuts_left_of fuse; on = on })
+pub IsFormed-pages_of : (size : Size) (cells : List Word) (wear : List ℕ) (cuts : ℕ)
+    (fuse : Option Fuse) (on : Bool)
+    → IsWithinLimits size → length cells ≡ page_count size * size.words → All IsBelowAllOnes cells
+    → length wear ≡ page_count size → All (λ count. count ≤ all_ones) wear → cuts ≤ all_ones
+    → IsFormed
+    (record {
+      size = size;
+      image = pages_of size cells;
+      wear = wear;
+      cuts = cuts;
+      cuts_left = cuts_left_of fuse;
+      on = on;
+    })
 IsFormed-pages_of size cells wear cuts fuse on limits filled below worn fits cut = record {
   within_limits = limits;
   image_length = length-pages_of size cells;

@@ -33,7 +33,8 @@ next_tear (Some fuse) = if fuse.after == 0 then Some fuse.tear else None
 -- the fuse after a step
 abbrev pub next_fuse : Option Fuse → Option Fuse
 next_fuse None = None
-next_fuse (Some fuse) = if fuse.after == 0 then None else Some (record { after = fuse.after - 1; tear = fuse.tear })
+next_fuse (Some fuse) =
+    if fuse.after == 0 then None else Some (record { after = fuse.after - 1; tear = fuse.tear })
 
 -- one cut is left with a fuse, none without
 abbrev pub cuts_left_of : Option Fuse → Option ℕ

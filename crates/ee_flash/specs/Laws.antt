@@ -21,7 +21,8 @@ page_of (Erase page) = page
 -- its value below all ones
 abbrev pub CanTake : Step → Device → Type 0
 CanTake (Program page at value) device =
-    (page < page_count device.size) × (at < device.size.words) × (word_at device page at ≡ Erased) × (value < all_ones)
+    (page < page_count device.size) × (at < device.size.words) × (word_at device page at ≡ Erased)
+    × (value < all_ones)
 CanTake (Erase page) device = page < page_count device.size
 
 -- a step that may be taken, on a formed device, and a device that it may leave
@@ -38,7 +39,8 @@ pub record DiffersInPage (page : ℕ) (old new : Device) : Type 0 where
 
 -- every outcome of a step changes one page at most
 abbrev pub StepChangesOnePage : Type 0
-StepChangesOnePage = (step : Step) (old new : Device) → IsStep step old new → DiffersInPage (page_of step) old new
+StepChangesOnePage =
+    (step : Step) (old new : Device) → IsStep step old new → DiffersInPage (page_of step) old new
 
 -- every outcome of a step, also of a whole one, leaves the pages as a cut in it may
 abbrev pub StepLeavesPages : Type 0
@@ -50,12 +52,14 @@ StepKeepsFormed = (step : Step) (old new : Device) → IsStep step old new → I
 
 -- every outcome of a step goes on, or is a cut
 abbrev pub StepEnds : Type 0
-StepEnds = (step : Step) (old new : Device) → MayFollow step old new → GoesOn old new ⊎ IsCut old new
+StepEnds =
+    (step : Step) (old new : Device) → MayFollow step old new → GoesOn old new ⊎ IsCut old new
 
 -- calls one after another: what goes on, and goes on or is cut, does so as a whole
 abbrev pub CallsCompose : Type 0
 CallsCompose =
-    (first second third : Device) → GoesOn first second → (GoesOn second third → GoesOn first third) × (IsCut second third → IsCut first third)
+    (first second third : Device) → GoesOn first second
+    → (GoesOn second third → GoesOn first third) × (IsCut second third → IsCut first third)
 
 -- where no cut is left, none comes
 abbrev pub NoCutLeft : Type 0
@@ -74,24 +78,37 @@ after_steps (step ∷ steps) memory = after_steps steps (after_step step memory)
 -- without a fuse no step is cut
 abbrev pub NoFuseNoCut : Type 0
 NoFuseNoCut =
-    (steps : List Step) (memory : Memory) → IsOn memory.device → memory.fuse ≡ None → (after_steps steps memory).device ≡ all_completed steps memory.device
+    (steps : List Step) (memory : Memory) → IsOn memory.device → memory.fuse ≡ None
+    → (after_steps steps memory).device ≡ all_completed steps memory.device
 
 -- as many steps as the fuse says are whole, and each burns it down by one
 abbrev pub FuseWaits : Type 0
 FuseWaits =
-    (steps : List Step) (memory : Memory) (fuse : Fuse) → IsOn memory.device → memory.fuse ≡ Some fuse → length steps ≤ fuse.after → let last : Memory = after_steps steps memory in (last.device ≡ all_completed steps memory.device) × (last.fuse ≡ Some (record fuse { after = fuse.after - length steps }))
+    (steps : List Step) (memory : Memory) (fuse : Fuse) → IsOn memory.device
+    → memory.fuse ≡ Some fuse → length steps ≤ fuse.after → let last : Memory =
+    after_steps steps memory in (last.device ≡ all_completed steps memory.device)
+    × (last.fuse ≡ Some (record fuse { after = fuse.after - length steps }))
 
 -- the next step is cut as the fuse's tear says, and the fuse is gone
 abbrev pub FuseCuts : Type 0
 FuseCuts =
-    (steps : List Step) (step : Step) (memory : Memory) (fuse : Fuse) → IsOn memory.device → memory.fuse ≡ Some fuse → length steps ≡ fuse.after → let last : Memory = after_step step (after_steps steps memory) in (last.device ≡ device_after_tear step (Some fuse.tear) (all_completed steps memory.device)) × (last.fuse ≡ None)
+    (steps : List Step) (step : Step) (memory : Memory) (fuse : Fuse) → IsOn memory.device
+    → memory.fuse ≡ Some fuse → length steps ≡ fuse.after → let last : Memory =
+    after_step step (after_steps steps memory)
+    in
+    (last.device
+    ≡ device_after_tear step (Some fuse.tear) (all_completed steps memory.device))
+    × (last.fuse ≡ None)
 
 -- the pages of a list of words, joined, are the list
 abbrev pub PagesJoin : Type 0
 PagesJoin =
-    (size : Size) (cells : List Word) → length cells ≡ page_count size * size.words → flat_map (λ page. page) (pages_of size cells) ≡ cells
+    (size : Size) (cells : List Word) → length cells ≡ page_count size * size.words
+    → flat_map (λ page. page) (pages_of size cells) ≡ cells
 
 -- pages of that length, joined and cut again, are the pages
 abbrev pub JoinedPages : Type 0
 JoinedPages =
-    (size : Size) (pages : List (List Word)) → length pages ≡ page_count size → All (λ page. length page ≡ size.words) pages → pages_of size (flat_map (λ page. page) pages) ≡ pages
+    (size : Size) (pages : List (List Word)) → length pages ≡ page_count size
+    → All (λ page. length page ≡ size.words) pages
+    → pages_of size (flat_map (λ page. page) pages) ≡ pages

@@ -40,11 +40,13 @@ unused_memory device = record { device = device; steps = 0; fuse = None }
 -- with this fuse
 abbrev pub with_fuse : Fuse → Memory → Memory
 with_fuse fuse memory =
-    record memory { device = record memory.device { cuts_left = cuts_left_of (Some fuse) }; fuse = Some fuse }
+    record memory
+    { device = record memory.device { cuts_left = cuts_left_of (Some fuse) }; fuse = Some fuse }
 
 -- the device once power is cut, and no cut is left
 abbrev pub with_power_cut : Device → Device
-with_power_cut device = record device { cuts = one_more device.cuts; cuts_left = Some 0; on = false }
+with_power_cut device =
+    record device { cuts = one_more device.cuts; cuts_left = Some 0; on = false }
 
 -- how a step begins: it is counted, the fuse burns down by one, and power is cut if the fuse says
 -- so
@@ -58,9 +60,11 @@ with_step_begun memory = record {
 -- the device after a step that is torn so, or that is whole
 abbrev pub device_after_tear : Step → Option Tear → Device → Device
 device_after_tear step None device = device_after step device
-device_after_tear (Program page at value) (Some tear) device = with_power_cut (with_word page at (left_word tear value) device)
+device_after_tear (Program page at value) (Some tear) device =
+    with_power_cut (with_word page at (left_word tear value) device)
 device_after_tear (Erase page) (Some tear) device =
-    with_power_cut (with_page_worn page (with_page page (left_page tear (page_at device page)) device))
+    with_power_cut
+    (with_page_worn page (with_page page (left_page tear (page_at device page)) device))
 
 -- what a step leaves: nothing changes while power is off; else the step is counted, the fuse burns
 -- down by one, and the step is whole, or cut by the fuse

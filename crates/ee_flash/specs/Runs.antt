@@ -17,13 +17,15 @@ torn_flag word = false
 
 -- the word of this number: a 0 is that of a torn word where the flag is set
 abbrev pub flagged_word : ℕ → Bool → Word
-flagged_word number torn = if number == all_ones then Erased else (if (number == 0) && torn then Torn else Held number)
+flagged_word number torn =
+    if number == all_ones then Erased else (if (number == 0) && torn then Torn else Held number)
 
 -- the words of these numbers and flags
 unfoldable pub flagged_words : List ℕ → List Bool → List Word
 flagged_words [] flags = []
 flagged_words (number ∷ numbers) [] = []
-flagged_words (number ∷ numbers) (torn ∷ flags) = flagged_word number torn ∷ flagged_words numbers flags
+flagged_words (number ∷ numbers) (torn ∷ flags) =
+    flagged_word number torn ∷ flagged_words numbers flags
 
 -- the numbers of so many words of a page, from a place on
 abbrev pub run_of : Device → ℕ → ℕ → ℕ → List ℕ

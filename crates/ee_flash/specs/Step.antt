@@ -18,7 +18,8 @@ with_word page at word device = with_page page (slice_set (page_at device page) 
 
 -- with the page's wear one more
 abbrev pub with_page_worn : ℕ → Device → Device
-with_page_worn page device = record device { wear = slice_set device.wear page (one_more (slice_index device.wear page)) }
+with_page_worn page device =
+    record device { wear = slice_set device.wear page (one_more (slice_index device.wear page)) }
 
 -- with a word programmed
 abbrev pub with_word_programmed : ℕ → ℕ → ℕ → Device → Device
@@ -26,7 +27,8 @@ with_word_programmed page at value device = with_word page at (Held value) devic
 
 -- with a page erased
 abbrev pub with_page_erased : ℕ → Device → Device
-with_page_erased page device = with_page_worn page (with_page page (replicate device.size.words Erased) device)
+with_page_erased page device =
+    with_page_worn page (with_page page (replicate device.size.words Erased) device)
 
 -- a step of a device: a word programmed or a page erased
 pub data Step : Type 0 where
@@ -41,15 +43,19 @@ device_after (Erase page) device = with_page_erased page device
 -- a page in which each word is as before, erased or torn, in any mix
 pub record IsPartlyErased (old new : List Word) : Type 0 where
   pub as_long : length new ≡ length old
-  pub each : (at : ℕ) → (slice_index_or new at Erased ≡ slice_index_or old at Erased) ⊎ (slice_index_or new at Erased ≡ Erased) ⊎ (slice_index_or new at Erased ≡ Torn)
+  pub each : (at : ℕ)
+      → (slice_index_or new at Erased ≡ slice_index_or old at Erased)
+      ⊎ (slice_index_or new at Erased ≡ Erased) ⊎ (slice_index_or new at Erased ≡ Torn)
 
 -- What a cut in a step may leave of the pages. A program leaves its word erased, held or torn. An
 -- erase leaves each word of its page old, erased or torn. All else stays.
 abbrev pub MayLeave : Step → Device → Device → Type 0
 MayLeave (Program page at value) old new =
-    (new.image ≡ old.image) ⊎ (new.image ≡ (with_word_programmed page at value old).image) ⊎ (new.image ≡ (with_word page at Torn old).image)
+    (new.image ≡ old.image) ⊎ (new.image ≡ (with_word_programmed page at value old).image)
+    ⊎ (new.image ≡ (with_word page at Torn old).image)
 MayLeave (Erase page) old new =
-    IsPartlyErased (page_at old page) (page_at new page) × (new.image ≡ (with_page page (page_at new page) old).image)
+    IsPartlyErased (page_at old page) (page_at new page)
+    × (new.image ≡ (with_page page (page_at new page) old).image)
 
 -- power was cut in this step
 pub record IsCutIn (step : Step) (old new : Device) : Type 0 where

@@ -22,8 +22,10 @@ Lacks-encode_with : (c : ℕ) (t xs : List ℕ) → Lacks c t → 0 ≢ c → La
 unfolding encode_with
 Lacks-encode_with c t [] lacks other = refl
 Lacks-encode_with c t (b ∷ rest) lacks other =
-    Lacks-cons c (get_or t (b / 16) 0) (get_or t (b % 16) 0 ∷ encode_with t rest) (lacks_at c t (b / 16) lacks other)
-    (Lacks-cons c (get_or t (b % 16) 0) (encode_with t rest) (lacks_at c t (b % 16) lacks other) (Lacks-encode_with c t rest lacks other))
+    Lacks-cons c (get_or t (b / 16) 0) (get_or t (b % 16) 0 ∷ encode_with t rest)
+    (lacks_at c t (b / 16) lacks other)
+    (Lacks-cons c (get_or t (b % 16) 0) (encode_with t rest) (lacks_at c t (b % 16) lacks other)
+    (Lacks-encode_with c t rest lacks other))
 
 -- what no word has in it
 pub record NoByteOfWords (c : ℕ) : Type 0 where
@@ -42,9 +44,11 @@ Lacks-word : (c : ℕ) → NoByteOfWords c → (word : Word) → Lacks c (word_t
 unfolding digits
 Lacks-word c none Erased = none.erased
 Lacks-word c none Torn = none.torn
-Lacks-word c none (Held value) = Lacks-encode_with c lower_digits (to_be_bytes w64 value) none.digit none.some
+Lacks-word c none (Held value) =
+    Lacks-encode_with c lower_digits (to_be_bytes w64 value) none.digit none.some
 
-pub Lacks-words : (c : ℕ) → NoByteOfWords c → (words : List Word) → AllByRecursion (Lacks c) (map word_text words)
+pub Lacks-words : (c : ℕ) → NoByteOfWords c → (words : List Word)
+    → AllByRecursion (Lacks c) (map word_text words)
 Lacks-words c none [] = tt
 Lacks-words c none (word ∷ words) = (Lacks-word c none word, Lacks-words c none words)
 
@@ -70,8 +74,11 @@ decode-digits value = decode_of-encode_lower (to_be_bytes w64 value) (IsBytes-to
 
 pub digits_injective : (m n : ℕ) → m < 2 ^ 64 → n < 2 ^ 64 → digits m ≡ digits n → m ≡ n
 digits_injective m n fits suits e =
-    let same : to_be_bytes w64 m ≡ to_be_bytes w64 n = decode_of-same (digits m) (to_be_bytes w64 m) (to_be_bytes w64 n) (decode-digits m) (ap decode_of e ∙ decode-digits n) in
-    sym (from_be_bytes-to_be_bytes_8 m fits) ∙ ap (from_be_bytes w64) same ∙ from_be_bytes-to_be_bytes_8 n suits
+    let same : to_be_bytes w64 m ≡ to_be_bytes w64 n =
+    decode_of-same (digits m) (to_be_bytes w64 m) (to_be_bytes w64 n) (decode-digits m)
+    (ap decode_of e ∙ decode-digits n) in
+    sym (from_be_bytes-to_be_bytes_8 m fits) ∙ ap (from_be_bytes w64) same
+    ∙ from_be_bytes-to_be_bytes_8 n suits
 
 held_fits : (value : ℕ) → IsBelowAllOnes (Held value) → value < 2 ^ 64
 held_fits value below = let h = below value refl in omega arith
@@ -80,58 +87,82 @@ held_fits value below = let h = below value refl in omega arith
 
 decode_sized-digits : (value : ℕ) → decode_sized (digits value) 8 ≡ Ok (to_be_bytes w64 value)
 unfolding digits
-decode_sized-digits value = decode_sized-encode_lower (to_be_bytes w64 value) 8 refl (IsBytes-to_be_bytes value)
+decode_sized-digits value =
+    decode_sized-encode_lower (to_be_bytes w64 value) 8 refl (IsBytes-to_be_bytes value)
 
-pub not_refused : (field : List ℕ) (value : ℕ) (r : Result (List ℕ) FromHexError) (o : Option (List ℕ)) → field ≡ digits value → r ≡ decode_sized field 8
-    → is_some o ≡ is_ok r → o ≡ None → ⊥
+pub not_refused : (field : List ℕ) (value : ℕ) (r : Result (List ℕ) FromHexError)
+    (o : Option (List ℕ))
+    → field ≡ digits value → r ≡ decode_sized field 8 → is_some o ≡ is_ok r → o ≡ None → ⊥
 not_refused field value r o spelled decoded same none =
-    let read : r ≡ Ok (to_be_bytes w64 value) = decoded ∙ ap (λ text. decode_sized text 8) spelled ∙ decode_sized-digits value in
+    let read : r ≡ Ok (to_be_bytes w64 value) =
+    decoded ∙ ap (λ text. decode_sized text 8) spelled ∙ decode_sized-digits value in
     false≢true (sym (ap is_some none) ∙ same ∙ ap is_ok read)
 
-pub read_back : (field : List ℕ) (value found : ℕ) (r : Result (List ℕ) FromHexError) (o : Option (List ℕ)) (bytes : List ℕ) → value < 2 ^ 64 → field ≡ digits value
-    → r ≡ decode_sized field 8 → o ≡ result_ok r → o ≡ Some bytes → found ≡ from_be_bytes w64 bytes → found ≡ value
-read_back field value found r o bytes fits spelled decoded kept some is = search (rules, decode_sized-digits, some, from_be_bytes-to_be_bytes_8)
+pub read_back : (field : List ℕ) (value found : ℕ) (r : Result (List ℕ) FromHexError)
+    (o : Option (List ℕ)) (bytes : List ℕ)
+    → value < 2 ^ 64 → field ≡ digits value → r ≡ decode_sized field 8 → o ≡ result_ok r
+    → o ≡ Some bytes → found ≡ from_be_bytes w64 bytes → found ≡ value
+read_back field value found r o bytes fits spelled decoded kept some is =
+    search (rules, decode_sized-digits, some, from_be_bytes-to_be_bytes_8)
 
 -- ---- what stands at the front of a text
 
 -- sixteen digits at the front of a text
-pub first_sixteen : (text behind : List ℕ) (value : ℕ) → text ≡ digits value ++ behind → (take 16 text ≡ digits value) × (drop 16 text ≡ behind)
+pub first_sixteen : (text behind : List ℕ) (value : ℕ) → text ≡ digits value ++ behind
+    → (take 16 text ≡ digits value) × (drop 16 text ≡ behind)
 first_sixteen text behind value e = (
-  ap (take 16) e ∙ subst (λ n. take n (digits value ++ behind) ≡ digits value) (length-digits value) (take-append_seam (digits value) behind),
-  ap (drop 16) e ∙ subst (λ n. drop n (digits value ++ behind) ≡ behind) (length-digits value) (drop-append_seam (digits value) behind),
+  ap (take 16) e
+      ∙ subst (λ n. take n (digits value ++ behind) ≡ digits value) (length-digits value)
+      (take-append_seam (digits value) behind),
+  ap (drop 16) e
+      ∙ subst (λ n. drop n (digits value ++ behind) ≡ behind) (length-digits value)
+      (drop-append_seam (digits value) behind),
 )
 
 -- the first digit is none of the other words
-first_digit : (c value : ℕ) (behind : List ℕ) → Lacks c lower_digits → 0 ≢ c → get_or (digits value ++ behind) 0 0 ≢ c
+first_digit : (c value : ℕ) (behind : List ℕ) → Lacks c lower_digits → 0 ≢ c
+    → get_or (digits value ++ behind) 0 0 ≢ c
 unfolding digits
 first_digit c value behind lacks other = λ first.
     let all : length (digits value) ≡ 16 = length-digits value in
-    lacks_at c (digits value) 0 (Lacks-encode_with c lower_digits (to_be_bytes w64 value) lacks other) other
+    lacks_at c (digits value) 0
+    (Lacks-encode_with c lower_digits (to_be_bytes w64 value) lacks other) other
     (sym (get_or_append_left (digits value) behind 0 0 (omega arith)) ∙ first)
 
 -- no two words stand at the front of one text
-pub one_word : (word other : Word) (x y : List ℕ) → IsBelowAllOnes word → IsBelowAllOnes other → word_text word ++ x ≡ word_text other ++ y → (word ≡ other) × (x ≡ y)
+pub one_word : (word other : Word) (x y : List ℕ) → IsBelowAllOnes word → IsBelowAllOnes other
+    → word_text word ++ x ≡ word_text other ++ y → (word ≡ other) × (x ≡ y)
 one_word Erased Erased x y below under e = (refl, ap (drop 1) e)
 one_word Erased Torn x y below under e = absurd (omega (arith, ap (λ l. get_or l 0 0) e))
-one_word Erased (Held n) x y below under e = absurd (first_digit 45 n y refl (λ zero. omega arith) (ap (λ l. get_or l 0 0) (sym e)))
+one_word Erased (Held n) x y below under e =
+    absurd (first_digit 45 n y refl (λ zero. omega arith) (ap (λ l. get_or l 0 0) (sym e)))
 one_word Torn Erased x y below under e = absurd (omega (arith, ap (λ l. get_or l 0 0) e))
 one_word Torn Torn x y below under e = (refl, ap (drop 1) e)
-one_word Torn (Held n) x y below under e = absurd (first_digit 63 n y refl (λ zero. omega arith) (ap (λ l. get_or l 0 0) (sym e)))
-one_word (Held m) Erased x y below under e = absurd (first_digit 45 m x refl (λ zero. omega arith) (ap (λ l. get_or l 0 0) e))
-one_word (Held m) Torn x y below under e = absurd (first_digit 63 m x refl (λ zero. omega arith) (ap (λ l. get_or l 0 0) e))
+one_word Torn (Held n) x y below under e =
+    absurd (first_digit 63 n y refl (λ zero. omega arith) (ap (λ l. get_or l 0 0) (sym e)))
+one_word (Held m) Erased x y below under e =
+    absurd (first_digit 45 m x refl (λ zero. omega arith) (ap (λ l. get_or l 0 0) e))
+one_word (Held m) Torn x y below under e =
+    absurd (first_digit 63 m x refl (λ zero. omega arith) (ap (λ l. get_or l 0 0) e))
 one_word (Held m) (Held n) x y below under e =
     let own = first_sixteen (digits m ++ x) x m refl in
-    let parts = first_sixteen (digits m ++ x) y n e in
-    (ap Held (digits_injective m n (held_fits m below) (held_fits n under) (sym own.0 ∙ parts.0)), sym own.1 ∙ parts.1)
+    let parts = first_sixteen (digits m ++ x) y n e in (
+      ap Held (digits_injective m n (held_fits m below) (held_fits n under) (sym own.0 ∙ parts.0)),
+      sym own.1 ∙ parts.1,
+    )
 
 -- two rows of words are never spelled alike
-pub words_injective : (words others : List Word) → All IsBelowAllOnes words → All IsBelowAllOnes others → map word_text words ≡ map word_text others → words ≡ others
+pub words_injective : (words others : List Word) → All IsBelowAllOnes words
+    → All IsBelowAllOnes others → map word_text words ≡ map word_text others → words ≡ others
 words_injective [] [] below under e = refl
 words_injective [] (other ∷ others) below under e = cc
 words_injective (word ∷ words) [] below under e = cc
 words_injective (word ∷ words) (other ∷ others) below under e =
     let heads : word_text word ≡ word_text other = cc in
     let tails : map word_text words ≡ map word_text others = cc in
-    let first = (one_word word other [] [] (All-head IsBelowAllOnes word words below) (All-head IsBelowAllOnes other others under) (ap (λ l. l ++ []) heads)).0 in
-    let rest = words_injective words others (All-tail IsBelowAllOnes word words below) (All-tail IsBelowAllOnes other others under) tails in
+    let first = (one_word word other [] [] (All-head IsBelowAllOnes word words below)
+    (All-head IsBelowAllOnes other others under) (ap (λ l. l ++ []) heads)).0 in
+    let rest =
+    words_injective words others (All-tail IsBelowAllOnes word words below)
+    (All-tail IsBelowAllOnes other others under) tails in
     cc

@@ -22,7 +22,9 @@ NoSize text = (size : Size) (rest : List ℕ) → BeginsWithSize text size rest 
 
 -- no line of a page with so many words stands at the front
 abbrev pub NoPage : ℕ → List ℕ → Type 0
-NoPage words text = (wear : ℕ) (page : List Word) (rest : List ℕ) → IsPage words wear page → text ≢ line_of (page_text wear page) ++ rest
+NoPage words text =
+    (wear : ℕ) (page : List Word) (rest : List ℕ) → IsPage words wear page
+    → text ≢ line_of (page_text wear page) ++ rest
 
 -- Behind the first line: after the lines of these pages one is still needed and none stands there,
 -- or none is needed and the text goes on. A line that isn't ended by a line feed is bad, and so is
@@ -33,7 +35,8 @@ pub record IsBadPage (size : Size) (text : List ℕ) (n : ℕ) : Type 0 where
   pub rest : List ℕ
   pub proper : ArePages size.words pages wears
   pub text_is : text ≡ page_lines pages wears ++ rest
-  pub stops : ((length pages < page_count size) × NoPage size.words rest) ⊎ ((length pages ≡ page_count size) × (rest ≢ []))
+  pub stops : ((length pages < page_count size) × NoPage size.words rest)
+      ⊎ ((length pages ≡ page_count size) × (rest ≢ []))
   pub number : n ≡ length pages + 2
 
 -- the first line is good, and line n is the first bad one

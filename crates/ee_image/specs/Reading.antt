@@ -28,7 +28,9 @@ pub record AreWordsRead (count : ℕ) (text rest : List ℕ) (old new : List Wor
 
 -- the text doesn't begin with so many words
 abbrev pub NoWords : ℕ → List ℕ → Type 0
-NoWords count text = (words : List Word) (rest : List ℕ) → length words ≡ count → All IsBelowAllOnes words → text ≢ spaced_words words ++ rest
+NoWords count text =
+    (words : List Word) (rest : List ℕ) → length words ≡ count → All IsBelowAllOnes words
+    → text ≢ spaced_words words ++ rest
 
 abbrev pub IsWordsFault : ℕ → List ℕ → PageFault → Type 0
 IsWordsFault count text Bad = NoWords count text
@@ -46,7 +48,8 @@ IsPageFault words text Bad = NoPage words text
 IsPageFault words text NoMemory = Unit {0}
 
 -- so many pages were read, and the rest comes behind them
-pub record ArePagesRead (words count : ℕ) (text rest : List ℕ) (cells : List Word) (wears : List ℕ) : Type 0 where
+pub record ArePagesRead (words count : ℕ) (text rest : List ℕ) (cells : List Word) (wears : List ℕ)
+    : Type 0 where
   pub pages : List (List Word)
   pub count_is : length pages ≡ count
   pub proper : ArePages words pages wears

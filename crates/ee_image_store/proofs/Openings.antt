@@ -22,16 +22,23 @@ memory_or_not (replay.Script n) = inr (λ e. cc e)
 memory_or_not replay.Memory = inl refl
 memory_or_not replay.Read = inr (λ e. cc e)
 
-pub opening_named : (image : List ℕ) (why : ReplayFault) (fault cause : Fault) → IsOpenFault image why
-    → fault ≡ fault_of_replay why → cause ≢ Memory → IsOpeningFault image cause → (fault ≡ cause) ⊎ (fault ≡ Memory)
-opening_named image why fault cause unopened told some h = elim (one_open_fault image h.cause why (λ e. some (h.fault_is ∙ ap fault_of_replay e)) h.applies unopened) [
-  | inl same ↦ inl (told ∙ ap fault_of_replay same ∙ sym h.fault_is)
-  | inr none ↦ inr (told ∙ ap fault_of_replay none)
-]
+pub opening_named : (image : List ℕ) (why : ReplayFault) (fault cause : Fault)
+    → IsOpenFault image why → fault ≡ fault_of_replay why → cause ≢ Memory
+    → IsOpeningFault image cause → (fault ≡ cause) ⊎ (fault ≡ Memory)
+opening_named image why fault cause unopened told some h =
+    elim
+    (one_open_fault image h.cause why (λ e. some (h.fault_is ∙ ap fault_of_replay e)) h.applies
+    unopened) [
+      | inl same ↦ inl (told ∙ ap fault_of_replay same ∙ sym h.fault_is)
+      | inr none ↦ inr (told ∙ ap fault_of_replay none)
+    ]
 
-pub not_opened : (image : List ℕ) (why : ReplayFault) (fault : Fault) → IsOpenFault image why → fault ≡ fault_of_replay why → HasStore image → fault ≡ Memory
+pub not_opened : (image : List ℕ) (why : ReplayFault) (fault : Fault) → IsOpenFault image why
+    → fault ≡ fault_of_replay why → HasStore image → fault ≡ Memory
 not_opened image why fault unopened told store = search (rules, memory_or_not, store_is_good)
 
-pub opening_good : (image : List ℕ) (device : Device) (cause : Fault) → IsStoreText image device → cause ≢ Memory
-    → IsOpeningFault image cause → ⊥
-opening_good image device cause store some h = store_is_good image device h.cause store (λ e. some (h.fault_is ∙ ap fault_of_replay e)) h.applies
+pub opening_good : (image : List ℕ) (device : Device) (cause : Fault) → IsStoreText image device
+    → cause ≢ Memory → IsOpeningFault image cause → ⊥
+opening_good image device cause store some h =
+    store_is_good image device h.cause store (λ e. some (h.fault_is ∙ ap fault_of_replay e))
+    h.applies

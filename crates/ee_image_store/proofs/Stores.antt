@@ -18,14 +18,18 @@ use Rattle.ee_image_store.proofs.Erasing.{by_wear, unworn}
 -- a device in memory is formed
 pub formed_of : {A : Type 0} (flash : MemFlash A) → IsFormed (device_of flash)
 formed_of flash =
-    IsFormed-pages_of flash.shape flash.cells flash.wear.items flash.cuts flash.fuse flash.on flash.within_limits
-    flash.cells_length flash.below_all_ones (sym flash.wear.ok.0 ∙ flash.wear_length) flash.wear_fits flash.cuts_fit
+    IsFormed-pages_of flash.shape flash.cells flash.wear.items flash.cuts flash.fuse flash.on
+    flash.within_limits
+    flash.cells_length flash.below_all_ones (sym flash.wear.ok.0 ∙ flash.wear_length)
+    flash.wear_fits flash.cuts_fit
 
 -- a device whose power goes on
-stays : (old new : Device) → StaysOn old → new.on ≡ old.on → new.cuts_left ≡ old.cuts_left → StaysOn new
+stays : (old new : Device) → StaysOn old → new.on ≡ old.on → new.cuts_left ≡ old.cuts_left
+    → StaysOn new
 stays old new kept on left = record { on = on ∙ kept.on; never_cut = left ∙ kept.never_cut }
 
-pub is_opened : (text : List ℕ) (old new : Device) → old ≡ at_rest old → text ≡ image_text old → Opens old new → IsOpened text new
+pub is_opened : (text : List ℕ) (old new : Device) → old ≡ at_rest old → text ≡ image_text old
+    → Opens old new → IsOpened text new
 is_opened text old new rest spelled opens = search (rules, by_wear, no_wear, stays)
 
 -- ---- a new device
@@ -34,17 +38,25 @@ none_written : (n : ℕ) → list_any is_written (replicate n Erased) ≡ false
 none_written zero = refl
 none_written (suc n) = none_written n
 
-none_of : {X : Type 0} (test : X → Bool) (x : X) (n : ℕ) → test x ≡ false → length (filter test (replicate n x)) ≡ 0
+none_of : {X : Type 0} (test : X → Bool) (x : X) (n : ℕ) → test x ≡ false
+    → length (filter test (replicate n x)) ≡ 0
 none_of test x zero e = refl
 none_of test x (suc n) e = rw e (none_of test x n e)
 
 none_pending : (size : Size) → pending_of (blank_device size).image ≡ 0
-none_pending size = none_of _ (replicate size.words Erased) (page_count size) (rw (none_written size.words) refl)
+none_pending size =
+    none_of _ (replicate size.words Erased) (page_count size) (rw (none_written size.words) refl)
 
-pub is_new : (size : Size) (old new : Device) → old ≡ blank_device size → IsFormatted old new → IsNewStore size new
+pub is_new : (size : Size) (old new : Device) → old ≡ blank_device size → IsFormatted old new
+    → IsNewStore size new
 is_new size old new blank made =
-    let kept : StaysOn old = record { on = ap (λ (d : Device). d.on) blank; never_cut = ap (λ (d : Device). d.cuts_left) blank } in
-    let none : length (not_blank_pages old) ≡ 0 = length-not_blank old.image 0 ∙ ap (λ (d : Device). pending_of d.image) blank ∙ none_pending size in
+    let kept : StaysOn old = record {
+      on = ap (λ (d : Device). d.on) blank;
+      never_cut = ap (λ (d : Device). d.cuts_left) blank;
+    } in
+    let none : length (not_blank_pages old) ≡ 0 =
+    length-not_blank old.image 0 ∙ ap (λ (d : Device). pending_of d.image) blank
+    ∙ none_pending size in
     let fresh : old.wear ≡ replicate (page_count size) 0 = ap (λ (d : Device). d.wear) blank in
     record {
       formats = subst (λ (device : Device). IsFormatted device new) blank made;

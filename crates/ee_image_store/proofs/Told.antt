@@ -13,6 +13,6 @@ unfolding each_below
 told_none text old = sym (append-nil old)
 
 -- one number more
-pub told_more : (n : ℕ) (text : ℕ → List ℕ) (old out new : List ℕ) → out ≡ old ++ each_below n text → new ≡ out ++ text n
-    → new ≡ old ++ each_below (n + 1) text
+pub told_more : (n : ℕ) (text : ℕ → List ℕ) (old out new : List ℕ) → out ≡ old ++ each_below n text
+    → new ≡ out ++ text n → new ≡ old ++ each_below (n + 1) text
 told_more n text old out new so_far written = grind (arith, common_steps, more_below)

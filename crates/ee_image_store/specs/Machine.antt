@@ -18,24 +18,32 @@ use Rattle.ee_script.specs.declared.answer.Answer.TheVariants.{Appended, Moved, 
 abbrev pub MachineStep : Size → State → Command → Answer → State → Type 0
 -- A write is refused, for the first cause that applies, and changes nothing; or it is appended
 -- where a slot is free; or it is moved with the map to the other set.
-MachineStep size old (Write address value) Full new = IsFull (slot_count size) old address × (new ≡ old)
-MachineStep size old (Write address value) Spent new = ¬ IsFull (slot_count size) old address × IsSpent (slot_count size) old × (new ≡ old)
+MachineStep size old (Write address value) Full new =
+    IsFull (slot_count size) old address × (new ≡ old)
+MachineStep size old (Write address value) Spent new =
+    ¬ IsFull (slot_count size) old address × IsSpent (slot_count size) old × (new ≡ old)
 MachineStep size old (Write address value) Appended new =
-    IsAccepted (slot_count size) old (Put address value ∷ []) × (old.fill < slot_count size) × (new ≡ appended_state (Put address value) old)
+    IsAccepted (slot_count size) old (Put address value ∷ []) × (old.fill < slot_count size)
+    × (new ≡ appended_state (Put address value) old)
 MachineStep size old (Write address value) Moved new =
-    IsAccepted (slot_count size) old (Put address value ∷ []) × (old.fill ≡ slot_count size) × (new ≡ moved_state size.pages (Put address value ∷ []) old)
+    IsAccepted (slot_count size) old (Put address value ∷ []) × (old.fill ≡ slot_count size)
+    × (new ≡ moved_state size.pages (Put address value ∷ []) old)
 -- So it is with a forgetting, of an address that has a value.
 MachineStep size old (Forget address) Absent new = (old.map address ≡ None) × (new ≡ old)
-MachineStep size old (Forget address) Spent new = (old.map address ≢ None) × IsSpent (slot_count size) old × (new ≡ old)
+MachineStep size old (Forget address) Spent new =
+    (old.map address ≢ None) × IsSpent (slot_count size) old × (new ≡ old)
 MachineStep size old (Forget address) Appended new =
-    IsAccepted (slot_count size) old (meaning.Forget address ∷ []) × (old.fill < slot_count size) × (new ≡ appended_state (meaning.Forget address) old)
+    IsAccepted (slot_count size) old (meaning.Forget address ∷ []) × (old.fill < slot_count size)
+    × (new ≡ appended_state (meaning.Forget address) old)
 MachineStep size old (Forget address) Moved new =
-    IsAccepted (slot_count size) old (meaning.Forget address ∷ []) × (old.fill ≡ slot_count size) × (new ≡ moved_state size.pages (meaning.Forget address ∷ []) old)
+    IsAccepted (slot_count size) old (meaning.Forget address ∷ []) × (old.fill ≡ slot_count size)
+    × (new ≡ moved_state size.pages (meaning.Forget address ∷ []) old)
 -- A read gives what the map has.
 MachineStep size old (Read address) (Value value) new = (old.map address ≡ Some value) × (new ≡ old)
 MachineStep size old (Read address) NoValue new = (old.map address ≡ None) × (new ≡ old)
 -- A clean step erases a page that waits, if one does.
-MachineStep size old Clean Cleaned new = (0 < old.pending) × (new ≡ with_pending (old.pending - 1) old)
+MachineStep size old Clean Cleaned new =
+    (0 < old.pending) × (new ≡ with_pending (old.pending - 1) old)
 MachineStep size old Clean Idle new = (old.pending ≡ 0) × (new ≡ old)
 -- A line that arms a cut changes nothing yet, nor does one that turns power on and
 -- opens what is open.
@@ -69,7 +77,8 @@ pub record CutsChange (size : Size) (old : State) (change : Change) (new : State
 abbrev pub CutStep : Size → State → Command → State → Type 0
 CutStep size old (Write address value) new = CutsChange size old (Put address value) new
 CutStep size old (Forget address) new = CutsChange size old (meaning.Forget address) new
-CutStep size old Clean new = (0 < old.pending) × ((new ≡ old) ⊎ (new ≡ with_pending (old.pending - 1) old))
+CutStep size old Clean new =
+    (0 < old.pending) × ((new ≡ old) ⊎ (new ≡ with_pending (old.pending - 1) old))
 CutStep size old command new = ⊥
 
 -- an open store answers; where none is open the answer is `off`, and nothing changes
@@ -94,14 +103,18 @@ was_cut answers = list_any is_cut_answer answers
 -- come. Or it is answered.
 abbrev pub CallStep : Bool → Size → Desk → Command → Answer → Desk → Type 0
 CallStep true size old command answer new =
-    (old.serving ≡ true) × (old.armed ≡ true) × CutStep size old.state command new.state × (new ≡ record { state = new.state; serving = false; armed = false })
-CallStep false size old command answer new = StoreStep size old.serving old.state command answer new.state × (new ≡ record old { state = new.state })
+    (old.serving ≡ true) × (old.armed ≡ true) × CutStep size old.state command new.state
+    × (new ≡ record { state = new.state; serving = false; armed = false })
+CallStep false size old command answer new =
+    StoreStep size old.serving old.state command answer new.state
+    × (new ≡ record old { state = new.state })
 
 -- Power comes on, and a store is open, which holds what was held; or that is cut,
 -- where none was open.
 abbrev pub PowerStep : Desk → Answer → Desk → Type 0
 PowerStep old Opened new = new ≡ record old { serving = true }
-PowerStep old Cut new = (old.serving ≡ false) × (old.armed ≡ true) × (new ≡ record old { armed = false })
+PowerStep old Cut new =
+    (old.serving ≡ false) × (old.armed ≡ true) × (new ≡ record old { armed = false })
 PowerStep old answer new = ⊥
 
 -- From old, on a device of this size, the desk answers the command so, and is new afterwards: a cut

@@ -66,7 +66,8 @@ pub record IsNewStore (size : Size) (new : Device) : Type 0 where
 -- image; or memory ran out
 abbrev pub IsOpenFault : List ℕ → ReplayFault → Type 0
 IsOpenFault text (Image fault) = IsImageTextFault text fault
-IsOpenFault text (Open fault) = (device : Device) × SpellsDevice text device × IsScanFault device fault
+IsOpenFault text (Open fault) =
+    (device : Device) × SpellsDevice text device × IsScanFault device fault
 IsOpenFault text (Script n) = ⊥
 IsOpenFault text Memory = Unit {0}
 IsOpenFault text Read = ⊥

@@ -23,8 +23,10 @@ trace_of (command ∷ commands) = trace_of commands
 
 -- the commands that changed the map: those answered `ok` or `moved`
 abbrev pub accepted_commands : List Command → List Answer → List Command
-accepted_commands (command ∷ commands) (Appended ∷ answers) = command ∷ accepted_commands commands answers
-accepted_commands (command ∷ commands) (Moved ∷ answers) = command ∷ accepted_commands commands answers
+accepted_commands (command ∷ commands) (Appended ∷ answers) =
+    command ∷ accepted_commands commands answers
+accepted_commands (command ∷ commands) (Moved ∷ answers) =
+    command ∷ accepted_commands commands answers
 accepted_commands (command ∷ commands) (answer ∷ answers) = accepted_commands commands answers
 accepted_commands commands answers = []
 
@@ -50,8 +52,11 @@ map_changes (command ∷ commands) = map_changes commands
 -- what stands before it
 abbrev pub ForgetsWhatIsHeld : meaning.Map → List Command → Type 0
 ForgetsWhatIsHeld values [] = Unit {0}
-ForgetsWhatIsHeld values (Write address value ∷ commands) = ForgetsWhatIsHeld (meaning.map_after (meaning.Put address value) values) commands
-ForgetsWhatIsHeld values (Forget address ∷ commands) = (values address ≢ None) × ForgetsWhatIsHeld (meaning.map_after (meaning.Forget address) values) commands
+ForgetsWhatIsHeld values (Write address value ∷ commands) =
+    ForgetsWhatIsHeld (meaning.map_after (meaning.Put address value) values) commands
+ForgetsWhatIsHeld values (Forget address ∷ commands) =
+    (values address ≢ None)
+    × ForgetsWhatIsHeld (meaning.map_after (meaning.Forget address) values) commands
 ForgetsWhatIsHeld values (command ∷ commands) = ForgetsWhatIsHeld values commands
 
 -- Each change of the script is made: never are more addresses live than there are slots,
@@ -65,15 +70,20 @@ pub record TraceFits (start : Situation) (state : State) (commands : List Comman
 -- From a start, the moves among the answers are the fewest: they stand exactly where the stretches
 -- of the trace's one tight certificate end, which the checker accepts; some store that transfers
 -- when it likes makes as many transfers, and none makes fewer.
-pub record AreFewest (start : Situation) (trace : List Change) (answers : List Answer) (claim : Claim) : Type 0 where
+pub record AreFewest (start : Situation) (trace : List Change) (answers : List Answer)
+    (claim : Claim) : Type 0 where
   pub tight : IsTight start trace claim
   pub certificate : IsCertificate start trace claim
   pub positions : moved_at 0 answers ≡ map (λ stretch. stretch.to) claim.stretches
-  pub reached : (schedule : List Move) × IsSchedule start trace schedule × (cost schedule ≡ moves answers)
-  pub fewest : (schedule : List Move) → IsSchedule start trace schedule → moves answers ≤ cost schedule
+  pub reached : (schedule : List Move) × IsSchedule start trace schedule
+      × (cost schedule ≡ moves answers)
+  pub fewest : (schedule : List Move) → IsSchedule start trace schedule
+      → moves answers ≤ cost schedule
 
 -- Each store makes more transfers than these, or as many, and has at least so many
 -- slots used at the end.
 abbrev pub NoneEndsWithMoreRoom : Situation → List Change → ℕ → ℕ → Type 0
-NoneEndsWithMoreRoom start trace transfers fill = (schedule : List Move) → IsSchedule start trace schedule
-    → (transfers < cost schedule) ⊎ ((cost schedule ≡ transfers) × (fill ≤ (after_moves start schedule).fill))
+NoneEndsWithMoreRoom start trace transfers fill =
+    (schedule : List Move) → IsSchedule start trace schedule
+    → (transfers < cost schedule)
+    ⊎ ((cost schedule ≡ transfers) × (fill ≤ (after_moves start schedule).fill))

@@ -24,36 +24,61 @@ use Rattle.ee_index.proofs.IndexedRooms.{room_as_it_is}
 use Rattle.ee_index.proofs.IndexedStores.{alike_held, entries_live, value_held}
 
 -- what a store keeps, of its parts
-pub has_index : (device : Device) (layout : Layout) (entries : List (ℕ × ℕ)) → IsLayout device layout → IsIndex (slots_of (set_of layout.side device)) (slot_for entries) → HasIndex device layout entries
+pub has_index : (device : Device) (layout : Layout) (entries : List (ℕ × ℕ))
+    → IsLayout device layout → IsIndex (slots_of (set_of layout.side device)) (slot_for entries)
+    → HasIndex device layout entries
 has_index _ _ _ found indexes = record { found = found; indexes = indexes }
 
-module _ (device : Device) (layout : Layout) (entries : List (ℕ × ℕ)) (kept : HasIndex device layout entries) where
+module _ (device : Device) (layout : Layout) (entries : List (ℕ × ℕ))
+    (kept : HasIndex device layout entries) where
   same_map : (address : ℕ) → (state_of device).map address ≡ map_in layout.side device address
   same_map address = search rules
 
   pub value_found : (address number value : ℕ) → slot_for entries address ≡ Some number
-      → ((named said : ℕ) → says (get_or (slots_of (set_of layout.side device)) number Erased) named ≡ Some (Some said) → value ≡ said) → Some value ≡ map_in layout.side device address
-  value_found address number value e is = value_held device layout entries kept address number value e is ∙ same_map address
+      → ((named said : ℕ)
+      → says (get_or (slots_of (set_of layout.side device)) number Erased) named
+      ≡ Some (Some said)
+      → value ≡ said)
+      → Some value ≡ map_in layout.side device address
+  value_found address number value e is =
+      value_held device layout entries kept address number value e is ∙ same_map address
 
-  pub live_found : IsStrictlySortedBy nat_cmp (keys_of entries) → length entries ≡ live_in (map_in layout.side device)
-  live_found sorted = entries_live device layout entries kept sorted ∙ same_counts (state_of device).map (map_in layout.side device) same_map
+  pub live_found : IsStrictlySortedBy nat_cmp (keys_of entries)
+      → length entries ≡ live_in (map_in layout.side device)
+  live_found sorted =
+      entries_live device layout entries kept sorted
+      ∙ same_counts (state_of device).map (map_in layout.side device) same_map
 
-  pub live_with_found : (puts : List listed.Put) (count : ℕ) → IsStrictlySortedBy nat_cmp (keys_of entries) → AreApart (puts_of puts) → AddsAddresses puts (slot_for entries) count
+  pub live_with_found : (puts : List listed.Put) (count : ℕ)
+      → IsStrictlySortedBy nat_cmp (keys_of entries) → AreApart (puts_of puts)
+      → AddsAddresses puts (slot_for entries) count
       → length entries + count ≡ live_in (changed_by (puts_of puts) (map_in layout.side device))
   live_with_found puts count sorted each adds =
-      let all = adds (map_in layout.side device) (λ address. alike_held (slots_of (set_of layout.side device)) (slot_for entries address) (map_in layout.side device address) address (kept.indexes address)) each in
+      let all =
+      adds (map_in layout.side device)
+      (λ address. alike_held (slots_of (set_of layout.side device))
+      (slot_for entries address) (map_in layout.side device address) address
+      (kept.indexes address)) each in
       omega (arith, all, live_found sorted)
 
 -- it is ready for a change in the first free slot
-pub ready_for : (slots : List Word) (fill : ℕ) (index : Map) (change : declared.Change) → fill ≡ fill_of slots
-    → IsReadyToMake (IsIndex slots index) (λ address. IsReadyFor slots (Put address 0) (fill_of slots) index) change → IsReadyFor slots (map_change change) fill index
+pub ready_for : (slots : List Word) (fill : ℕ) (index : Map) (change : declared.Change)
+    → fill ≡ fill_of slots
+    → IsReadyToMake (IsIndex slots index)
+    (λ address. IsReadyFor slots (Put address 0) (fill_of slots) index) change
+    → IsReadyFor slots (map_change change) fill index
 ready_for slots fill index (kinds.Put address value) fill_is given = search rules
 ready_for _ _ index (kinds.Forget address _) _ given = (index, given, λ address. refl)
 
 -- it has room for a transfer
-pub room_for : (device : Device) (layout : Layout) (entries : List (ℕ × ℕ)) (puts : List listed.Put) (forgets : Bool) → IsLayout device layout
-    → HasRoomToMove (IsIndex (slots_of (set_of layout.side device)) (slot_for entries)) (λ puts. IsRoomFor (slots_of (set_of layout.side device)) puts (slot_for entries)) puts forgets
-    → IsRoomFor (slots_of (set_of layout.side device)) (if forgets then [] else puts) (slot_for entries)
+pub room_for : (device : Device) (layout : Layout) (entries : List (ℕ × ℕ)) (puts : List listed.Put)
+    (forgets : Bool)
+    → IsLayout device layout
+    → HasRoomToMove (IsIndex (slots_of (set_of layout.side device)) (slot_for entries))
+    (λ puts. IsRoomFor (slots_of (set_of layout.side device)) puts (slot_for entries)) puts
+    forgets
+    → IsRoomFor (slots_of (set_of layout.side device)) (if forgets then [] else puts)
+    (slot_for entries)
 room_for device layout entries puts true found given = search (rules, room_as_it_is, has_index)
 room_for _ _ _ _ false _ given = given
 
@@ -64,23 +89,37 @@ pub given_ok : {T E X : Type 0} (result : Result T E) → is_err result ≡ fals
 given_ok (Ok _) _ given = given
 given_ok (Err error) is given = absurd (cc is)
 
-pub kept_ready : (G fits : Type 0) (ready : ℕ → Type 0) (change : declared.Change) → G → IsReadyToMake (G → fits) (λ address. G → ready address) change → IsReadyToMake fits ready change
+pub kept_ready : (G fits : Type 0) (ready : ℕ → Type 0) (change : declared.Change) → G
+    → IsReadyToMake (G → fits) (λ address. G → ready address) change
+    → IsReadyToMake fits ready change
 kept_ready G _ _ (kinds.Put _ _) kept given = given kept
 kept_ready G _ _ (kinds.Forget _ _) kept given = given kept
 
-pub kept_room : (G fits : Type 0) (room : List listed.Put → Type 0) (puts : List listed.Put) (forgets : Bool) → G → HasRoomToMove (G → fits) (λ puts. G → room puts) puts forgets → HasRoomToMove fits room puts forgets
+pub kept_room : (G fits : Type 0) (room : List listed.Put → Type 0) (puts : List listed.Put)
+    (forgets : Bool)
+    → G → HasRoomToMove (G → fits) (λ puts. G → room puts) puts forgets
+    → HasRoomToMove fits room puts forgets
 kept_room G _ _ _ true kept given = given kept
 kept_room G _ _ _ false kept given = given kept
 
 -- it has room for a transfer, where it is not given up
-pub kept_room_for : (G : Type 0) (device : Device) (layout : Layout) (entries : List (ℕ × ℕ)) (puts : List listed.Put) (forgets : Bool) → IsLayout device layout
-    → HasRoomToMove (G → IsIndex (slots_of (set_of layout.side device)) (slot_for entries)) (λ puts. G → IsRoomFor (slots_of (set_of layout.side device)) puts (slot_for entries)) puts forgets
-    → G → IsRoomFor (slots_of (set_of layout.side device)) (if forgets then [] else puts) (slot_for entries)
+pub kept_room_for : (G : Type 0) (device : Device) (layout : Layout) (entries : List (ℕ × ℕ))
+    (puts : List listed.Put) (forgets : Bool)
+    → IsLayout device layout
+    → HasRoomToMove (G → IsIndex (slots_of (set_of layout.side device)) (slot_for entries))
+    (λ puts. G → IsRoomFor (slots_of (set_of layout.side device)) puts (slot_for entries)) puts
+    forgets
+    → G
+    → IsRoomFor (slots_of (set_of layout.side device)) (if forgets then [] else puts)
+    (slot_for entries)
 kept_room_for G device layout entries puts forgets found given kept =
     let slots = slots_of (set_of layout.side device) in
-    room_for device layout entries puts forgets found (kept_room G (IsIndex slots (slot_for entries)) (λ puts. IsRoomFor slots puts (slot_for entries)) puts forgets kept given)
+    room_for device layout entries puts forgets found
+    (kept_room G (IsIndex slots (slot_for entries))
+    (λ puts. IsRoomFor slots puts (slot_for entries)) puts forgets kept given)
 
 -- an index that was kept followed, and one that was given up was read anew
-pub kept_or_read : {X : Type 0} (was is : Bool) → (was ≡ false → X) → (was ≡ true → is ≡ false → X) → is ≡ false → X
+pub kept_or_read : {X : Type 0} (was is : Bool) → (was ≡ false → X) → (was ≡ true → is ≡ false → X)
+    → is ≡ false → X
 kept_or_read true _ _ read kept = read refl kept
 kept_or_read false _ followed _ _ = followed refl

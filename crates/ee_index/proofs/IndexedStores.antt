@@ -25,41 +25,57 @@ use Rattle.ee_index.proofs.Indexing.{stands}
 
 -- ---- as many entries as live addresses
 
-pub alike : (first second : Map) → ((address : ℕ) → is_some (first address) ≡ is_some (second address)) → (n : ℕ) → live_to first n ≡ live_to second n
+pub alike : (first second : Map)
+    → ((address : ℕ) → is_some (first address) ≡ is_some (second address)) → (n : ℕ)
+    → live_to first n ≡ live_to second n
 alike first second _ zero = live_to-zero first ∙ sym (live_to-zero second)
 alike first second same (suc n) = search (rules, live_to-suc, (alike first second same n))
 
-pub absent_above : (named : ℕ) (entries : List (ℕ × ℕ)) → AllByRecursion (λ key. nat_cmp named key ≡ Less) (keys_of entries) → slot_for entries named ≡ None
+pub absent_above : (named : ℕ) (entries : List (ℕ × ℕ))
+    → AllByRecursion (λ key. nat_cmp named key ≡ Less) (keys_of entries)
+    → slot_for entries named ≡ None
 absent_above _ [] _ = refl
 absent_above named (first ∷ rest) above = rw above.0 (absent_above named rest above.1)
 
-pub as_put : (first : ℕ × ℕ) (rest : List (ℕ × ℕ)) (address : ℕ) → slot_for (first ∷ rest) address ≡ map_after (Put first.0 first.1) (slot_for rest) address
+pub as_put : (first : ℕ × ℕ) (rest : List (ℕ × ℕ)) (address : ℕ)
+    → slot_for (first ∷ rest) address ≡ map_after (Put first.0 first.1) (slot_for rest) address
 as_put first rest address = search (rules, cases_eq, common_steps, nat_tests)
 
 put_has : (named slot : ℕ) (index : Map) → is_some (map_after (Put named slot) index named) ≡ true
 put_has named slot index = grind (arith, common_steps)
 
-put_keeps : (named slot address : ℕ) (index : Map) → is_some (index address) ≡ true → is_some (map_after (Put named slot) index address) ≡ true
+put_keeps : (named slot address : ℕ) (index : Map) → is_some (index address) ≡ true
+    → is_some (map_after (Put named slot) index address) ≡ true
 put_keeps named slot address index held = search (rules, cases_eq, common_steps)
 
-pub count_of : (entries : List (ℕ × ℕ)) → IsStrictlySortedBy nat_cmp (keys_of entries) → ((address : ℕ) → is_some (slot_for entries address) ≡ true → IsAddress address) → length entries ≡ live_in (slot_for entries)
+pub count_of : (entries : List (ℕ × ℕ)) → IsStrictlySortedBy nat_cmp (keys_of entries)
+    → ((address : ℕ) → is_some (slot_for entries address) ≡ true → IsAddress address)
+    → length entries ≡ live_in (slot_for entries)
 count_of [] _ _ = live_in-nothing (slot_for []) (λ address. refl)
 count_of (first ∷ rest) sorted proper =
     let new : slot_for rest first.0 ≡ None = search (rules, absent_above, sorted_head) in
-    let more = count_of rest (sorted_tail nat_cmp first.0 (keys_of rest) sorted) (λ address held. proper address (ap is_some (as_put first rest address) ∙ put_keeps first.0 first.1 address (slot_for rest) held)) in
-    let here = proper first.0 (ap is_some (as_put first rest first.0) ∙ put_has first.0 first.1 (slot_for rest)) in
+    let more =
+    count_of rest (sorted_tail nat_cmp first.0 (keys_of rest) sorted)
+    (λ address held. proper address
+    (ap is_some (as_put first rest address)
+    ∙ put_keeps first.0 first.1 address (slot_for rest) held)) in
+    let here =
+    proper first.0
+    (ap is_some (as_put first rest first.0) ∙ put_has first.0 first.1 (slot_for rest)) in
     let counts = change_counts (Put first.0 first.1) (slot_for rest) here in
     search rules
 
 -- a word that says something of an address says it of a proper one
-pub says_proper : (word : Word) (address : ℕ) (said : Option ℕ) → says word address ≡ Some said → IsAddress address
+pub says_proper : (word : Word) (address : ℕ) (said : Option ℕ) → says word address ≡ Some said
+    → IsAddress address
 says_proper Erased address said e = absurd (cc e)
 says_proper Torn address said e = absurd (cc e)
 says_proper (Held number) address said e = grind (arith, nat_tests, common_steps, e)
 
 -- ---- what the index says is what the map says
 
-pub alike_held : (slots : List Word) (slot held : Option ℕ) (address : ℕ) → said_at slots slot address ≡ says_value held → is_some slot ≡ is_some held
+pub alike_held : (slots : List Word) (slot held : Option ℕ) (address : ℕ)
+    → said_at slots slot address ≡ says_value held → is_some slot ≡ is_some held
 alike_held _ None None _ _ = refl
 alike_held slots None (Some value) address e = absurd (cc e)
 alike_held slots (Some slot) None address e = absurd (cc e)
@@ -69,27 +85,39 @@ pub some_is : (slot : Option ℕ) → is_some slot ≡ true → (number : ℕ) �
 some_is None e = absurd (cc e)
 some_is (Some number) _ = (number, refl)
 
-module _ (device : Device) (layout : Layout) (entries : List (ℕ × ℕ)) (kept : HasIndex device layout entries) where
-  map_is : (address : ℕ) → (state_of device).map address ≡ meaning (slots_of (set_of layout.side device)) address
+module _ (device : Device) (layout : Layout) (entries : List (ℕ × ℕ))
+    (kept : HasIndex device layout entries) where
+  map_is : (address : ℕ)
+      → (state_of device).map address ≡ meaning (slots_of (set_of layout.side device)) address
   map_is address = search rules
 
-  pub same_live : (address : ℕ) → is_some (slot_for entries address) ≡ is_some ((state_of device).map address)
+  pub same_live : (address : ℕ)
+      → is_some (slot_for entries address) ≡ is_some ((state_of device).map address)
   same_live address = search (rules, alike_held, map_is)
 
   keys_proper : (address : ℕ) → is_some (slot_for entries address) ≡ true → IsAddress address
   keys_proper address held = search (rules, says_proper, some_is, stands)
 
-  pub entries_live : IsStrictlySortedBy nat_cmp (keys_of entries) → length entries ≡ live_in (state_of device).map
+  pub entries_live : IsStrictlySortedBy nat_cmp (keys_of entries)
+      → length entries ≡ live_in (state_of device).map
   entries_live sorted = search (rules, count_of, keys_proper, alike, same_live)
 
-  pub slot_in_range : (address number : ℕ) → slot_for entries address ≡ Some number → number < slot_count device.size
+  pub slot_in_range : (address number : ℕ) → slot_for entries address ≡ Some number
+      → number < slot_count device.size
   slot_in_range address number e = grind (arith, common_steps, length-slots, stands)
 
   pub value_held : (address number value : ℕ) → slot_for entries address ≡ Some number
-      → ((named said : ℕ) → says (get_or (slots_of (set_of layout.side device)) number Erased) named ≡ Some (Some said) → value ≡ said) → Some value ≡ (state_of device).map address
+      → ((named said : ℕ)
+      → says (get_or (slots_of (set_of layout.side device)) number Erased) named
+      ≡ Some (Some said)
+      → value ≡ said)
+      → Some value ≡ (state_of device).map address
   value_held address number value e is =
-      let here = stands (slots_of (set_of layout.side device)) (slot_for entries) kept.indexes address number e in
+      let here =
+      stands (slots_of (set_of layout.side device)) (slot_for entries) kept.indexes address
+      number e in
       search rules
 
-  pub no_value : (address : ℕ) → is_some (slot_for entries address) ≡ false → (state_of device).map address ≡ None
+  pub no_value : (address : ℕ) → is_some (slot_for entries address) ≡ false
+      → (state_of device).map address ≡ None
   no_value address e = search rules

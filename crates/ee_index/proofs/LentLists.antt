@@ -18,7 +18,9 @@ use Rattle.ee_index.proofs.Numbering.{keys_numbered}
 
 module _ {X : Type 0} (room : List X) (place n count : ℕ) where
   -- those behind a place move up by one, and an item is set there
-  pub put_in : (item : X) → count ≡ place + n → count < length room → take (count + 1) (set (paste room (place + 1) (drop place room) n) place item) ≡ insert (take count room) place item
+  pub put_in : (item : X) → count ≡ place + n → count < length room
+      → take (count + 1) (set (paste room (place + 1) (drop place room) n) place item)
+      ≡ insert (take count room) place item
   put_in item split within =
       let moved = paste room (place + 1) (drop place room) n in
       let low = take (place + 1) room in
@@ -34,29 +36,54 @@ module _ {X : Type 0} (room : List X) (place n count : ℕ) where
       search (rules, take-set-lt, set, set_split)
 
   -- those behind a place move down by one
-  pub taken_out : count ≡ place + 1 + n → count ≤ length room → take (count - 1) (paste room place (drop (place + 1) room) n) ≡ remove (take count room) place
+  pub taken_out : count ≡ place + 1 + n → count ≤ length room
+      → take (count - 1) (paste room place (drop (place + 1) room) n)
+      ≡ remove (take count room) place
   taken_out split within =
       let moved = paste room place (drop (place + 1) room) n in
       let behind = length-drop (place + 1) room in
       let next : place + 1 ≡ suc place = omega arith in
       ap (λ many. take many moved) (omega arith)
       ∙ take-paste room place (drop (place + 1) room) n (omega arith) (omega arith)
-      ∙ ap (λ items. items ++ take n (drop (place + 1) room)) (sym (take-take place count room (omega arith)))
-      ∙ ap (λ items. take place (take count room) ++ items) (sym (drop-take (place + 1) n room) ∙ ap (λ many. drop (place + 1) (take many room)) (sym split) ∙ ap (λ many. drop many (take count room)) next)
+      ∙ ap (λ items. items ++ take n (drop (place + 1) room))
+      (sym (take-take place count room (omega arith)))
+      ∙ ap (λ items. take place (take count room) ++ items)
+      (sym (drop-take (place + 1) n room)
+      ∙ ap (λ many. drop (place + 1) (take many room)) (sym split)
+      ∙ ap (λ many. drop many (take count room)) next)
 
 -- ---- entries that stand first in a room
 
-module _ (address slot : ℕ) (room : List (ℕ × ℕ)) (count place : ℕ) (fits : count ≤ length room) (here : StandsAt (take count room) address place) where
-  set_first : take count (set room place (address, slot)) ≡ set (take count room) place (address, slot)
+module _ (address slot : ℕ) (room : List (ℕ × ℕ)) (count place : ℕ) (fits : count ≤ length room)
+    (here : StandsAt (take count room) address place) where
+  set_first : take count (set room place (address, slot))
+      ≡ set (take count room) place (address, slot)
   set_first = search (rules, take-set-lt, length-take-le)
 
-  pub first_ordered : AreInOrder (take count room) → (count ≤ length (set room place (address, slot))) × AreInOrder (take count (set room place (address, slot)))
+  pub first_ordered : AreInOrder (take count room)
+      → (count ≤ length (set room place (address, slot)))
+      × AreInOrder (take count (set room place (address, slot)))
   first_ordered ordered = search (rules, length-set, set_first, ordered_set)
 
-  pub first_slots : (named : ℕ) → slot_for (take count (set room place (address, slot))) named ≡ map_after (Put address slot) (slot_for (take count room)) named
+  pub first_slots : (named : ℕ)
+      → slot_for (take count (set room place (address, slot))) named
+      ≡ map_after (Put address slot) (slot_for (take count room)) named
   first_slots named = search (rules, set_first, slots_set)
 
 -- the entries of a room are numbered in place
-pub first_numbered : (puts : List listed.Put) (room new : List (ℕ × ℕ)) (count : ℕ) → count ≤ length room → new ≡ numbered_slots puts (length puts) (take count room) → AreInOrder (take count room)
-    → (count ≤ length (new ++ drop count room)) × (take count (new ++ drop count room) ≡ numbered_slots puts (length puts) (take count room)) × AreInOrder (take count (new ++ drop count room))
-first_numbered puts room new count fits numbered ordered = search (rules, keys_numbered, length-keys_of, length-take-le, take-append-le, take_all, length-append)
+pub first_numbered : (puts : List listed.Put) (room new : List (ℕ × ℕ)) (count : ℕ)
+    → count ≤ length room → new ≡ numbered_slots puts (length puts) (take count room)
+    → AreInOrder (take count room)
+    → (count ≤ length (new ++ drop count room))
+    × (take count (new ++ drop count room)
+    ≡ numbered_slots puts (length puts) (take count room))
+    × AreInOrder (take count (new ++ drop count room))
+first_numbered puts room new count fits numbered ordered = search (
+  rules,
+  keys_numbered,
+  length-keys_of,
+  length-take-le,
+  take-append-le,
+  take_all,
+  length-append,
+)

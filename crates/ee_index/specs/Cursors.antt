@@ -20,5 +20,6 @@ GoesOverLive slots (BySlots course) = GoesOver (meaning slots) course
 
 -- so it does once it has begun
 abbrev pub BeginsOver : List Word → LentCursor → Type 0
-BeginsOver slots (ByIndex cursor) = (cursor.after ≡ None) × IsFilledLeft slots cursor.fill cursor.after cursor.entries.now
+BeginsOver slots (ByIndex cursor) =
+    (cursor.after ≡ None) × IsFilledLeft slots cursor.fill cursor.after cursor.entries.now
 BeginsOver slots (BySlots course) = Unit {0}

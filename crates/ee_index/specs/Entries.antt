@@ -29,13 +29,15 @@ pub record StandsAt (entries : List (ℕ × ℕ)) (address place : ℕ) : Type 0
   pub within : place < length entries
   pub here : address_at entries place ≡ address
   pub below : (before : ℕ) → before < place → address_at entries before < address
-  pub above : (behind : ℕ) → place < behind → behind < length entries → address < address_at entries behind
+  pub above : (behind : ℕ) → place < behind → behind < length entries
+      → address < address_at entries behind
 
 -- no entry is the one of an address, which would stand at this place
 pub record WouldStandAt (entries : List (ℕ × ℕ)) (address place : ℕ) : Type 0 where
   pub within : place ≤ length entries
   pub below : (before : ℕ) → before < place → address_at entries before < address
-  pub above : (behind : ℕ) → place ≤ behind → behind < length entries → address < address_at entries behind
+  pub above : (behind : ℕ) → place ≤ behind → behind < length entries
+      → address < address_at entries behind
 
 -- the entries from this place on
 abbrev pub entries_from : List (ℕ × ℕ) → ℕ → List (ℕ × ℕ)

@@ -30,7 +30,8 @@ slot_for entries address = lookup (is_at (nat_cmp address)) entries
 
 -- what a slot says of an address, if there is one
 abbrev pub said_at : List Word → Option ℕ → ℕ → Option (Option (Option ℕ))
-said_at slots slot address = option_map (λ number. says (slice_index_or slots number Erased) address) slot
+said_at slots slot address =
+    option_map (λ number. says (slice_index_or slots number Erased) address) slot
 
 -- that it has this value; nothing where it has none
 abbrev pub says_value : Option ℕ → Option (Option (Option ℕ))
@@ -39,7 +40,8 @@ says_value value = option_map (λ value. Some (Some value)) value
 -- It is an index of these slots: for each address that has a value it has a slot, which says that
 -- value, and it has no other address.
 abbrev pub IsIndex : List Word → Map → Type 0
-IsIndex slots index = (address : ℕ) → said_at slots (index address) address ≡ says_value (meaning slots address)
+IsIndex slots index =
+    (address : ℕ) → said_at slots (index address) address ≡ says_value (meaning slots address)
 
 -- ---- how an index changes
 
@@ -65,7 +67,8 @@ without_forgotten (Forget address) index = map_after (Forget address) index
 -- an index of these slots, but for a change that is about to be made in the slot of this number
 abbrev pub IsReadyFor : List Word → Change → ℕ → Map → Type 0
 IsReadyFor slots change number index =
-    (before : Map) × IsIndex slots before × ((address : ℕ) → index address ≡ index_for_change change number before address)
+    (before : Map) × IsIndex slots before
+    × ((address : ℕ) → index address ≡ index_for_change change number before address)
 
 -- ---- how room is made in it
 
@@ -85,7 +88,9 @@ shown_index shown index address = shown_slot shown (index address)
 -- one shows what another does, where so many slots are used
 abbrev pub IsShownSame : ℕ → List (ℕ × ℕ) → List (ℕ × ℕ) → Type 0
 IsShownSame fill old new =
-    (address : ℕ) → shown_index (λ number. nat_lt number fill) (slot_for new) address ≡ shown_index (λ number. nat_lt number fill) (slot_for old) address
+    (address : ℕ)
+    → shown_index (λ number. nat_lt number fill) (slot_for new) address
+    ≡ shown_index (λ number. nat_lt number fill) (slot_for old) address
 
 -- the index has the addresses to which this map gives a value, and no other
 abbrev pub HasAddresses : Map → Map → Type 0
@@ -94,7 +99,8 @@ HasAddresses index map = (address : ℕ) → is_some (index address) ≡ is_some
 -- these values add so many addresses to each map that gives the addresses of the index a value
 abbrev pub AddsAddresses : List listed.Put → Map → ℕ → Type 0
 AddsAddresses puts index count =
-    (map : Map) → HasAddresses index map → AreApart (puts_of puts) → live_in (changed_by (puts_of puts) map) ≡ live_in map + count
+    (map : Map) → HasAddresses index map → AreApart (puts_of puts)
+    → live_in (changed_by (puts_of puts) map) ≡ live_in map + count
 
 -- An index of these slots in which there is room for values that are about to be put: an address
 -- that has no value yet has a number in it that is no used slot's, and is hidden.
@@ -113,14 +119,16 @@ pub record IsIndexBesideHidden (slots : List Word) (index : Map) : Type 0 where
 -- the place of an address among values that are put, counted from 0
 abbrev pub listed_place : List listed.Put → ℕ → ℕ
 listed_place [] address = 0
-listed_place (put ∷ puts) address = if put.address == address then 0 else listed_place puts address + 1
+listed_place (put ∷ puts) address =
+    if put.address == address then 0 else listed_place puts address + 1
 
 -- the values that are put have their places in the list for slots, and the others have the
 -- slots from this one on
 abbrev pub numbered_slots : List listed.Put → ℕ → List (ℕ × ℕ) → List (ℕ × ℕ)
 numbered_slots puts number [] = []
 numbered_slots puts number (entry ∷ more) =
-    if is_put puts entry.0 then (entry.0, listed_place puts entry.0) ∷ numbered_slots puts number more
+    if is_put puts entry.0 then (entry.0, listed_place puts entry.0)
+    ∷ numbered_slots puts number more
     else (entry.0, number) ∷ numbered_slots puts (number + 1) more
 
 -- it has this slot where so many are taken, and so many are taken behind it
@@ -129,23 +137,30 @@ pub record IsNumberedNext (puts : List listed.Put) (number address slot next : �
   pub behind : next ≡ (if is_put puts address then number else number + 1)
 
 -- the entries behind a transfer: those that are forgotten left, and the others are numbered
-pub record IsNumberedAfter (puts : List listed.Put) (forgets : Bool) (old new : List (ℕ × ℕ)) : Type 0 where
+pub record IsNumberedAfter (puts : List listed.Put) (forgets : Bool) (old new : List (ℕ × ℕ))
+    : Type 0 where
   pub left : List (ℕ × ℕ)
   pub ordered : IsStrictlySortedBy nat_cmp (keys_of left)
-  pub left_is : (address : ℕ) → slot_for left address ≡ changed_by (forgets_of (if forgets then puts else [])) (slot_for old) address
-  pub numbered : let values = if forgets then [] else puts in new ≡ numbered_slots values (length values) left
+  pub left_is : (address : ℕ)
+      → slot_for left address
+      ≡ changed_by (forgets_of (if forgets then puts else [])) (slot_for old) address
+  pub numbered : let values =
+      if forgets then [] else puts in new ≡ numbered_slots values (length values) left
 
 -- ---- how it is gone over
 
 -- what is left of the entries, behind this address, to go over
-pub record IsLeft (slots : List Word) (shown : ℕ → Bool) (after : Option ℕ) (entries : List (ℕ × ℕ)) : Type 0 where
+pub record IsLeft (slots : List Word) (shown : ℕ → Bool) (after : Option ℕ) (entries : List (ℕ × ℕ))
+    : Type 0 where
   pub ordered : IsStrictlySortedBy nat_cmp (keys_of entries)
   pub behind : (address : ℕ) → is_some (slot_for entries address) ≡ true → above_of after < address
   pub indexes : (address : ℕ) → above_of after < address
-      → said_at slots (shown_index shown (slot_for entries) address) address ≡ says_value (meaning slots address)
+      → said_at slots (shown_index shown (slot_for entries) address) address
+      ≡ says_value (meaning slots address)
 
 -- so it is of the used slots, of which there are so many
-pub record IsFilledLeft (slots : List Word) (fill : ℕ) (after : Option ℕ) (entries : List (ℕ × ℕ)) : Type 0 where
+pub record IsFilledLeft (slots : List Word) (fill : ℕ) (after : Option ℕ) (entries : List (ℕ × ℕ))
+    : Type 0 where
   pub fill_is : fill ≡ fill_of slots
   pub left : IsLeft slots (is_filled slots) after entries
 
@@ -155,12 +170,14 @@ AreHidden shown entries = All (λ entry. shown entry.1 ≡ false) entries
 
 -- a reader has passed hidden entries alone, up to what is left
 abbrev pub PassesHidden : (ℕ → Bool) → List (ℕ × ℕ) → List (ℕ × ℕ) → Type 0
-PassesHidden shown entries left = (passed : List (ℕ × ℕ)) × AreHidden shown passed × (entries ≡ passed ++ left)
+PassesHidden shown entries left =
+    (passed : List (ℕ × ℕ)) × AreHidden shown passed × (entries ≡ passed ++ left)
 
 -- the next entry that is shown, and what is left behind it
 abbrev pub IsNextShown : (ℕ → Bool) → List (ℕ × ℕ) → Option (ℕ × ℕ) → List (ℕ × ℕ) → Type 0
 IsNextShown shown entries None left = AreHidden shown entries
-IsNextShown shown entries (Some found) left = (shown found.1 ≡ true) × PassesHidden shown entries (found ∷ left)
+IsNextShown shown entries (Some found) left =
+    (shown found.1 ≡ true) × PassesHidden shown entries (found ∷ left)
 
 -- what a store with an index keeps beside its device, which is on: where the live
 -- set is, and its index

@@ -51,7 +51,8 @@ IsNotOpened old answer new = ⊥
 -- two values, as a list
 abbrev pub both_of : ℕ → ℕ → ℕ → ℕ → List Put
 both_of first first_value second second_value =
-    record { address = first; value = first_value } ∷ record { address = second; value = second_value } ∷ []
+    record { address = first; value = first_value }
+    ∷ record { address = second; value = second_value } ∷ []
 
 -- what a store that was opened is asked, if anything
 abbrev pub AnswersOpen : Request ℕ → Device → Answer → Device → Type 0
@@ -60,12 +61,18 @@ AnswersOpen (Write address value) old Done new = Writes old address value (Ok wr
 AnswersOpen (Write address value) old Moved new = Writes old address value (Ok written.Moved) new
 AnswersOpen (Write address value) old Full new = Writes old address value (Err write.Full) new
 AnswersOpen (Write address value) old Spent new = Writes old address value (Err write.Spent) new
-AnswersOpen (Write address value) old ListTooShort new = Writes old address value (Err write.Cut) new
-AnswersOpen (WriteBoth first one second other) old Moved new = WritesAll old (both_of first one second other) (Ok written.Moved) new
-AnswersOpen (WriteBoth first one second other) old Twice new = WritesAll old (both_of first one second other) (Err (all.Twice 1)) new
-AnswersOpen (WriteBoth first one second other) old Full new = WritesAll old (both_of first one second other) (Err all.Full) new
-AnswersOpen (WriteBoth first one second other) old Spent new = WritesAll old (both_of first one second other) (Err all.Spent) new
-AnswersOpen (WriteBoth first one second other) old ListTooShort new = WritesAll old (both_of first one second other) (Err all.Cut) new
+AnswersOpen (Write address value) old ListTooShort new =
+    Writes old address value (Err write.Cut) new
+AnswersOpen (WriteBoth first one second other) old Moved new =
+    WritesAll old (both_of first one second other) (Ok written.Moved) new
+AnswersOpen (WriteBoth first one second other) old Twice new =
+    WritesAll old (both_of first one second other) (Err (all.Twice 1)) new
+AnswersOpen (WriteBoth first one second other) old Full new =
+    WritesAll old (both_of first one second other) (Err all.Full) new
+AnswersOpen (WriteBoth first one second other) old Spent new =
+    WritesAll old (both_of first one second other) (Err all.Spent) new
+AnswersOpen (WriteBoth first one second other) old ListTooShort new =
+    WritesAll old (both_of first one second other) (Err all.Cut) new
 AnswersOpen (Forget address) old Done new = Forgets old address (Ok written.Appended) new
 AnswersOpen (Forget address) old Moved new = Forgets old address (Ok written.Moved) new
 AnswersOpen (Forget address) old Absent new = Forgets old address (Err forget.Absent) new
@@ -86,7 +93,8 @@ abbrev pub Answers : Request ℕ → Device → Answer → Device → Type 0
 Answers Format old answer new = Formats old answer new
 Answers Rescue old answer new = RescuesWords old answer new
 Answers request old answer new =
-    IsNotOpened old answer new ⊎ ((opened : Device) × Opens old opened × AnswersOpen request opened answer new)
+    IsNotOpened old answer new
+    ⊎ ((opened : Device) × Opens old opened × AnswersOpen request opened answer new)
 
 -- how often power was cut by then: once more where the list is too short
 abbrev pub cuts_after : Answer → ℕ → ℕ
@@ -99,11 +107,14 @@ cuts_after answer cuts = cuts
 -- page, which wears it.
 abbrev pub WearsOnceMore : Device → List ℕ → Type 0
 WearsOnceMore device wear =
-    (wear ≡ device.wear) ⊎ ((page : ℕ) × (page < page_count device.size) × (wear ≡ (with_page_worn page device).wear))
+    (wear ≡ device.wear)
+    ⊎ ((page : ℕ) × (page < page_count device.size)
+    × (wear ≡ (with_page_worn page device).wear))
 
 -- Each place of the list is a step that can be taken, and power was cut in a further one, before it
 -- changed a word: what it left then is what the call leaves.
-pub record FillsList (start : Device) (listed : List ListedStep) (leaves : Device → Type 0) : Type 0 where
+pub record FillsList (start : Device) (listed : List ListedStep) (leaves : Device → Type 0)
+    : Type 0 where
   pub taken : CanTakeAll (steps_of (length listed) listed) start
   pub zeros : All IsZeroIfErase listed
   pub cut : Device
@@ -118,12 +129,14 @@ pub record IsEnded (start device : Device) (listed : List ListedStep) (count : �
   pub zeros : All IsZeroIfErase (take count listed)
   pub image : device.image ≡ (all_completed (steps_of count listed) start).image
   pub whole : device.cuts ≡ 0 → device ≡ all_completed (steps_of count listed) start
-  pub further : device.cuts ≡ 1 → WearsOnceMore (all_completed (steps_of count listed) start) device.wear
+  pub further : device.cuts ≡ 1
+      → WearsOnceMore (all_completed (steps_of count listed) start) device.wear
   pub full : (device.cuts ≡ 0 → ⊥) → count ≡ length listed
 
 -- what a draft of a request ends with: a device that is what the answer says, and the
 -- list of the steps to it
-pub record Drafts (request : Request ℕ) (start : Device) (answer : Answer) (listed : List ListedStep) (count : ℕ) : Type 0 where
+pub record Drafts (request : Request ℕ) (start : Device) (answer : Answer)
+    (listed : List ListedStep) (count : ℕ) : Type 0 where
   pub fresh : IsFresh start
   pub left : Device
   pub answers : Answers request start answer left

@@ -23,7 +23,8 @@ pub record WritesNothing (old new : Mirror) (count : ℕ) : Type 0 where
 
 -- The first so many of the listed steps can be taken, each when it comes, and an erase has the
 -- value 0; the mirror means what they lead to when they are played in order.
-pub record IsPlayed (size : Size) (old new : Mirror) (listed : List ListedStep) (count : ℕ) : Type 0 where
+pub record IsPlayed (size : Size) (old new : Mirror) (listed : List ListedStep) (count : ℕ)
+    : Type 0 where
   pub fits : MirrorFits size new
   pub within : count ≤ length listed
   pub taken : CanTakeAll (steps_of count listed) (device_in size old)
@@ -41,17 +42,22 @@ IsProperRequest request = Unit {0}
 -- list that is too short is full of steps, such as the call may have taken when power is cut in it,
 -- and nothing is written.
 abbrev pub EndsCall : Size → Request ℕ → Answer → Mirror → Mirror → List ListedStep → ℕ → Type 0
-EndsCall size request WrongShape old new listed count = ¬ MirrorFits size old × WritesNothing old new count
-EndsCall size request ImproperAddress old new listed count = MirrorFits size old × ¬ IsProperRequest request × WritesNothing old new count
+EndsCall size request WrongShape old new listed count =
+    ¬ MirrorFits size old × WritesNothing old new count
+EndsCall size request ImproperAddress old new listed count =
+    MirrorFits size old × ¬ IsProperRequest request × WritesNothing old new count
 EndsCall size request ListTooShort old new listed count =
     MirrorFits size old × IsProperRequest request × WritesNothing old new count
     × FillsList (device_in size old) listed (Answers request (device_in size old) ListTooShort)
 EndsCall size request (NoStore fault) old new listed count =
-    MirrorFits size old × IsProperRequest request × WritesNothing old new count × Answers request (device_in size old) (NoStore fault) (device_in size new)
+    MirrorFits size old × IsProperRequest request × WritesNothing old new count
+    × Answers request (device_in size old) (NoStore fault) (device_in size new)
 EndsCall size request answer old new listed count =
-    MirrorFits size old × IsProperRequest request × IsPlayed size old new listed count × Answers request (device_in size old) answer (device_in size new)
+    MirrorFits size old × IsProperRequest request × IsPlayed size old new listed count
+    × Answers request (device_in size old) answer (device_in size new)
 
 -- a call that takes steps: it tells one answer, which says what it says
 abbrev pub MakesCall : Size → Request ℕ → CallResult → Mirror → Mirror → List ListedStep → Type 0
 MakesCall size request result old new listed =
-    (answer : Answer) × (result ≡ result_of answer result.listed) × EndsCall size request answer old new listed result.listed
+    (answer : Answer) × (result ≡ result_of answer result.listed)
+    × EndsCall size request answer old new listed result.listed

@@ -9,7 +9,8 @@ use Rattle.ee_page.specs.declared.listing.ListedStep.{ListedStep}
 -- the step that is listed so: an erase of the page where its place is all ones, and else a program
 abbrev pub step_listed_so : ListedStep → Step
 step_listed_so listed =
-    if listed.place == all_ones then Erase listed.page else Program listed.page listed.place listed.value
+    if listed.place
+    == all_ones then Erase listed.page else Program listed.page listed.place listed.value
 
 -- an erase is listed with the value 0
 abbrev pub IsZeroIfErase : ListedStep → Type 0
@@ -21,5 +22,6 @@ steps_of count listed = map step_listed_so (take count listed)
 
 -- what a step leaves of a word that was this one
 abbrev pub left_by : Step → ℕ → ℕ → Word → Word
-left_by (Program changed place value) page at word = if (changed == page) && (place == at) then Held value else word
+left_by (Program changed place value) page at word =
+    if (changed == page) && (place == at) then Held value else word
 left_by (Erase changed) page at word = if changed == page then Erased else word

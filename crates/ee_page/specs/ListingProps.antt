@@ -11,12 +11,17 @@ use Rattle.ee_flash.specs.declared.word.Word.{Word}
 use Rattle.ee_flash.specs.declared.word.Word.TheVariants.{Erased, Held, Torn}
 
 -- a type that maps into a set and back is a set
-retract_set : {A B : Type 0} (to : A → B) (from : B → A) → ((x : A) → from (to x) ≡ x) → IsSet B → IsSet A
+retract_set : {A B : Type 0} (to : A → B) (from : B → A) → ((x : A) → from (to x) ≡ x) → IsSet B
+    → IsSet A
 retract_set to from back set = collapsible→set (λ x y p. sym (back x) ∙ ap from (ap to p) ∙ back y)
     (λ x y p q. ap (λ z. sym (back x) ∙ ap from z ∙ back y) (set (to x) (to y) (ap to p) (ap to q)))
 
 pub Word-set : IsSet Word
-Word-set = retract_set {B = Option (Option ℕ)} (elim [ Erased ↦ None | Held n ↦ Some (Some n) | Torn ↦ Some None ]) (elim [ None ↦ Erased | Some (Some n) ↦ Held n | Some None ↦ Torn ]) (elim [ Erased ↦ refl | Held n ↦ refl | Torn ↦ refl ]) (Prim.hlevel below.props)
+Word-set =
+    retract_set {B = Option (Option ℕ)}
+    (elim [ Erased ↦ None | Held n ↦ Some (Some n) | Torn ↦ Some None ])
+    (elim [ None ↦ Erased | Some (Some n) ↦ Held n | Some None ↦ Torn ])
+    (elim [ Erased ↦ refl | Held n ↦ refl | Torn ↦ refl ]) (Prim.hlevel below.props)
 
 pub ruleset words = (Word-set, below.props)
 
@@ -26,4 +31,5 @@ CanTake-prop (Erase page) device = Prim.hlevel words
 
 pub CanTakeAll-prop : (steps : List Step) (device : Device) → IsProp (CanTakeAll steps device)
 CanTakeAll-prop [] device = Prim.hlevel words
-CanTakeAll-prop (step ∷ steps) device = ×_prop (CanTake-prop step device) (CanTakeAll-prop steps (device_after step device))
+CanTakeAll-prop (step ∷ steps) device =
+    ×_prop (CanTake-prop step device) (CanTakeAll-prop steps (device_after step device))

@@ -23,9 +23,12 @@ none_found answer = record { answer = answer; address = 0; value = 0 }
 
 -- the value of an address, or that it has none, or why the words are no store
 abbrev pub ReadsValue : Device → ℕ → Answer → Found → Type 0
-ReadsValue device asked Done found = IsLegal device × (found.address ≡ asked) × ((state_of device).map asked ≡ Some found.value)
-ReadsValue device asked Nothing found = IsLegal device × (found ≡ none_found Nothing) × ((state_of device).map asked ≡ None)
-ReadsValue device asked (NoStore fault) found = IsScanFault device fault × (found ≡ none_found (NoStore fault))
+ReadsValue device asked Done found =
+    IsLegal device × (found.address ≡ asked) × ((state_of device).map asked ≡ Some found.value)
+ReadsValue device asked Nothing found =
+    IsLegal device × (found ≡ none_found Nothing) × ((state_of device).map asked ≡ None)
+ReadsValue device asked (NoStore fault) found =
+    IsScanFault device fault × (found ≡ none_found (NoStore fault))
 ReadsValue device asked answer found = ⊥
 
 abbrev pub IsValueRead : Device → ℕ → Found → Type 0
@@ -34,9 +37,12 @@ IsValueRead device asked found = ReadsValue device asked found.answer found
 -- the next address above this one that has a value, with the value, or that there is none, or why
 -- the words are no store
 abbrev pub FindsNext : Device → ℕ → Answer → Found → Type 0
-FindsNext device above Done found = IsLegal device × IsNextLive (state_of device).map above (Some (found.address, found.value))
-FindsNext device above Nothing found = IsLegal device × (found ≡ none_found Nothing) × IsNextLive (state_of device).map above None
-FindsNext device above (NoStore fault) found = IsScanFault device fault × (found ≡ none_found (NoStore fault))
+FindsNext device above Done found =
+    IsLegal device × IsNextLive (state_of device).map above (Some (found.address, found.value))
+FindsNext device above Nothing found =
+    IsLegal device × (found ≡ none_found Nothing) × IsNextLive (state_of device).map above None
+FindsNext device above (NoStore fault) found =
+    IsScanFault device fault × (found ≡ none_found (NoStore fault))
 FindsNext device above answer found = ⊥
 
 abbrev pub IsNext : Device → ℕ → Found → Type 0
@@ -52,12 +58,15 @@ pub record AreStoreCountsOf (slots : ℕ) (state : State) (counts : Counts) : Ty
 
 -- no counts
 abbrev pub none_counted : Answer → Counts
-none_counted answer = record { answer = answer; live = 0; fill = 0; room = 0; generation = 0; pending = 0 }
+none_counted answer =
+    record { answer = answer; live = 0; fill = 0; room = 0; generation = 0; pending = 0 }
 
 -- what a count answers and finds
 abbrev pub CountsFor : Device → Answer → Counts → Type 0
-CountsFor device Done counts = IsLegal device × AreStoreCountsOf (capacity device) (state_of device) counts
-CountsFor device (NoStore fault) counts = IsScanFault device fault × (counts ≡ none_counted (NoStore fault))
+CountsFor device Done counts =
+    IsLegal device × AreStoreCountsOf (capacity device) (state_of device) counts
+CountsFor device (NoStore fault) counts =
+    IsScanFault device fault × (counts ≡ none_counted (NoStore fault))
 CountsFor device answer counts = ⊥
 
 abbrev pub AreStoreCounts : Device → Counts → Type 0
@@ -98,10 +107,12 @@ Finds size finds proper found mirror =
 
 -- a look tells what it finds
 abbrev pub Looks : Size → (Device → Found → Type 0) → Type 0 → FoundResult → Mirror → Type 0
-Looks size finds proper result mirror = (found : Found) × (result ≡ found_result found) × Finds size finds proper found mirror
+Looks size finds proper result mirror =
+    (found : Found) × (result ≡ found_result found) × Finds size finds proper found mirror
 
 -- and a count
 abbrev pub CountsIn : Size → CountsResult → Mirror → Type 0
 CountsIn size result mirror =
     (counts : Counts) × (result ≡ counts_result counts)
-    × (((counts ≡ none_counted WrongShape) × ¬ MirrorFits size mirror) ⊎ (MirrorFits size mirror × AreStoreCounts (device_in size mirror) counts))
+    × (((counts ≡ none_counted WrongShape) × ¬ MirrorFits size mirror)
+    ⊎ (MirrorFits size mirror × AreStoreCounts (device_in size mirror) counts))

@@ -11,7 +11,8 @@ use Rattle.ee_flash.specs.declared.word.Word.TheVariants.{Erased, Held, Torn}
 -- what a number with its flag means: where the flag is not 0 the word could not be read; else all
 -- ones are an erased word, and any other number is held
 abbrev pub word_of_number : ℕ → ℕ → Word
-word_of_number number flag = if flag == 0 then (if number == all_ones then Erased else Held number) else Torn
+word_of_number number flag =
+    if flag == 0 then (if number == all_ones then Erased else Held number) else Torn
 
 -- the words that numbers and their flags mean
 unfoldable pub cells_of : List ℕ → List ℕ → List Word

@@ -22,13 +22,16 @@ blank_word words at blank = elim (cases_lt at (length words)) [
   | inl within ↦ elim (cases_Bool (is_written (word_in words at))) [
     | inr unwritten ↦ erased_word (word_in words at) unwritten
     | inl written ↦
-        let no : true ≡ false = sym blank ∙ ap not (list_any_at is_written words at Erased within written) in
+        let no : true ≡ false =
+        sym blank ∙ ap not (list_any_at is_written words at Erased within written) in
         cc no
   ]
 ]
 
-pub blank_set : (pages : List (List Word)) (page at : ℕ) → All (λ page. is_blank page ≡ true) pages → word_of pages page at ≡ Erased
+pub blank_set : (pages : List (List Word)) (page at : ℕ) → All (λ page. is_blank page ≡ true) pages
+    → word_of pages page at ≡ Erased
 blank_set pages page at blank = elim (cases_lt page (length pages)) [
   | inr past ↦ ap (λ words. word_in words at) (get_or_past pages page [] past)
-  | inl within ↦ blank_word (get_or pages page []) at (All-get_or (λ page. is_blank page ≡ true) pages page [] within blank)
+  | inl within ↦ blank_word (get_or pages page []) at
+      (All-get_or (λ page. is_blank page ≡ true) pages page [] within blank)
 ]

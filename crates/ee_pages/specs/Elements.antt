@@ -31,5 +31,6 @@ pub record IsLastElement (slots : List Word) (number address value : ℕ) : Type
 abbrev pub LastElementCounts : Type 0
 LastElementCounts =
     (slots : List Word) (address : ℕ) → HasNoForgetting slots
-    → ((number value : ℕ) → IsLastElement slots number address value → meaning slots address ≡ Some value)
+    → ((number value : ℕ) → IsLastElement slots number address value
+    → meaning slots address ≡ Some value)
     × (HasNoElement slots address → meaning slots address ≡ None)

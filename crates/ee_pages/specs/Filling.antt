@@ -24,33 +24,46 @@ pub record IsFilling (device : Device) (side : Side) (generation count : ℕ) : 
   pub formed : IsFormed device
   pub receives : word_of (set_of side device) 0 0 ≡ Held (receive generation)
   pub uncommitted : word_of (set_of side device) 0 1 ≡ Erased
-  pub allowed : (page at : ℕ) → page < device.size.pages → at < device.size.words → is_allowed_at device.size generation (set_of side device) page at ≡ true
+  pub allowed : (page at : ℕ) → page < device.size.pages → at < device.size.words
+      → is_allowed_at device.size generation (set_of side device) page at ≡ true
   pub fill : fill_of (slots_of (set_of side device)) ≡ count
 
 -- a receive word on the first page of a set of blank pages opens the set, with no slot written
 abbrev pub OpensSet : Type 0
 OpensSet =
-    (old new : Device) (side : Side) (generation : ℕ) → IsGeneration generation → All (λ page. is_blank page ≡ true) (set_of side old)
-    → let step = marking (first_page old.size side) (Receive generation) in IsStep step old new → new ≡ device_after step old
-    → IsFilling new side generation 0 × ((address : ℕ) → meaning (slots_of (set_of side new)) address ≡ None)
+    (old new : Device) (side : Side) (generation : ℕ) → IsGeneration generation
+    → All (λ page. is_blank page ≡ true) (set_of side old)
+    → let step =
+    marking (first_page old.size side) (Receive generation) in IsStep step old new
+    → new ≡ device_after step old
+    → IsFilling new side generation 0
+    × ((address : ℕ) → meaning (slots_of (set_of side new)) address ≡ None)
 
 -- a receive word on a further page, with every slot before that page written, opens the page
 abbrev pub OpensPage : Type 0
 OpensPage =
-    (page : ℕ) (old new : Device) (side : Side) (generation count : ℕ) → IsGeneration generation → IsFilling old side generation count
+    (page : ℕ) (old new : Device) (side : Side) (generation count : ℕ) → IsGeneration generation
+    → IsFilling old side generation count
     → page < old.size.pages → page * (old.size.words - header_words) ≤ count
-    → let step = marking (first_page old.size side + page) (Receive generation) in IsStep step old new → new ≡ device_after step old
-    → IsFilling new side generation count × (slots_of (set_of side new) ≡ slots_of (set_of side old))
+    → let step =
+    marking (first_page old.size side + page) (Receive generation) in IsStep step old new
+    → new ≡ device_after step old
+    → IsFilling new side generation count
+    × (slots_of (set_of side new) ≡ slots_of (set_of side old))
 
 -- a change in the first free slot changes the map that the set will have
 abbrev pub StagesChange : Type 0
 StagesChange =
-    (change : Change) (number : ℕ) (old new : Device) (side : Side) (generation count : ℕ) → IsFilling old side generation count
+    (change : Change) (number : ℕ) (old new : Device) (side : Side) (generation count : ℕ)
+    → IsFilling old side generation count
     → count < slot_count old.size → SpellsChange number change
-    → let step = slot_step old.size side count number in IsStep step old new → new ≡ device_after step old
+    → let step =
+    slot_step old.size side count number in IsStep step old new → new ≡ device_after step old
     → IsFilling new side generation (count + 1)
     × (slots_of (set_of side new) ≡ slice_set (slots_of (set_of side old)) count (Held number))
-    × ((address : ℕ) → meaning (slots_of (set_of side new)) address ≡ map_after change (meaning (slots_of (set_of side old))) address)
+    × ((address : ℕ)
+    → meaning (slots_of (set_of side new)) address
+    ≡ map_after change (meaning (slots_of (set_of side old))) address)
 
 -- the set that was filled is live now, with the slots that it was filled with
 pub record IsCommitted (old new : Device) (side : Side) (generation : ℕ) : Type 0 where
@@ -62,22 +75,30 @@ pub record IsCommitted (old new : Device) (side : Side) (generation : ℕ) : Typ
 -- pages of the set that was live are as they were.
 abbrev pub CommitCommits : Type 0
 CommitCommits =
-    (old new : Device) (side : Side) (generation count : ℕ) → IsLive old side generation → IsFilling old (other side) (generation + 1) count
-    → IsGeneration (generation + 1) → IsStep (marking (first_page old.size (other side)) Active) old new
+    (old new : Device) (side : Side) (generation count : ℕ) → IsLive old side generation
+    → IsFilling old (other side) (generation + 1) count
+    → IsGeneration (generation + 1)
+    → IsStep (marking (first_page old.size (other side)) Active) old new
     → (set_of side new ≡ set_of side old)
     × (KeepsLiveSet old new side generation ⊎ IsCommitted old new (other side) (generation + 1))
 
 -- the whole step makes it live
 abbrev pub WholeCommitCommits : Type 0
 WholeCommitCommits =
-    (old new : Device) (side : Side) (generation count : ℕ) → IsLive old side generation → IsFilling old (other side) (generation + 1) count
-    → IsGeneration (generation + 1) → let step = marking (first_page old.size (other side)) Active in IsStep step old new → new ≡ device_after step old
+    (old new : Device) (side : Side) (generation count : ℕ) → IsLive old side generation
+    → IsFilling old (other side) (generation + 1) count
+    → IsGeneration (generation + 1) → let step =
+    marking (first_page old.size (other side)) Active in IsStep step old new
+    → new ≡ device_after step old
     → IsCommitted old new (other side) (generation + 1)
 
 -- so it does where the other set is not committed, as in a device that was blank; and
 -- that set is as it was
 abbrev pub FirstCommitCommits : Type 0
 FirstCommitCommits =
-    (old new : Device) (side : Side) (generation count : ℕ) → IsFilling old side generation count → IsGeneration generation
-    → committed_generation (set_of (other side) old) ≡ None → let step = marking (first_page old.size side) Active in IsStep step old new → new ≡ device_after step old
+    (old new : Device) (side : Side) (generation count : ℕ) → IsFilling old side generation count
+    → IsGeneration generation
+    → committed_generation (set_of (other side) old) ≡ None → let step =
+    marking (first_page old.size side) Active in IsStep step old new
+    → new ≡ device_after step old
     → IsCommitted old new side generation × (set_of (other side) new ≡ set_of (other side) old)

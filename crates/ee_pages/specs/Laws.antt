@@ -22,7 +22,8 @@ pub record KeepsLiveSet (old new : Device) (side : Side) (generation : ℕ) : Ty
   pub same_size : new.size ≡ old.size
   pub same_slots : slots_of (set_of side new) ≡ slots_of (set_of side old)
   pub same_fill : fill_of (slots_of (set_of side new)) ≡ fill_of (slots_of (set_of side old))
-  pub same_map : (address : ℕ) → meaning (slots_of (set_of side new)) address ≡ meaning (slots_of (set_of side old)) address
+  pub same_map : (address : ℕ)
+      → meaning (slots_of (set_of side new)) address ≡ meaning (slots_of (set_of side old)) address
 
 -- The step can't commit the set whose first page this is: it erases a page, or programs another
 -- word than that page's receive word and active mark, or that receive word while the mark
@@ -36,19 +37,23 @@ CannotCommit first (Program page at value) old =
 -- step can commit that other set
 abbrev pub OtherSetKeepsLive : Type 0
 OtherSetKeepsLive =
-    (step : Step) (old new : Device) (side : Side) (generation : ℕ) → IsLive old side generation → IsStep step old new
-    → IsPageOf old.size (other side) (page_of step) → CannotCommit (first_page old.size (other side)) step old
+    (step : Step) (old new : Device) (side : Side) (generation : ℕ) → IsLive old side generation
+    → IsStep step old new
+    → IsPageOf old.size (other side) (page_of step)
+    → CannotCommit (first_page old.size (other side)) step old
     → KeepsLiveSet old new side generation × (set_of side new ≡ set_of side old)
 
 -- every outcome of a step leaves the other pages blank, or not, as they were
 abbrev pub StepKeepsOtherPages : Type 0
 StepKeepsOtherPages =
-    (step : Step) (old new : Device) (page : ℕ) → IsStep step old new → page ≢ page_of step → page_at new page ≡ page_at old page
+    (step : Step) (old new : Device) (page : ℕ) → IsStep step old new → page ≢ page_of step
+    → page_at new page ≡ page_at old page
 
 -- with the power on, a program leaves its page written, or all pages as they were
 abbrev pub ProgramLeavesWritten : Type 0
 ProgramLeavesWritten =
-    (page at value : ℕ) (old new : Device) → IsStep (Program page at value) old new → (new.image ≡ old.image) ⊎ (is_blank (page_at new page) ≡ false)
+    (page at value : ℕ) (old new : Device) → IsStep (Program page at value) old new
+    → (new.image ≡ old.image) ⊎ (is_blank (page_at new page) ≡ false)
 
 -- The set of this side is as before, page for page, and the other one commits as it did, or not at
 -- all. What stands in either is not said.
@@ -57,16 +62,23 @@ pub record KeepsSide (old new : Device) (side : Side) : Type 0 where
   pub same_size : new.size ≡ old.size
   pub same_set : set_of side new ≡ set_of side old
   pub same_slots : slots_of (set_of side new) ≡ slots_of (set_of side old)
-  pub commits : (committed_generation (set_of (other side) new) ≡ committed_generation (set_of (other side) old)) ⊎ (committed_generation (set_of (other side) new) ≡ None)
+  pub commits
+      :
+      (committed_generation (set_of (other side) new)
+      ≡ committed_generation (set_of (other side) old))
+      ⊎ (committed_generation (set_of (other side) new) ≡ None)
 
 -- every outcome of a step in the other set keeps this one, whatever stands in it, unless the step
 -- can commit the other
 abbrev pub OtherSetKeepsSide : Type 0
 OtherSetKeepsSide =
     (step : Step) (old new : Device) (side : Side) → IsStep step old new
-    → IsPageOf old.size (other side) (page_of step) → CannotCommit (first_page old.size (other side)) step old
+    → IsPageOf old.size (other side) (page_of step)
+    → CannotCommit (first_page old.size (other side)) step old
     → KeepsSide old new side
 
 -- so a live set is kept
 abbrev pub KeptSideIsLive : Type 0
-KeptSideIsLive = (old new : Device) (side : Side) (generation : ℕ) → IsLive old side generation → KeepsSide old new side → KeepsLiveSet old new side generation
+KeptSideIsLive =
+    (old new : Device) (side : Side) (generation : ℕ) → IsLive old side generation
+    → KeepsSide old new side → KeepsLiveSet old new side generation

@@ -63,7 +63,8 @@ slots_before size page at = page * (size.words - header_words) + (at - header_wo
 -- the word fits its place, and is erased if a slot before it is
 abbrev pub is_allowed : Size → ℕ → ℕ → ℕ → ℕ → Word → Bool
 is_allowed size generation written page at word =
-    fits generation (place_of page at) word && (not (is_written word) || nat_le (slots_before size page at) written)
+    fits generation (place_of page at) word
+    && (not (is_written word) || nat_le (slots_before size page at) written)
 
 -- the word at this place of the set, seen beside the set's front
 abbrev pub is_allowed_at : Size → ℕ → List (List Word) → ℕ → ℕ → Bool
@@ -74,7 +75,8 @@ is_allowed_at size generation pages page at =
 pub record IsLive (device : Device) (side : Side) (generation : ℕ) : Type 0 where
   pub formed : IsFormed device
   pub live : live_of device ≡ Some (side, generation)
-  pub allowed : (page at : ℕ) → page < device.size.pages → at < device.size.words → is_allowed_at device.size generation (set_of side device) page at ≡ true
+  pub allowed : (page at : ℕ) → page < device.size.pages → at < device.size.words
+      → is_allowed_at device.size generation (set_of side device) page at ≡ true
 
 -- there is a live set, and each of its words may stand in its place; the other set may hold
 -- anything

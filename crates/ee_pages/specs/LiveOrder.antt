@@ -12,7 +12,8 @@ IsNextLive map above (Some found) =
 -- these addresses, with their values, come next above this one, one after another
 abbrev pub AreNextLive : Map → ℕ → List (ℕ × ℕ) → Type 0
 AreNextLive map above [] = Unit {0}
-AreNextLive map above (found ∷ more) = IsNextLive map above (Some found) × AreNextLive map found.0 more
+AreNextLive map above (found ∷ more) =
+    IsNextLive map above (Some found) × AreNextLive map found.0 more
 
 -- the last of these addresses, or where there is none this one
 abbrev pub last_of : ℕ → List (ℕ × ℕ) → ℕ
@@ -26,7 +27,8 @@ IsNoneLive map above (Some through) =
     (above ≤ through) × ((address : ℕ) → above < address → address ≤ through → map address ≡ None)
 
 -- the addresses above this one that have a value, with their values, up to a further address or all
-pub record AreLiveThrough (map : Map) (above : ℕ) (found : List (ℕ × ℕ)) (through : Option ℕ) : Type 0 where
+pub record AreLiveThrough (map : Map) (above : ℕ) (found : List (ℕ × ℕ)) (through : Option ℕ)
+    : Type 0 where
   pub next : AreNextLive map above found
   pub rest : IsNoneLive map (last_of above found) through
   pub further : IfSome through (λ last. above < last)

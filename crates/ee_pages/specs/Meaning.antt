@@ -67,5 +67,7 @@ changed_by (change ∷ changes) map = changed_by changes (map_after change map)
 -- The change, of a proper address and a value that fits, is spelled by this number; the value in a
 -- forgetting means nothing.
 abbrev pub SpellsChange : ℕ → Change → Type 0
-SpellsChange number (Put address value) = IsAddress address × IsValue value × (number ≡ element address value)
-SpellsChange number (Forget address) = (value : ℕ) × IsAddress address × IsValue value × (number ≡ forgetting address value)
+SpellsChange number (Put address value) =
+    IsAddress address × IsValue value × (number ≡ element address value)
+SpellsChange number (Forget address) =
+    (value : ℕ) × IsAddress address × IsValue value × (number ≡ forgetting address value)

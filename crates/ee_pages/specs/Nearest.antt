@@ -44,7 +44,8 @@ noted_above above (Some new) list = if nat_lt above new.0 then with_named new li
 -- the list with what each of these words says of an address above this one, in their order
 abbrev pub with_each_named : ℕ → List Word → List Named → List Named
 with_each_named above [] list = list
-with_each_named above (word ∷ words) list = with_each_named above words (noted_above above (slot_names (slot_of word)) list)
+with_each_named above (word ∷ words) list =
+    with_each_named above words (noted_above above (slot_names (slot_of word)) list)
 
 -- those that have a value
 abbrev pub live_values : List Named → List (ℕ × ℕ)
@@ -68,7 +69,8 @@ IsOfAddress number = IsAddress (number % 2 ^ 16)
 
 -- the address in the number of an element or a forgetting, with what this says of it
 abbrev pub named_by : ℕ → Named
-named_by number = (number % 2 ^ 16, if number / 2 ^ 16 % 2 ^ 16 == 0 then Some (number / 2 ^ 32) else None)
+named_by number =
+    (number % 2 ^ 16, if number / 2 ^ 16 % 2 ^ 16 == 0 then Some (number / 2 ^ 32) else None)
 
 -- the address in it, with its value
 abbrev pub item_by : ℕ → ℕ × ℕ

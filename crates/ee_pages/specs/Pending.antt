@@ -17,26 +17,34 @@ use Rattle.ee_pages.specs.declared.side.Side.{Side}
 -- every outcome of erasing a page that is not blank leaves as many pages that are not, or one less
 abbrev pub EraseLowersPending : Type 0
 EraseLowersPending =
-    (page : ℕ) (old new : Device) (side : Side) → IsPageOf old.size side page → is_blank (page_at old page) ≡ false → IsStep (Erase page) old new
-    → (pending_of (set_of side new) ≡ pending_of (set_of side old)) ⊎ (pending_of (set_of side new) + 1 ≡ pending_of (set_of side old))
+    (page : ℕ) (old new : Device) (side : Side) → IsPageOf old.size side page
+    → is_blank (page_at old page) ≡ false → IsStep (Erase page) old new
+    → (pending_of (set_of side new) ≡ pending_of (set_of side old))
+    ⊎ (pending_of (set_of side new) + 1 ≡ pending_of (set_of side old))
 
 -- the whole step leaves one less
 abbrev pub WholeEraseLowersPending : Type 0
 WholeEraseLowersPending =
-    (page : ℕ) (old new : Device) (side : Side) → IsPageOf old.size side page → is_blank (page_at old page) ≡ false → IsStep (Erase page) old new
-    → new ≡ device_after (Erase page) old → (pending_of (set_of side new) + 1 ≡ pending_of (set_of side old)) × (is_blank (page_at new page) ≡ true)
+    (page : ℕ) (old new : Device) (side : Side) → IsPageOf old.size side page
+    → is_blank (page_at old page) ≡ false → IsStep (Erase page) old new
+    → new ≡ device_after (Erase page) old
+    → (pending_of (set_of side new) + 1 ≡ pending_of (set_of side old))
+    × (is_blank (page_at new page) ≡ true)
 
 -- every outcome of a program in a page that is not blank leaves as many pages that are not
 abbrev pub ProgramKeepsPending : Type 0
 ProgramKeepsPending =
-    (page at value : ℕ) (old new : Device) (side : Side) → IsPageOf old.size side page → is_blank (page_at old page) ≡ false
-    → IsStep (Program page at value) old new → pending_of (set_of side new) ≡ pending_of (set_of side old)
+    (page at value : ℕ) (old new : Device) (side : Side) → IsPageOf old.size side page
+    → is_blank (page_at old page) ≡ false
+    → IsStep (Program page at value) old new
+    → pending_of (set_of side new) ≡ pending_of (set_of side old)
 
 -- a live set of which every slot is written has no blank page
 abbrev pub FullSetHasNoBlankPage : Type 0
 FullSetHasNoBlankPage =
     (device : Device) (side : Side) (generation : ℕ) → IsLive device side generation
-    → fill_of (slots_of (set_of side device)) ≡ slot_count device.size → pending_of (set_of side device) ≡ device.size.pages
+    → fill_of (slots_of (set_of side device)) ≡ slot_count device.size
+    → pending_of (set_of side device) ≡ device.size.pages
 
 -- each address that has a value takes a slot
 abbrev pub LiveWithinFill : Type 0
@@ -44,8 +52,12 @@ LiveWithinFill = (slots : List Word) → live_in (meaning slots) ≤ fill_of slo
 
 -- how many addresses have a value after a change: one more or less than before, or as many
 abbrev pub IsCountAfter : Change → Map → Type 0
-IsCountAfter (Put address value) map = live_in (map_after (Put address value) map) ≡ live_in map + (if is_some (map address) then 0 else 1)
-IsCountAfter (Forget address) map = live_in (map_after (Forget address) map) + (if is_some (map address) then 1 else 0) ≡ live_in map
+IsCountAfter (Put address value) map =
+    live_in (map_after (Put address value) map)
+    ≡ live_in map + (if is_some (map address) then 0 else 1)
+IsCountAfter (Forget address) map =
+    live_in (map_after (Forget address) map) + (if is_some (map address) then 1 else 0)
+    ≡ live_in map
 
 -- the address of a change
 abbrev pub address_of : Change → ℕ
@@ -53,4 +65,5 @@ address_of (Put address value) = address
 address_of (Forget address) = address
 
 abbrev pub ChangeCounts : Type 0
-ChangeCounts = (change : Change) (map : Map) → IsAddress (address_of change) → IsCountAfter change map
+ChangeCounts =
+    (change : Change) (map : Map) → IsAddress (address_of change) → IsCountAfter change map

@@ -24,13 +24,16 @@ pub record IsMarkBehind (device : Device) (side : Side) (page : ℕ) (mark : Mar
 -- every outcome of programming such a mark keeps the live set, and the other set as it was
 abbrev pub MarkKeepsLive : Type 0
 MarkKeepsLive =
-    (page : ℕ) (mark : Mark) (old new : Device) (side : Side) (generation : ℕ) → IsLive old side generation
-    → IsMarkBehind old side page mark → IsStep (marking (first_page old.size side + page) mark) old new
+    (page : ℕ) (mark : Mark) (old new : Device) (side : Side) (generation : ℕ)
+    → IsLive old side generation
+    → IsMarkBehind old side page mark
+    → IsStep (marking (first_page old.size side + page) mark) old new
     → KeepsLiveSet old new side generation × (set_of (other side) new ≡ set_of (other side) old)
 
 -- the step that programs a slot of a set, by the slot's number
 abbrev pub slot_step : Size → Side → ℕ → ℕ → Step
-slot_step size side slot number = Program (first_page size side + page_of_slot size slot) (place_of_slot size slot) number
+slot_step size side slot number =
+    Program (first_page size side + page_of_slot size slot) (place_of_slot size slot) number
 
 -- one slot more of the live set is written, and its map is this one
 pub record TakesSlot (old new : Device) (side : Side) (generation : ℕ) (map : Map) : Type 0 where
@@ -44,8 +47,11 @@ pub record TakesSlot (old new : Device) (side : Side) (generation : ℕ) (map : 
 -- other set as it was.
 abbrev pub PushTakes : Type 0
 PushTakes =
-    (change : Change) (number : ℕ) (old new : Device) (side : Side) (generation : ℕ) → IsLive old side generation
-    → let slots = slots_of (set_of side old) in fill_of slots < slot_count old.size → SpellsChange number change
+    (change : Change) (number : ℕ) (old new : Device) (side : Side) (generation : ℕ)
+    → IsLive old side generation
+    → let slots =
+    slots_of (set_of side old) in fill_of slots < slot_count old.size
+    → SpellsChange number change
     → IsStep (slot_step old.size side (fill_of slots) number) old new
     → (set_of (other side) new ≡ set_of (other side) old)
     × (KeepsLiveSet old new side generation ⊎ TakesSlot old new side generation (meaning slots)
@@ -54,8 +60,13 @@ PushTakes =
 -- the whole step writes the slot, and no other
 abbrev pub WholePushTakes : Type 0
 WholePushTakes =
-    (change : Change) (number : ℕ) (old new : Device) (side : Side) (generation : ℕ) → IsLive old side generation
-    → let slots = slots_of (set_of side old) in fill_of slots < slot_count old.size → SpellsChange number change
-    → let step = slot_step old.size side (fill_of slots) number in IsStep step old new → new ≡ device_after step old
+    (change : Change) (number : ℕ) (old new : Device) (side : Side) (generation : ℕ)
+    → IsLive old side generation
+    → let slots =
+    slots_of (set_of side old) in fill_of slots < slot_count old.size
+    → SpellsChange number change
+    → let step =
+    slot_step old.size side (fill_of slots) number in IsStep step old new
+    → new ≡ device_after step old
     → TakesSlot old new side generation (map_after change (meaning slots))
     × (slots_of (set_of side new) ≡ slice_set slots (fill_of slots) (Held number))

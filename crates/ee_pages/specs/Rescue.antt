@@ -70,12 +70,16 @@ rescued_map device = map_of_side device (rescued_side device)
 -- the word does not commit the set, in one of the two places that do
 abbrev pub fails_to_commit : ℕ → ℕ → Word → Bool
 fails_to_commit page at word =
-    (page == 0) && (((at == 0) && not (is_some (receive_of word))) || ((at == 1) && not (is_mark (mark_of word))))
+    (page == 0)
+    && (((at == 0) && not (is_some (receive_of word))) ||
+    ((at == 1) && not (is_mark (mark_of word))))
 
 -- a word of a set can't be read, or may not stand in its place
 abbrev pub is_bad : Size → List (List Word) → ℕ → ℕ → Bool
 is_bad size pages page at =
-    is_torn (word_of pages page at) || not (is_allowed_at size (named_generation pages) pages page at) || fails_to_commit page at (word_of pages page at)
+    is_torn (word_of pages page at) || not
+    (is_allowed_at size (named_generation pages) pages page at) || fails_to_commit page at
+    (word_of pages page at)
 
 -- how many of the numbers below this one pass the test
 unfoldable pub count_below : (ℕ → Bool) → ℕ → ℕ
@@ -85,7 +89,8 @@ count_below test (suc number) = count_below test number + (if test number then 1
 -- how many words of the first pages of a set, so many, are bad
 unfoldable pub bad_in_pages : Size → List (List Word) → ℕ → ℕ
 bad_in_pages size pages zero = 0
-bad_in_pages size pages (suc page) = bad_in_pages size pages page + count_below (is_bad size pages page) size.words
+bad_in_pages size pages (suc page) =
+    bad_in_pages size pages page + count_below (is_bad size pages page) size.words
 
 abbrev pub bad_words_in : Device → Option Side → ℕ
 bad_words_in device None = 0

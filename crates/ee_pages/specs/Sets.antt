@@ -38,7 +38,8 @@ is_mark Foreign = false
 
 -- The generation of a committed set: its first page has a receive word and a mark that can be read.
 abbrev pub committed_generation : List (List Word) → Option ℕ
-committed_generation pages = if is_mark (mark_of (word_of pages 0 1)) then receive_of (word_of pages 0 0) else None
+committed_generation pages =
+    if is_mark (mark_of (word_of pages 0 1)) then receive_of (word_of pages 0 0) else None
 
 -- of two sets that are committed so, the one with the greater generation, and that generation
 abbrev pub greater_set : Option ℕ → Option ℕ → Option (Side × ℕ)
@@ -51,7 +52,9 @@ greater_set (Some first) (Some second) =
 
 -- the live set and its generation
 abbrev pub live_of : Device → Option (Side × ℕ)
-live_of device = greater_set (committed_generation (set_of First device)) (committed_generation (set_of Second device))
+live_of device =
+    greater_set (committed_generation (set_of First device))
+    (committed_generation (set_of Second device))
 
 -- the slots of a set: the words behind the headers of its pages, in order
 abbrev pub slots_of : List (List Word) → List Word

@@ -28,14 +28,16 @@ ones_in_both : (a b : ℕ) → a ≡ 4294967295 → b ≡ 4294967295 → bit_and
 ones_in_both a b first second = rw (first, second) (and_self 4294967295)
 
 -- what a word is that isn't torn
-pub whole_erased : (number check : ℕ) → pair_word number check ≢ Torn → number ≡ all_ones → pair_word number check ≡ Erased
+pub whole_erased : (number check : ℕ) → pair_word number check ≢ Torn → number ≡ all_ones
+    → pair_word number check ≡ Erased
 whole_erased number check whole same = elim (word_cases number check) [
   | inl erased ↦ erased.2
   | inr (inl held) ↦ absurd (held.0 same)
   | inr (inr torn) ↦ absurd (whole torn)
 ]
 
-pub whole_held : (number check : ℕ) → pair_word number check ≢ Torn → number ≢ all_ones → pair_word number check ≡ Held number
+pub whole_held : (number check : ℕ) → pair_word number check ≢ Torn → number ≢ all_ones
+    → pair_word number check ≡ Held number
 whole_held number check whole other = elim (word_cases number check) [
   | inl erased ↦ absurd (other erased.0)
   | inr (inl held) ↦ held.2
@@ -46,7 +48,8 @@ whole_held number check whole other = elim (word_cases number check) [
 module _ (number check low high check_low check_high : ℕ)
     (fits : IsNorNumber number) (check_fits : IsNorNumber check)
     (is_low : low ≡ number % 4294967296) (is_high : high ≡ number / 4294967296)
-    (is_check_low : check_low ≡ check % 4294967296) (is_check_high : check_high ≡ check / 4294967296) where
+    (is_check_low : check_low ≡ check % 4294967296)
+    (is_check_high : check_high ≡ check / 4294967296) where
   erased_ones : bit_and low high ≡ 4294967295 → number ≡ all_ones
   erased_ones all =
       let both = both_ones low high (omega arith) (omega arith) all in
@@ -118,14 +121,16 @@ module _ (number check low high check_low check_high : ℕ)
   held_number all some =
       let is = sums_complement all in
       let other : number ≢ all_ones = λ same. some (omega (arith, is, same)) in
-      let word : pair_word number check ≡ Held number = rw (ne_eqb number all_ones other, eq-eqb check (complement number) is) refl in
+      let word : pair_word number check ≡ Held number =
+      rw (ne_eqb number all_ones other, eq-eqb check (complement number) is) refl in
       rw word refl
 
   pub unchecked_number : sums ≡ 4294967295 → check ≡ 0 → 0 ≡ number_of (pair_word number check)
   unchecked_number all none =
       let same : number ≡ all_ones = omega (arith, sums_complement all, none, fits) in
       let apart : check ≢ all_ones = omega (arith, none) in
-      let word : pair_word number check ≡ Torn = rw (eq-eqb number all_ones same, ne_eqb check all_ones apart) refl in
+      let word : pair_word number check ≡ Torn =
+      rw (eq-eqb number all_ones same, ne_eqb check all_ones apart) refl in
       rw word refl
 
   abbrev ones : ℕ
@@ -133,8 +138,12 @@ module _ (number check low high check_low check_high : ℕ)
 
   ones_all : ones ≡ 4294967295 → (number ≡ all_ones) × (check ≡ all_ones)
   ones_all all =
-      let outer = both_ones (bit_and (bit_and low high) check_low) check_high (omega (arith, and_le_r (bit_and low high) check_low)) (omega arith) all in
-      let inner = both_ones (bit_and low high) check_low (omega (arith, and_le_r low high)) (omega arith) outer.0 in
+      let outer =
+      both_ones (bit_and (bit_and low high) check_low) check_high
+      (omega (arith, and_le_r (bit_and low high) check_low)) (omega arith) all in
+      let inner =
+      both_ones (bit_and low high) check_low (omega (arith, and_le_r low high)) (omega arith)
+      outer.0 in
       (erased_ones inner.0, check_ones (ones_in_both check_low check_high inner.1 outer.1))
 
   all_ones_in : number ≡ all_ones → check ≡ all_ones → ones ≡ 4294967295
@@ -146,7 +155,8 @@ module _ (number check low high check_low check_high : ℕ)
   pub erased_number : ones ≡ 4294967295 → all_ones ≡ number_of (pair_word number check)
   erased_number all =
       let both = ones_all all in
-      let word : pair_word number check ≡ Erased = rw (eq-eqb number all_ones both.0, eq-eqb check all_ones both.1) refl in
+      let word : pair_word number check ≡ Erased =
+      rw (eq-eqb number all_ones both.0, eq-eqb check all_ones both.1) refl in
       rw word refl
 
   -- and every other word is torn

@@ -20,28 +20,35 @@ same_run_of_pairs numbers room at count as_long each =
     let number_of_word = λ (word : ℕ). number_of (pair_in numbers word) in
     same_number_lists room (run_of_pairs numbers at count)
     (as_long ∙ sym (length-map-range_with_len number_of_word at count)) (λ k h.
-    each k (omega arith) ∙ sym (get_or-map-range_with_len number_of_word at count k (at + k) 0 (omega arith) (omega arith)))
+    each k (omega arith)
+    ∙ sym
+    (get_or-map-range_with_len number_of_word at count k (at + k) 0 (omega arith)
+    (omega arith)))
 
 -- the two numbers of a word stand in a part of the page as in the page
 module _ (numbers : List ℕ) (at count : ℕ) where
   abbrev part : List ℕ
   part = take (2 * count) (drop (2 * at) numbers)
 
-  there : (place : ℕ) → place < 2 * count → number_in part place ≡ number_in numbers (2 * at + place)
+  there : (place : ℕ) → place < 2 * count
+      → number_in part place ≡ number_in numbers (2 * at + place)
   there place below =
-      get_or-take (2 * count) (drop (2 * at) numbers) place all_ones below ∙ get_or-drop (2 * at) numbers place all_ones
+      get_or-take (2 * count) (drop (2 * at) numbers) place all_ones below
+      ∙ get_or-drop (2 * at) numbers place all_ones
 
   first_there : (k : ℕ) → k < count → number_in part (2 * k) ≡ number_in numbers (2 * (at + k))
   first_there k below = there (2 * k) (omega arith) ∙ ap (number_in numbers) (omega arith)
 
-  second_there : (k : ℕ) → k < count → number_in part (2 * k + 1) ≡ number_in numbers (2 * (at + k) + 1)
+  second_there : (k : ℕ) → k < count
+      → number_in part (2 * k + 1) ≡ number_in numbers (2 * (at + k) + 1)
   second_there k below = there (2 * k + 1) (omega arith) ∙ ap (number_in numbers) (omega arith)
 
   -- a run in a part of the page, from its beginning on, is the page's from there on
   pub run_of_pairs-window : run_of_pairs part 0 count ≡ run_of_pairs numbers at count
   run_of_pairs-window =
       let number_of_word = λ (word : ℕ). number_of (pair_in part word) in
-      same_run_of_pairs numbers (run_of_pairs part 0 count) at count (length-map-range_with_len number_of_word 0 count) (λ k h.
+      same_run_of_pairs numbers (run_of_pairs part 0 count) at count
+      (length-map-range_with_len number_of_word 0 count) (λ k h.
       let first = first_there k h in
       let second = second_there k h in
       get_or-map-range_with_len number_of_word 0 count k k 0 h (omega arith) ∙ cc)
@@ -51,18 +58,23 @@ module _ (numbers : List ℕ) (at count : ℕ) where
   high-window to within high word from below =
       let k = word - at in
       let same : at + k ≡ word = omega arith in
-      let first = first_there k (omega arith) ∙ ap (λ (place : ℕ). number_in numbers (2 * place)) same in
-      let second = second_there k (omega arith) ∙ ap (λ (place : ℕ). number_in numbers (2 * place + 1)) same in
+      let first =
+      first_there k (omega arith) ∙ ap (λ (place : ℕ). number_in numbers (2 * place)) same in
+      let second =
+      second_there k (omega arith)
+      ∙ ap (λ (place : ℕ). number_in numbers (2 * place + 1)) same in
       omega (arith, high k (omega arith) (omega arith), first, second)
 
 -- it is the run of the device of words
 pub run-pairs : (nor : NorDevice) (page at count : ℕ) → IsNorFormed nor → page < page_count nor.size
-    → at + count ≤ nor.size.words → run_of_pairs (numbers_at nor page) at count ≡ run_of (paired_device nor) page at count
+    → at + count ≤ nor.size.words
+    → run_of_pairs (numbers_at nor page) at count ≡ run_of (paired_device nor) page at count
 run-pairs nor page at count formed in_range within =
     let numbers = numbers_at nor page in
     let words = pair_words nor.size.words numbers in
     let there : page_at (paired_device nor) page ≡ words =
-    get_or-map (pair_words nor.size.words) nor.image page [] [] (omega (arith, formed.image_length)) in
+    get_or-map (pair_words nor.size.words) nor.image page [] []
+    (omega (arith, formed.image_length)) in
     let long : length (take count (drop at words)) ≡ count =
     simp (length-take, length-drop) (omega (arith, length-pair_words nor.size.words numbers)) in
     sym (same_run_of_pairs numbers (map number_of (take count (drop at words))) at count

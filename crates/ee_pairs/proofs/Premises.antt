@@ -7,5 +7,6 @@ use Rattle.ee_pairs.specs.Pairs.{pair_word}
 
 -- Of two numbers that sum to less than all ones an erase that is cut can make a
 -- number that nobody wrote.
-erase_makes_no_number_needs_a_high_pair : HasBits 1 0 × HasBits (all_ones - 1) 0 × (pair_word 0 0 ≡ Torn) × (pair_word 1 (all_ones - 1) ≡ Held 1)
+erase_makes_no_number_needs_a_high_pair : HasBits 1 0 × HasBits (all_ones - 1) 0
+    × (pair_word 0 0 ≡ Torn) × (pair_word 1 (all_ones - 1) ≡ Held 1)
 erase_makes_no_number_needs_a_high_pair = (refl, refl, refl, refl)

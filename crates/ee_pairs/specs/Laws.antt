@@ -10,15 +10,18 @@ use Rattle.ee_pairs.specs.Pairs.{complement, paired_device, pair_word}
 -- every bit of the value, its second every bit of the complement.
 abbrev pub TornIsTold : Type 0
 TornIsTold =
-    (value number check held : ℕ) → value < all_ones → HasBits number value → HasBits check (complement value)
+    (value number check held : ℕ) → value < all_ones → HasBits number value
+    → HasBits check (complement value)
     → pair_word number check ≡ Held held → held ≡ value
 
 -- An erase that is cut makes no number: where it leaves one, that stood there. It needs that the
 -- two numbers did not sum to less than all ones, and that stays so.
 abbrev pub EraseMakesNoNumber : Type 0
 EraseMakesNoNumber =
-    (number check left left_check : ℕ) → IsNorNumber left → all_ones ≤ number + check → HasBits left number → HasBits left_check check
-    → (all_ones ≤ left + left_check) × ((held : ℕ) → pair_word left left_check ≡ Held held → pair_word number check ≡ Held held)
+    (number check left left_check : ℕ) → IsNorNumber left → all_ones ≤ number + check
+    → HasBits left number → HasBits left_check check
+    → (all_ones ≤ left + left_check)
+    × ((held : ℕ) → pair_word left left_check ≡ Held held → pair_word number check ≡ Held held)
 
 -- the number of these parts, each of so many bits, the least first
 abbrev pub number_of_parts : ℕ → List ℕ → ℕ
@@ -37,8 +40,10 @@ MayPartBe bits asked left = HasBits left asked ⊎ (left ≡ 2 ^ bits - 1)
 -- that is cut may leave it.
 abbrev pub PartsAreAProgram : Type 0
 PartsAreAProgram =
-    (bits : ℕ) (asked left : List ℕ) → length left ≡ length asked → All (IsPart bits) asked → All (IsPart bits) left
-    → ((part : ℕ) → MayPartBe bits (slice_index asked part) (slice_index left part)) → HasBits (number_of_parts bits left) (number_of_parts bits asked)
+    (bits : ℕ) (asked left : List ℕ) → length left ≡ length asked → All (IsPart bits) asked
+    → All (IsPart bits) left
+    → ((part : ℕ) → MayPartBe bits (slice_index asked part) (slice_index left part))
+    → HasBits (number_of_parts bits left) (number_of_parts bits asked)
 
 -- The words of a formed device of numbers are a formed device.
 abbrev pub PairsAreFormed : Type 0

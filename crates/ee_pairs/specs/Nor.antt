@@ -64,16 +64,19 @@ with_numbers page numbers device = record device { image = slice_set device.imag
 
 -- with this number in that place
 abbrev pub with_number : ℕ → ℕ → ℕ → NorDevice → NorDevice
-with_number page at number device = with_numbers page (slice_set (numbers_at device page) at number) device
+with_number page at number device =
+    with_numbers page (slice_set (numbers_at device page) at number) device
 
 -- with the page's wear one more
 abbrev pub with_nor_page_worn : ℕ → NorDevice → NorDevice
-with_nor_page_worn page device = record device { wear = slice_set device.wear page (one_more (slice_index device.wear page)) }
+with_nor_page_worn page device =
+    record device { wear = slice_set device.wear page (one_more (slice_index device.wear page)) }
 
 -- with all ones in a page, which is what erasing makes of it
 abbrev pub with_numbers_erased : ℕ → NorDevice → NorDevice
 with_numbers_erased page device =
-    with_nor_page_worn page (with_numbers page (replicate (number_count device.size) all_ones) device)
+    with_nor_page_worn page
+    (with_numbers page (replicate (number_count device.size) all_ones) device)
 
 -- the device after the whole step
 abbrev pub nor_after : NorStep → NorDevice → NorDevice
@@ -95,7 +98,8 @@ pub record MakesNoPair (old new : List ℕ) : Type 0 where
   pub as_long : length new ≡ length old
   pub each : (word : ℕ) → number_in new (2 * word) ≢ all_ones
       → number_in new (2 * word) + number_in new (2 * word + 1) ≡ all_ones
-      → (number_in new (2 * word) ≡ number_in old (2 * word)) × (number_in new (2 * word + 1) ≡ number_in old (2 * word + 1))
+      → (number_in new (2 * word) ≡ number_in old (2 * word))
+      × (number_in new (2 * word + 1) ≡ number_in old (2 * word + 1))
 
 -- What a cut in an erase may leave of its page. Where cells go from zero to one alone, each number
 -- has every bit that it had. Where the flash clears all cells first, a number may have any bits,
@@ -108,9 +112,11 @@ MayEraseLeave false old new = KeepsBits old new
 -- programmed, so a program leaves a number that has every bit of the one asked for. All else stays.
 abbrev pub MayLeaveNumbers : NorStep → NorDevice → NorDevice → Type 0
 MayLeaveNumbers (ProgramNumber page at number) old new =
-    HasBits (number_at new page at) number × (new.image ≡ (with_number page at (number_at new page at) old).image)
+    HasBits (number_at new page at) number
+    × (new.image ≡ (with_number page at (number_at new page at) old).image)
 MayLeaveNumbers (EraseNumbers page) old new =
-    MayEraseLeave old.clears_first (numbers_at old page) (numbers_at new page) × (new.image ≡ (with_numbers page (numbers_at new page) old).image)
+    MayEraseLeave old.clears_first (numbers_at old page) (numbers_at new page)
+    × (new.image ≡ (with_numbers page (numbers_at new page) old).image)
 
 -- power was cut in this step
 pub record IsNorCutIn (step : NorStep) (old new : NorDevice) : Type 0 where

@@ -30,7 +30,8 @@ pair_words count numbers = map (pair_in numbers) (range_with_len 0 count)
 
 -- the numbers of so many words of a page, from a word on, as a run of them has them
 abbrev pub run_of_pairs : List ℕ → ℕ → ℕ → List ℕ
-run_of_pairs numbers at count = map (λ word. number_of (pair_in numbers word)) (range_with_len at count)
+run_of_pairs numbers at count =
+    map (λ word. number_of (pair_in numbers word)) (range_with_len at count)
 
 -- the device of words that a device of numbers is
 abbrev pub paired_device : NorDevice → Device

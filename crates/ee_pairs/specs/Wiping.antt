@@ -15,7 +15,8 @@ is_all_ones numbers = not (list_any is_programmed numbers)
 
 -- with a page erased that holds something; a blank one stays as it is
 abbrev pub with_page_wiped : ℕ → NorDevice → NorDevice
-with_page_wiped page nor = if is_all_ones (numbers_at nor page) then nor else with_numbers_erased page nor
+with_page_wiped page nor =
+    if is_all_ones (numbers_at nor page) then nor else with_numbers_erased page nor
 
 -- with each page below this one wiped, from page 0 on
 unfoldable pub wiped_below : ℕ → NorDevice → NorDevice

@@ -15,16 +15,19 @@ use Rattle.ee_part.proofs.Inspections.{last_before, last_behind, no_last, some_l
 
 -- ---- what is said, and by which slot
 
-later_some : (old new : Option (Option ℕ)) → is_some (later_of old new) ≡ (is_some old || is_some new)
+later_some : (old new : Option (Option ℕ))
+    → is_some (later_of old new) ≡ (is_some old || is_some new)
 later_some None None = refl
 later_some (Some old) None = refl
 later_some None (Some new) = refl
 later_some (Some old) (Some new) = refl
 
-pub said_by_some : (slots : List Word) (address : ℕ) → is_some (latest_in slots address) ≡ list_any (speaks_of address) slots
+pub said_by_some : (slots : List Word) (address : ℕ)
+    → is_some (latest_in slots address) ≡ list_any (speaks_of address) slots
 said_by_some [] address = refl
 said_by_some (slot ∷ slots) address =
-    later_some (says slot address) (latest_in slots address) ∙ ap (λ b. is_some (says slot address) || b) (said_by_some slots address)
+    later_some (says slot address) (latest_in slots address)
+    ∙ ap (λ b. is_some (says slot address) || b) (said_by_some slots address)
 
 not_none : (said : Option (Option ℕ)) → is_some said ≡ true → said ≢ None
 not_none None some = absurd (cc some)
@@ -49,12 +52,14 @@ pub record IsParted (such : Word → Bool) (slots : List Word) : Type 0 where
   pub of_kind : such at ≡ true
   pub none_behind : list_any such behind ≡ false
 
-pub parted : (such : Word → Bool) (slots : List Word) → list_any such slots ≡ true → IsParted such slots
+pub parted : (such : Word → Bool) (slots : List Word) → list_any such slots ≡ true
+    → IsParted such slots
 parted such [] some = absurd (cc some)
 parted such (first ∷ slots) some = elim (cases_Bool (list_any such slots)) [
   | inl more ↦
       let rest = parted such slots more in
-      let any : list_any such (first ∷ slots) ≡ true = or_right (such first) (list_any such slots) more in
+      let any : list_any such (first ∷ slots) ≡ true =
+      or_right (such first) (list_any such slots) more in
       let up : up_to_last such (first ∷ slots) ≡ suc (up_to_last such slots) =
       ap (λ b. cond b (suc (up_to_last such slots)) 0) any in
       record {
@@ -75,12 +80,16 @@ parted such (first ∷ slots) some = elim (cases_Bool (list_any such slots)) [
         behind = slots;
         slots_are = refl;
         count = omega (arith, up, no_last such slots none);
-        of_kind = true_from_ne_false (such first) (λ no. both_ways (such first || list_any such slots) (or_from (such first) (list_any such slots) no none) some);
+        of_kind =
+            true_from_ne_false (such first)
+            (λ no. both_ways (such first || list_any such slots)
+            (or_from (such first) (list_any such slots) no none) some);
         none_behind = none;
       }
 ]
 
-pub up_or_none : (such : Word → Bool) (slots : List Word) → 0 < up_to_last such slots → list_any such slots ≡ true
+pub up_or_none : (such : Word → Bool) (slots : List Word) → 0 < up_to_last such slots
+    → list_any such slots ≡ true
 up_or_none such slots some = search (rules, cases_Bool, no_last)
 
 pub last_within : (such : Word → Bool) (slots : List Word) → up_to_last such slots ≤ length slots
@@ -98,13 +107,16 @@ torn_is word h1 = search rules
 
 -- ---- both ways
 
-doubt_from : (slots : List Word) (address spoken torn : ℕ) → spoken ≡ up_to_last (speaks_of address) slots → torn ≡ up_to_last is_torn slots
-    → 0 < spoken → spoken < torn → IsDoubted slots address
+doubt_from : (slots : List Word) (address spoken torn : ℕ)
+    → spoken ≡ up_to_last (speaks_of address) slots → torn ≡ up_to_last is_torn slots → 0 < spoken
+    → spoken < torn → IsDoubted slots address
 doubt_from slots address spoken torn spoken_is torn_is_last some less =
     let speaks : Word → Bool = speaks_of address in
-    let parts = parted is_torn slots (up_or_none is_torn slots (omega (arith, torn_is_last, less))) in
+    let parts =
+    parted is_torn slots (up_or_none is_torn slots (omega (arith, torn_is_last, less))) in
     let torn_at = torn_is parts.at parts.of_kind in
-    let silent : list_any speaks (parts.at ∷ parts.behind) ≡ false = elim (cases_Bool (list_any speaks (parts.at ∷ parts.behind))) [
+    let silent : list_any speaks (parts.at ∷ parts.behind) ≡ false =
+    elim (cases_Bool (list_any speaks (parts.at ∷ parts.behind))) [
       | inl said ↦
           let up = last_behind speaks parts.before (parts.at ∷ parts.behind) said in
           let positive = some_last speaks (parts.at ∷ parts.behind) said in
@@ -113,32 +125,42 @@ doubt_from slots address spoken torn spoken_is torn_is_last some less =
       | inr none ↦ none
     ] in
     let before : up_to_last speaks slots ≡ up_to_last speaks parts.before =
-    ap (up_to_last speaks) parts.slots_are ∙ last_before speaks parts.before (parts.at ∷ parts.behind) silent in
-    let said : list_any speaks parts.before ≡ true = up_or_none speaks parts.before (omega (arith, before, spoken_is, some)) in
+    ap (up_to_last speaks) parts.slots_are
+    ∙ last_before speaks parts.before (parts.at ∷ parts.behind) silent in
+    let said : list_any speaks parts.before ≡ true =
+    up_or_none speaks parts.before (omega (arith, before, spoken_is, some)) in
     record {
       before = parts.before;
       behind = parts.behind;
       slots_are = parts.slots_are ∙ ap (λ word. parts.before ++ word ∷ parts.behind) torn_at;
       said = not_none (latest_in parts.before address) (said_by_some parts.before address ∙ said);
       silent = is_none (latest_in parts.behind address)
-          (said_by_some parts.behind address ∙ (or_parts (speaks parts.at) (list_any speaks parts.behind) silent).1);
+          (said_by_some parts.behind address
+          ∙ (or_parts (speaks parts.at) (list_any speaks parts.behind) silent).1);
     }
 
 doubt_to : (slots : List Word) (address : ℕ) → IsDoubted slots address
-    → (0 < up_to_last (speaks_of address) slots) × (up_to_last (speaks_of address) slots < up_to_last is_torn slots)
+    → (0 < up_to_last (speaks_of address) slots)
+    × (up_to_last (speaks_of address) slots < up_to_last is_torn slots)
 doubt_to slots address doubted =
     let speaks : Word → Bool = speaks_of address in
     let said : list_any speaks doubted.before ≡ true =
-    sym (said_by_some doubted.before address) ∙ some_of (latest_in doubted.before address) doubted.said in
+    sym (said_by_some doubted.before address)
+    ∙ some_of (latest_in doubted.before address) doubted.said in
     let silent : list_any speaks doubted.behind ≡ false =
     sym (said_by_some doubted.behind address) ∙ ap is_some doubted.silent in
-    let up = ap (up_to_last speaks) doubted.slots_are ∙ last_before speaks doubted.before (Torn ∷ doubted.behind) silent in
+    let up =
+    ap (up_to_last speaks) doubted.slots_are
+    ∙ last_before speaks doubted.before (Torn ∷ doubted.behind) silent in
     let torn : list_any is_torn (Torn ∷ doubted.behind) ≡ true = refl in
-    let last = ap (up_to_last is_torn) doubted.slots_are ∙ last_behind is_torn doubted.before (Torn ∷ doubted.behind) torn in
+    let last =
+    ap (up_to_last is_torn) doubted.slots_are
+    ∙ last_behind is_torn doubted.before (Torn ∷ doubted.behind) torn in
     let positive = some_last is_torn (Torn ∷ doubted.behind) torn in
     let some = some_last speaks doubted.before said in
     let within = last_within speaks doubted.before in
     (omega (arith, up, some), omega (arith, up, last, positive, within))
 
 pub doubts_are_told : DoubtsAreTold
-doubts_are_told slots address = search (rules, and_from, and_parts, doubt_from, doubt_to, lt-ltb, ltb-true)
+doubts_are_told slots address =
+    search (rules, and_from, and_parts, doubt_from, doubt_to, lt-ltb, ltb-true)

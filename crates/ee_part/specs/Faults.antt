@@ -40,4 +40,6 @@ pub record IsDeviceFault (device : Device) (fault : Fault) : Type 0 where
 
 -- why there is no dump of an image: it spells no device, or one that has no dump
 abbrev pub IsExportFault : List ℕ → Fault → Type 0
-IsExportFault image fault = IsReadingFault image fault ⊎ ((device : Device) × SpellsDevice image device × IsDeviceFault device fault)
+IsExportFault image fault =
+    IsReadingFault image fault
+    ⊎ ((device : Device) × SpellsDevice image device × IsDeviceFault device fault)

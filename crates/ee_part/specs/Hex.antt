@@ -42,14 +42,16 @@ fault_of_hex (hex.BadLine line) = BadLine Dump line
 fault_of_hex hex.Memory = Memory
 
 -- why a text says no dump of a part of this size at this address
-pub record IsHexTextFault (form : Form) (size : Size) (base : ℕ) (text : List ℕ) (fault : Fault) : Type 0 where
+pub record IsHexTextFault (form : Form) (size : Size) (base : ℕ) (text : List ℕ) (fault : Fault)
+    : Type 0 where
   pub fits : PartFits form base size
   pub cause : HexFault
   pub applies : IsHexFault text base (dump_length form size) cause
   pub fault_is : fault ≡ fault_of_hex cause
 
 -- why the bytes that a text says are no dump of such a part
-pub record IsHexDumpFault (form : Form) (size : Size) (base : ℕ) (text : List ℕ) (fault : Fault) : Type 0 where
+pub record IsHexDumpFault (form : Form) (size : Size) (base : ℕ) (text : List ℕ) (fault : Fault)
+    : Type 0 where
   pub dump : List ℕ
   pub fits : PartFits form base size
   pub says : IsHexOf text base (dump_length form size) dump
@@ -59,14 +61,19 @@ pub record IsHexDumpFault (form : Form) (size : Size) (base : ℕ) (text : List 
 -- what it says is no dump
 abbrev pub IsHexImportFault : Form → Size → ℕ → List ℕ → Fault → Type 0
 IsHexImportFault form size base text fault =
-    ((¬ PartFits form base size) × (fault ≡ Base)) ⊎ IsHexTextFault form size base text fault ⊎ IsHexDumpFault form size base text fault
+    ((¬ PartFits form base size) × (fault ≡ Base)) ⊎ IsHexTextFault form size base text fault
+    ⊎ IsHexDumpFault form size base text fault
 
 -- why a device's dump is not told from this address on: it ends behind the last one, or there is
 -- none
 abbrev pub IsPlacedFault : Form → Device → ℕ → Fault → Type 0
-IsPlacedFault form device base fault = ((¬ PartFits form base device.size) × (fault ≡ Base)) ⊎ (PartFits form base device.size × IsDeviceFault device fault)
+IsPlacedFault form device base fault =
+    ((¬ PartFits form base device.size) × (fault ≡ Base))
+    ⊎ (PartFits form base device.size × IsDeviceFault device fault)
 
 -- why there is no text from an image: it spells no device, or one whose dump is not told
 -- from this address on
 abbrev pub IsHexExportFault : Form → List ℕ → ℕ → Fault → Type 0
-IsHexExportFault form image base fault = IsReadingFault image fault ⊎ ((device : Device) × SpellsDevice image device × IsPlacedFault form device base fault)
+IsHexExportFault form image base fault =
+    IsReadingFault image fault
+    ⊎ ((device : Device) × SpellsDevice image device × IsPlacedFault form device base fault)

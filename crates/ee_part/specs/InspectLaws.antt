@@ -10,7 +10,8 @@ use Rattle.ee_part.specs.Inspecting.{is_in_doubt, scan_words}
 
 -- the line of a fault says behind `image ` what the scan's line says
 abbrev pub ScanIsToldAsItsFault : Type 0
-ScanIsToldAsItsFault = (fault : ScanFault) → cause (fault_of_scan fault) ≡ codes "image " ++ scan_words fault
+ScanIsToldAsItsFault =
+    (fault : ScanFault) → cause (fault_of_scan fault) ≡ codes "image " ++ scan_words fault
 
 -- the slots that give an address its value and the torn ones are used, and none is both: the
 -- others are superseded
@@ -27,4 +28,5 @@ pub record IsDoubted (slots : List Word) (address : ℕ) : Type 0 where
 
 -- those are the addresses that are told to be in doubt
 abbrev pub DoubtsAreTold : Type 0
-DoubtsAreTold = (slots : List Word) (address : ℕ) → (is_in_doubt slots address ≡ true) ↔ IsDoubted slots address
+DoubtsAreTold =
+    (slots : List Word) (address : ℕ) → (is_in_doubt slots address ≡ true) ↔ IsDoubted slots address

@@ -62,12 +62,14 @@ usage_in device layout =
 -- what its line says: the set and its slots, and what they are used for
 abbrev pub slots_text : Usage → List ℕ
 slots_text usage =
-    joined_fields (codes "set" ∷ decimal usage.set ∷ codes "generation" ∷ decimal usage.generation ∷ codes "fill" ∷ decimal usage.fill
+    joined_fields (codes "set" ∷ decimal usage.set ∷ codes "generation" ∷ decimal usage.generation
+    ∷ codes "fill" ∷ decimal usage.fill
     ∷ codes "room" ∷ decimal usage.room ∷ [])
 
 abbrev pub parts_text : Usage → List ℕ
 parts_text usage =
-    joined_fields (codes "live" ∷ decimal usage.live ∷ codes "pending" ∷ decimal usage.pending ∷ codes "superseded"
+    joined_fields (codes "live" ∷ decimal usage.live ∷ codes "pending" ∷ decimal usage.pending
+    ∷ codes "superseded"
     ∷ decimal usage.superseded ∷ codes "torn" ∷ decimal usage.torn ∷ [])
 
 abbrev pub set_text : Usage → List ℕ
@@ -77,32 +79,38 @@ set_text usage = joined_fields (slots_text usage ∷ parts_text usage ∷ [])
 
 -- the page, by its number in the device, is one of the set
 abbrev pub is_page_of : Size → Side → ℕ → Bool
-is_page_of size side page = nat_le (first_page size side) page && nat_lt page (first_page size side + size.pages)
+is_page_of size side page =
+    nat_le (first_page size side) page && nat_lt page (first_page size side + size.pages)
 
 -- what a word is to the live set, if there is one: a word of a header, a slot, or none of its words
 abbrev pub place_name : Size → Option Side → ℕ → ℕ → List ℕ
 place_name size None page at = codes "other"
 place_name size (Some side) page at =
-    if is_page_of size side page then (if nat_lt at 4 then codes "header" else codes "slot") else codes "other"
+    if is_page_of size side page then (if nat_lt at 4 then codes "header" else codes "slot") else
+    codes "other"
 
 -- the line of a word that is torn, and none for another
 abbrev pub torn_line : Device → Option Side → ℕ → ℕ → List ℕ
 torn_line device live page at =
     if is_torn (word_at device page at)
-    then line_of (joined_fields (codes "torn" ∷ decimal page ∷ decimal at ∷ place_name device.size live page at ∷ []))
+    then line_of
+    (joined_fields
+    (codes "torn" ∷ decimal page ∷ decimal at ∷ place_name device.size live page at ∷ []))
     else []
 
 -- by page, and then place
 abbrev pub torn_lines : Device → Option Side → List ℕ
 torn_lines device live =
-    each_below (page_count device.size) (λ page. each_below device.size.words (torn_line device live page))
+    each_below (page_count device.size)
+    (λ page. each_below device.size.words (torn_line device live page))
 
 -- ---- the addresses in doubt
 
 -- how many slots there are up to the last such one, and with it; 0 if there is none
 abbrev pub up_to_last : (Word → Bool) → List Word → ℕ
 up_to_last such [] = 0
-up_to_last such (slot ∷ slots) = if list_any such (slot ∷ slots) then suc (up_to_last such slots) else 0
+up_to_last such (slot ∷ slots) =
+    if list_any such (slot ∷ slots) then suc (up_to_last such slots) else 0
 
 -- the slot says that the address has a value, or that it has none
 abbrev pub speaks_of : ℕ → Word → Bool
@@ -116,7 +124,8 @@ gives_to address slot = is_some (value_said (says slot address))
 -- speaks of it as an address
 pub record AreSpoken (slots : List Word) (spoken : List ℕ) : Type 0 where
   pub long : length spoken ≡ 65535
-  pub each : (address : ℕ) → address < 65535 → slice_index_or spoken address 0 ≡ up_to_last (speaks_of address) slots
+  pub each : (address : ℕ) → address < 65535
+      → slice_index_or spoken address 0 ≡ up_to_last (speaks_of address) slots
 
 -- the last slot that speaks of an address stands before the last torn one, which may have been
 -- another change of it
@@ -124,11 +133,13 @@ abbrev pub is_before : ℕ → ℕ → Bool
 is_before spoken torn = nat_lt 0 spoken && nat_lt spoken torn
 
 abbrev pub is_in_doubt : List Word → ℕ → Bool
-is_in_doubt slots address = is_before (up_to_last (speaks_of address) slots) (up_to_last is_torn slots)
+is_in_doubt slots address =
+    is_before (up_to_last (speaks_of address) slots) (up_to_last is_torn slots)
 
 -- the line of an address that is in doubt, and none for another
 abbrev pub doubt_line : Bool → ℕ → List ℕ
-doubt_line doubted address = if doubted then line_of (joined_fields (codes "doubt" ∷ decimal address ∷ [])) else []
+doubt_line doubted address =
+    if doubted then line_of (joined_fields (codes "doubt" ∷ decimal address ∷ [])) else []
 
 -- by rising address
 abbrev pub doubt_lines : List Word → List ℕ
@@ -139,9 +150,11 @@ doubt_lines slots = each_below 65535 (λ address. doubt_line (is_in_doubt slots 
 -- the lines of a device of which a scan finds this
 abbrev pub found_lines : Device → Result Layout ScanFault → List ℕ
 found_lines device (Ok layout) =
-    line_of (codes "scan ok") ++ line_of (set_text (usage_in device layout)) ++ torn_lines device (Some layout.side)
+    line_of (codes "scan ok") ++ line_of (set_text (usage_in device layout))
+    ++ torn_lines device (Some layout.side)
     ++ doubt_lines (live_slots device layout)
-found_lines device (Err fault) = line_of (codes "scan " ++ scan_words fault) ++ torn_lines device None
+found_lines device (Err fault) =
+    line_of (codes "scan " ++ scan_words fault) ++ torn_lines device None
 
 -- the lines of a device: a scan finds a live set or a fault, one of them
 pub record AreFindings (device : Device) (lines : List ℕ) : Type 0 where

@@ -17,13 +17,17 @@ use Rattle.ee_part.specs.Moving.{IsExported, IsImported}
 -- makes the image of the same device, unworn
 abbrev pub ImportOfExport : Type 0
 ImportOfExport =
-    (form : Form) (image dump : List ℕ) (device : Device) → SpellsDevice image device → IsExported form image dump
+    (form : Form) (image dump : List ℕ) (device : Device) → SpellsDevice image device
+    → IsExported form image dump
     → ((fault : Fault) → IsImportFault form device.size dump fault → fault ≡ Memory)
-    × ((other : List ℕ) → IsImported form device.size dump other → SpellsDevice other (unworn_device device))
+    × ((other : List ℕ) → IsImported form device.size dump other
+    → SpellsDevice other (unworn_device device))
 
 -- the image that a dump makes is exported as that dump
 abbrev pub ExportOfImport : Type 0
-ExportOfImport = (image dump : List ℕ) (size : Size) → IsImported Words size dump image → IsExported Words image dump × ((other : List ℕ) → IsExported Words image other → other ≡ dump)
+ExportOfImport =
+    (image dump : List ℕ) (size : Size) → IsImported Words size dump image
+    → IsExported Words image dump × ((other : List ℕ) → IsExported Words image other → other ≡ dump)
 
 -- and so it is of pairs, where no word of it is torn
 abbrev pub PairsExportOfImport : Type 0
@@ -35,6 +39,8 @@ PairsExportOfImport =
 -- and so it is by Intel HEX, from the address on that it was exported at
 abbrev pub HexImportOfExport : Type 0
 HexImportOfExport =
-    (form : Form) (image hex : List ℕ) (base : ℕ) (device : Device) → SpellsDevice image device → IsHexExported form image base hex
+    (form : Form) (image hex : List ℕ) (base : ℕ) (device : Device) → SpellsDevice image device
+    → IsHexExported form image base hex
     → ((fault : Fault) → IsHexImportFault form device.size base hex fault → fault ≡ Memory)
-    × ((other : List ℕ) → IsHexImported form device.size base hex other → SpellsDevice other (unworn_device device))
+    × ((other : List ℕ) → IsHexImported form device.size base hex other
+    → SpellsDevice other (unworn_device device))

@@ -17,16 +17,34 @@ no_slots = record { slots = 0; fill = 0; live = [] }
 
 -- `fewest_moves_last_as_long` needs that no clean step erases: a page that one erases wears, where
 -- a schedule of no change wears none
-pub fewest_moves_last_as_long_needs_no_clean_step : ((start : Situation) (trace : List Change) (calls : List Call) (old new : Device)
-    → MakesFewest start trace calls old new → ((state_of old).pending ≡ 0) ⊎ FirstWaits old → LastsAsLong 0 start trace old new)
-    → (old new : Device) → IsFormed old → FirstWaits old → CountsWear old → Cleans old (Ok true) new → ⊥
+pub fewest_moves_last_as_long_needs_no_clean_step
+    :
+    ((start : Situation) (trace : List Change) (calls : List Call) (old new : Device)
+    → MakesFewest start trace calls old new
+    → ((state_of old).pending ≡ 0) ⊎ FirstWaits old → LastsAsLong 0 start trace old new)
+    → (old new : Device) → IsFormed old → FirstWaits old → CountsWear old → Cleans old (Ok true) new
+    → ⊥
 fewest_moves_last_as_long_needs_no_clean_step law old new formed first counts cleaned =
     let page = cleaned.lowest.page in
     let within = cleaned.lowest.wear.there 0 0 (omega arith) in
-    let run : IsWholeRun (Cleaned (Ok true) ∷ []) old new = record { run = (new, cleaned, refl); without_cuts = All-cons (λ (call : Call). is_cut call ≡ false) (Cleaned (Ok true)) [] refl (All-nil (λ (call : Call). is_cut call ≡ false)) } in
-    let made : MakesFewest no_slots [] (Cleaned (Ok true) ∷ []) old new = record { run = run; fewest = λ schedule is. omega arith } in
-    let lasts = law no_slots [] (Cleaned (Ok true) ∷ []) old new made (inr first) [] first.side first.generation [] page (record { allowed = tt; changes = refl }) first.live (record { taken = record { formed = formed; on = cleaned.was_on; can = tt }; turns = refl; blank = tt }) (omega (arith, within, formed.wear_length)) in
+    let run : IsWholeRun (Cleaned (Ok true) ∷ []) old new = record {
+      run = (new, cleaned, refl);
+      without_cuts =
+          All-cons (λ (call : Call). is_cut call ≡ false) (Cleaned (Ok true)) [] refl
+          (All-nil (λ (call : Call). is_cut call ≡ false));
+    } in
+    let made : MakesFewest no_slots [] (Cleaned (Ok true) ∷ []) old new =
+    record { run = run; fewest = λ schedule is. omega arith } in
+    let lasts =
+    law no_slots [] (Cleaned (Ok true) ∷ []) old new made (inr first) [] first.side
+    first.generation [] page (record { allowed = tt; changes = refl }) first.live
+    (record {
+      taken = record { formed = formed; on = cleaned.was_on; can = tt };
+      turns = refl;
+      blank = tt;
+    }) (omega (arith, within, formed.wear_length)) in
     let below = counts page 0 within in
     let more : wear_at new page ≡ one_more (wear_at old page) =
-    ap (λ (wear : List ℕ). get_or wear page 0) cleaned.lowest.wear.wear_is ∙ get_or-set_same old.wear page (one_more (wear_at old page)) 0 within in
+    ap (λ (wear : List ℕ). get_or wear page 0) cleaned.lowest.wear.wear_is
+    ∙ get_or-set_same old.wear page (one_more (wear_at old page)) 0 within in
     absurd (omega (arith, lasts.2, below, more))

@@ -21,15 +21,20 @@ use Rattle.ee_plan.specs.Wearing.{Transfer}
 -- calls, but for so many erases.
 abbrev pub LastsAsLong : ℕ → Situation → List Change → Device → Device → Type 0
 LastsAsLong fewer start trace old new =
-    (schedule : List Move) (side : Side) (generation : ℕ) (steps : List Step) (page : ℕ) → IsSchedule start trace schedule
-    → live_of old ≡ Some (side, generation) → Transfer (cost schedule) side steps old → page < page_count old.size
-    → (worn : ℕ) × (worn < page_count old.size) × (wear_at new page ≤ wear_at old page + erases_of worn steps + fewer)
+    (schedule : List Move) (side : Side) (generation : ℕ) (steps : List Step) (page : ℕ)
+    → IsSchedule start trace schedule
+    → live_of old ≡ Some (side, generation) → Transfer (cost schedule) side steps old
+    → page < page_count old.size
+    → (worn : ℕ) × (worn < page_count old.size)
+    × (wear_at new page ≤ wear_at old page + erases_of worn steps + fewer)
 
 -- Calls of a store, in which power is not cut, made no more transfers than any
 -- schedule of the trace.
-pub record MakesFewest (start : Situation) (trace : List Change) (calls : List Call) (old new : Device) : Type 0 where
+pub record MakesFewest (start : Situation) (trace : List Change) (calls : List Call)
+    (old new : Device) : Type 0 where
   pub run : IsWholeRun calls old new
-  pub fewest : (schedule : List Move) → IsSchedule start trace schedule → transfers calls ≤ cost schedule
+  pub fewest : (schedule : List Move) → IsSchedule start trace schedule
+      → transfers calls ≤ cost schedule
 
 -- Then no store lasts longer, but for one erase.
 abbrev pub FewestMovesLast : Type 0

@@ -22,7 +22,9 @@ is_entry size side (Erase page) = false
 
 -- the set that a step enters, if it enters one
 abbrev pub entered_by : Size → Step → List Side
-entered_by size step = if is_entry size First step then First ∷ [] else (if is_entry size Second step then Second ∷ [] else [])
+entered_by size step =
+    if is_entry size First step then First
+    ∷ [] else (if is_entry size Second step then Second ∷ [] else [])
 
 -- the sets that steps enter, in their order
 abbrev pub entered_sets : Size → List Step → List Side
@@ -37,13 +39,15 @@ by_turns side (suc more) = side ∷ by_turns (other side) more
 abbrev pub EnterBlank : List Step → Device → Type 0
 EnterBlank [] device = Unit {0}
 EnterBlank (step ∷ steps) device =
-    All (λ side. is_blank (page_at device (first_page device.size side)) ≡ true) (entered_by device.size step)
+    All (λ side. is_blank (page_at device (first_page device.size side)) ≡ true)
+    (entered_by device.size step)
     × EnterBlank steps (device_after step device)
 
 -- Steps that a device takes, and that make so many transfers, if this set of it is live at the
 -- start: each enters the set that isn't live then, so the sets take turns, and the other one is the
 -- first. Whatever else they program and erase is free.
-pub record Transfer (transfers : ℕ) (side : Side) (steps : List Step) (device : Device) : Type 0 where
+pub record Transfer (transfers : ℕ) (side : Side) (steps : List Step) (device : Device)
+    : Type 0 where
   pub taken : AreTaken steps device
   pub turns : entered_sets device.size steps ≡ by_turns (other side) transfers
   pub blank : EnterBlank steps device
@@ -53,7 +57,8 @@ pub record Transfer (transfers : ℕ) (side : Side) (steps : List Step) (device 
 -- So often at least is the first page of each set erased: that of the set that was live, and that
 -- of the other, which was blank or was not. A word is programmed once between two erases of its
 -- page, so a set is entered once.
-pub record WearsAtLeast (transfers : ℕ) (side : Side) (steps : List Step) (device : Device) : Type 0 where
+pub record WearsAtLeast (transfers : ℕ) (side : Side) (steps : List Step) (device : Device)
+    : Type 0 where
   pub live : transfers / 2 ≤ erases_of (first_page device.size side) steps
   pub spare : is_blank (page_at device (first_page device.size (other side))) ≡ true
       → (transfers + 1) / 2 - 1 ≤ erases_of (first_page device.size (other side)) steps
@@ -64,12 +69,15 @@ pub record WearsAtLeast (transfers : ℕ) (side : Side) (steps : List Step) (dev
 -- whatever steps, on whatever device it starts.
 abbrev pub NoneWearsLess : Situation → List Change → ℕ → Type 0
 NoneWearsLess start trace transfers =
-    (schedule : List Move) (side : Side) (generation : ℕ) (steps : List Step) (device : Device) → IsSchedule start trace schedule
-    → live_of device ≡ Some (side, generation) → Transfer (cost schedule) side steps device → WearsAtLeast transfers side steps device
+    (schedule : List Move) (side : Side) (generation : ℕ) (steps : List Step) (device : Device)
+    → IsSchedule start trace schedule
+    → live_of device ≡ Some (side, generation) → Transfer (cost schedule) side steps device
+    → WearsAtLeast transfers side steps device
 
 -- It is so of as many transfers as no schedule spares. The law is proved by the
 -- function of its name.
 abbrev pub FewestTransfersWear : Type 0
 FewestTransfersWear =
-    (start : Situation) (trace : List Change) (transfers : ℕ) → ((schedule : List Move) → IsSchedule start trace schedule → transfers ≤ cost schedule)
+    (start : Situation) (trace : List Change) (transfers : ℕ)
+    → ((schedule : List Move) → IsSchedule start trace schedule → transfers ≤ cost schedule)
     → NoneWearsLess start trace transfers

@@ -26,19 +26,23 @@ above_both : (k x : ℕ) (xs : List ℕ) → k < x → AllByRecursion (λ y. nat
 above_both k x [] h above = tt
 above_both k x (y ∷ ys) h above = search (rules, smaller, from_less, (above_both k x ys h above.1))
 
-pub insert_sorted : (xs : List ℕ) (k : ℕ) → IsStrictlySortedBy nat_cmp xs → IsStrictlySortedBy nat_cmp (insert_key nat_cmp xs k)
+pub insert_sorted : (xs : List ℕ) (k : ℕ) → IsStrictlySortedBy nat_cmp xs
+    → IsStrictlySortedBy nat_cmp (insert_key nat_cmp xs k)
 unfolding IsStrictlySortedBy
 insert_sorted [] k sorted = (tt, tt)
 insert_sorted (x ∷ xs) k sorted = elim (cases_lt k x) [
-  | inl before ↦ rw (smaller k x before) ((smaller k x before, above_both k x xs before sorted.0), sorted)
+  | inl before ↦ rw (smaller k x before)
+      ((smaller k x before, above_both k x xs before sorted.0), sorted)
   | inr behind ↦ elim (cases_eq k x) [
     | inl here ↦ rw (same k x here) sorted
     | inr apart ↦
         let later : x < k = omega arith in
         let P = λ (y : ℕ). nat_cmp x y ≡ Less in
         let beyond : All P xs = All-from_recursion P xs sorted.0 in
-        let above : All P (insert_key nat_cmp xs k) = All-insert_key nat_cmp k P xs beyond (smaller x k later) in
-        rw (greater k x later) (recursion_from_All P (insert_key nat_cmp xs k) above, insert_sorted xs k sorted.1)
+        let above : All P (insert_key nat_cmp xs k) =
+        All-insert_key nat_cmp k P xs beyond (smaller x k later) in
+        rw (greater k x later)
+        (recursion_from_All P (insert_key nat_cmp xs k) above, insert_sorted xs k sorted.1)
   ]
 ]
 
@@ -51,6 +55,7 @@ remove_sorted (x ∷ xs) k sorted = elim (cases_eq k x) [
   | inr apart ↦
       let P = λ (y : ℕ). nat_cmp x y ≡ Less in
       let left = remove_key (is_at (nat_cmp k)) xs in
-      let above : All P left = All-remove_key (is_at (nat_cmp k)) P xs (All-from_recursion P xs sorted.0) in
+      let above : All P left =
+      All-remove_key (is_at (nat_cmp k)) P xs (All-from_recursion P xs sorted.0) in
       rw (not_at k x apart) (recursion_from_All P left above, remove_sorted xs k sorted.1)
 ]

@@ -42,18 +42,21 @@ Makes old change n new = TakesFreeSlot old change new ⊎ Carries old change n n
 
 -- After n changes of the trace its stretches are tight, and as many slots are used as were where
 -- the last of them ended, and one for each change since.
-pub record HasMade (start : Situation) (trace : List Change) (n : ℕ) (store : LateStore) : Type 0 where
+pub record HasMade (start : Situation) (trace : List Change) (n : ℕ) (store : LateStore)
+    : Type 0 where
   pub slots : store.now.slots ≡ start.slots
   pub live : store.now.live ≡ live_after start.live (take n trace)
   pub keeps : KeepsWithin start.slots start.live (take n trace)
   pub stretches : EachStretch start trace IsTightStretch (first_place start) store.stretches
   pub from : store.from ≡ (last_place start trace (first_place start) store.stretches).used
   pub behind : (last_place start trace (first_place start) store.stretches).after ≤ n
-  pub fill : store.now.fill ≡ store.from + (n - (last_place start trace (first_place start) store.stretches).after)
+  pub fill : store.now.fill
+      ≡ store.from + (n - (last_place start trace (first_place start) store.stretches).after)
   pub held : length store.now.live ≤ store.now.fill
   pub fits : store.now.fill ≤ start.slots
 
 -- why change n isn't made
 abbrev pub IsChangeRefused : LateStore → Change → ℕ → PlanFault → Type 0
-IsChangeRefused old change n (NotFitting number) = (number ≡ n) × (old.now.slots < length (live_after_one old.now.live change))
+IsChangeRefused old change n (NotFitting number) =
+    (number ≡ n) × (old.now.slots < length (live_after_one old.now.live change))
 IsChangeRefused old change n Memory = Unit {0}

@@ -9,7 +9,8 @@ use Rattle.ee_planner.specs.declared.walking.Walk.{Walk}
 -- how many addresses are live before each change
 abbrev pub counts_before : List ℕ → List Change → List ℕ
 counts_before live [] = []
-counts_before live (change ∷ changes) = length live ∷ counts_before (live_after_one live change) changes
+counts_before live (change ∷ changes) =
+    length live ∷ counts_before (live_after_one live change) changes
 
 -- behind each count come so many more that are the same
 pub record AreFlats (counts flats : List ℕ) : Type 0 where

@@ -10,7 +10,8 @@ use Rattle.ee_planner.specs.declared.planned.PlanFault.{PlanFault}
 use Rattle.ee_planner.specs.declared.planned.PlanFault.TheVariants.{NotFitting, Memory}
 
 -- the certificate is the tight one, and the rest of the plan is read off it
-pub record IsPlan {A : Type 0} (start : Situation) (trace : List Change) (plan : Plan A) : Type 0 where
+pub record IsPlan {A : Type 0} (start : Situation) (trace : List Change) (plan : Plan A)
+    : Type 0 where
   pub tight : IsTight start trace (claim_of plan.certificate)
   pub transfers : plan.transfers ≡ length plan.certificate.stretches.items
   pub moments : plan.moments.items ≡ map (λ stretch. stretch.to) plan.certificate.stretches.items
@@ -26,7 +27,8 @@ pub record IsReached (start : Situation) (trace : List Change) (transfers free :
 -- each schedule of the trace makes more transfers, or as many, and ends with no more slots free
 abbrev pub NoneIsBetter : Situation → List Change → ℕ → ℕ → Type 0
 NoneIsBetter start trace transfers free = (moves : List Move) → IsSchedule start trace moves
-    → (transfers < cost moves) ⊎ ((cost moves ≡ transfers) × (start.slots - free ≤ (after_moves start moves).fill))
+    → (transfers < cost moves)
+    ⊎ ((cost moves ≡ transfers) × (start.slots - free ≤ (after_moves start moves).fill))
 
 -- these are the changes at which the stretches of a tight certificate of the trace end, which a
 -- schedule reaches and none betters
@@ -35,7 +37,8 @@ pub record IsBest (start : Situation) (trace : List Change) (moments : List ℕ)
   pub tight : IsTight start trace claim
   pub positions : moments ≡ map (λ stretch. stretch.to) claim.stretches
   pub reached : IsReached start trace (length claim.stretches) (room start trace claim.stretches)
-  pub none_better : NoneIsBetter start trace (length claim.stretches) (room start trace claim.stretches)
+  pub none_better : NoneIsBetter start trace (length claim.stretches)
+      (room start trace claim.stretches)
 
 -- those of the first n changes
 abbrev pub moments_within : ℕ → List ℕ → List ℕ

@@ -31,7 +31,8 @@ pub record IsFewest (start : Situation) (trace : List Change) (transfers : ℕ) 
 -- the trace fits and takes so many transfers at least, or this change of it is the
 -- first that doesn't fit
 abbrev pub IsDemand : Situation → List Change → Demand → Type 0
-IsDemand start trace (Transfers transfers) = KeepsWithin start.slots start.live trace × IsFewest start trace transfers
+IsDemand start trace (Transfers transfers) =
+    KeepsWithin start.slots start.live trace × IsFewest start trace transfers
 IsDemand start trace (NotFitting n) = IsFirstNotFitting start trace n
 
 -- why a trace made so often isn't counted: it has too many changes in all, or memory ran out

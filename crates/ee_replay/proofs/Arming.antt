@@ -27,26 +27,46 @@ both : (armed : Bool) → true ≡ ((armed && true) || true)
 both true = refl
 both false = refl
 
-of_call : (cut : Bool) (size : Size) (old : Desk) (command : Command) (answer : Answer) (new : Desk) → CallStep cut size old command answer new → Arms false cut old new
-of_call true size old command answer new step = record { was_armed = λ e. step.1; armed_is = ap (λ (desk : Desk). desk.armed) step.3 ∙ gone old.armed }
-of_call false size old command answer new step = record { was_armed = λ e. absurd (cc e); armed_is = ap (λ (desk : Desk). desk.armed) step.1 ∙ kept old.armed }
+of_call : (cut : Bool) (size : Size) (old : Desk) (command : Command) (answer : Answer) (new : Desk)
+    → CallStep cut size old command answer new → Arms false cut old new
+of_call true size old command answer new step = record {
+  was_armed = λ e. step.1;
+  armed_is = ap (λ (desk : Desk). desk.armed) step.3 ∙ gone old.armed;
+}
+of_call false size old command answer new step = record {
+  was_armed = λ e. absurd (cc e);
+  armed_is = ap (λ (desk : Desk). desk.armed) step.1 ∙ kept old.armed;
+}
 
-of_power : (old : Desk) (answer : Answer) (new : Desk) → PowerStep old answer new → Arms false (is_cut_answer answer) old new
-of_power old Opened new step = record { was_armed = λ e. absurd (cc e); armed_is = ap (λ (desk : Desk). desk.armed) step ∙ kept old.armed }
-of_power old Cut new step = record { was_armed = λ e. step.1; armed_is = ap (λ (desk : Desk). desk.armed) step.2 ∙ gone old.armed }
+of_power : (old : Desk) (answer : Answer) (new : Desk) → PowerStep old answer new
+    → Arms false (is_cut_answer answer) old new
+of_power old Opened new step = record {
+  was_armed = λ e. absurd (cc e);
+  armed_is = ap (λ (desk : Desk). desk.armed) step ∙ kept old.armed;
+}
+of_power old Cut new step = record {
+  was_armed = λ e. step.1;
+  armed_is = ap (λ (desk : Desk). desk.armed) step.2 ∙ gone old.armed;
+}
 of_power old answer new step = absurd step
 
-of_step : (size : Size) (old : Desk) (command : Command) (answer : Answer) (new : Desk) → DeskStep size old command answer new
-    → Arms (is_arming command) (is_cut_answer answer) old new
+of_step : (size : Size) (old : Desk) (command : Command) (answer : Answer) (new : Desk)
+    → DeskStep size old command answer new → Arms (is_arming command) (is_cut_answer answer) old new
 of_step size old (Arm fuse) answer new step = search (rules, both)
 of_step size old PowerOn answer new step = of_power old answer new step
-of_step size old (Write address value) answer new step = of_call (is_cut_answer answer) size old (Write address value) answer new step
-of_step size old (Forget address) answer new step = of_call (is_cut_answer answer) size old (Forget address) answer new step
-of_step size old (Read address) answer new step = of_call (is_cut_answer answer) size old (Read address) answer new step
-of_step size old Clean answer new step = of_call (is_cut_answer answer) size old Clean answer new step
+of_step size old (Write address value) answer new step =
+    of_call (is_cut_answer answer) size old (Write address value) answer new step
+of_step size old (Forget address) answer new step =
+    of_call (is_cut_answer answer) size old (Forget address) answer new step
+of_step size old (Read address) answer new step =
+    of_call (is_cut_answer answer) size old (Read address) answer new step
+of_step size old Clean answer new step =
+    of_call (is_cut_answer answer) size old Clean answer new step
 
-pub each_cut_was_armed : (size : Size) (commands : List Command) (answers : List Answer) (old new : Desk) → Run (DeskStep size) old commands answers new
-    → CutsAreArmed old.armed commands answers
+pub each_cut_was_armed : (size : Size) (commands : List Command) (answers : List Answer)
+    (old new : Desk)
+    → Run (DeskStep size) old commands answers new → CutsAreArmed old.armed commands answers
 each_cut_was_armed size [] answers old new run = tt
 each_cut_was_armed size (command ∷ commands) [] old new run = tt
-each_cut_was_armed size (command ∷ commands) (answer ∷ answers) old new run = search (rules, of_step, (each_cut_was_armed size commands answers run.0 new run.2))
+each_cut_was_armed size (command ∷ commands) (answer ∷ answers) old new run =
+    search (rules, of_step, (each_cut_was_armed size commands answers run.0 new run.2))

@@ -31,13 +31,16 @@ is_move : Answer → Bool
 is_move Moved = true
 is_move answer = false
 
-moved_later : (n m : ℕ) (answers : List Answer) → length (moved_at n answers) ≡ length (moved_at m answers)
+moved_later : (n m : ℕ) (answers : List Answer)
+    → length (moved_at n answers) ≡ length (moved_at m answers)
 moved_later n m [] = refl
 moved_later n m (Appended ∷ answers) = moved_later (n + 1) (m + 1) answers
-moved_later n m (Moved ∷ answers) = let more = moved_later (n + 1) (m + 1) answers in omega (arith, more)
+moved_later n m (Moved ∷ answers) =
+    let more = moved_later (n + 1) (m + 1) answers in omega (arith, more)
 moved_later n m (answer ∷ answers) = moved_later n m answers
 
-moves_more : (answer : Answer) (answers : List Answer) → moves (answer ∷ answers) ≡ cond (is_move answer) 1 0 + moves answers
+moves_more : (answer : Answer) (answers : List Answer)
+    → moves (answer ∷ answers) ≡ cond (is_move answer) 1 0 + moves answers
 unfolding is_move
 moves_more Appended answers = let later = moved_later 1 0 answers in omega (arith, later)
 moves_more Moved answers = let later = moved_later 1 0 answers in omega (arith, later)
@@ -45,66 +48,107 @@ moves_more answer answers = omega arith
 
 -- ---- lines
 
-named_armed : (device : Device) (side : Side) → not_blank_in side (with_cut_to_come device) ≡ not_blank_in side device
+named_armed : (device : Device) (side : Side)
+    → not_blank_in side (with_cut_to_come device) ≡ not_blank_in side device
 named_armed device First = refl
 named_armed device Second = refl
 
-pending_armed : (device : Device) (live : Option (Side × ℕ)) → pending_pages_in (with_cut_to_come device) live ≡ pending_pages_in device live
+pending_armed : (device : Device) (live : Option (Side × ℕ))
+    → pending_pages_in (with_cut_to_come device) live ≡ pending_pages_in device live
 pending_armed device None = refl
 pending_armed device (Some live) = named_armed device (other live.0)
 
-line_ages : (old new : Device) (command : Command) (answer : Answer) → UncutLineAnswers old command answer new → Ages (is_move answer) old new
+line_ages : (old new : Device) (command : Command) (answer : Answer)
+    → UncutLineAnswers old command answer new → Ages (is_move answer) old new
 unfolding is_move
-line_ages old new (Write address value) Appended serves = ages (Wrote address value (Ok written.Appended)) old new refl serves
-line_ages old new (Write address value) Moved serves = ages (Wrote address value (Ok written.Moved)) old new refl serves
-line_ages old new (Write address value) Full serves = ages (Wrote address value (Err fault.Full)) old new refl serves
-line_ages old new (Write address value) Spent serves = ages (Wrote address value (Err fault.Spent)) old new refl serves
-line_ages old new (Forget address) Appended serves = ages (Forgot address (Ok written.Appended)) old new refl serves
-line_ages old new (Forget address) Moved serves = ages (Forgot address (Ok written.Moved)) old new refl serves
-line_ages old new (Forget address) Absent serves = ages (Forgot address (Err forgetting.Absent)) old new refl serves
-line_ages old new (Forget address) Spent serves = ages (Forgot address (Err forgetting.Spent)) old new refl serves
-line_ages old new (Read address) (Value value) serves = ages (DidRead address (Ok (Some value))) old new refl serves
-line_ages old new (Read address) NoValue serves = ages (DidRead address (Ok None)) old new refl serves
+line_ages old new (Write address value) Appended serves =
+    ages (Wrote address value (Ok written.Appended)) old new refl serves
+line_ages old new (Write address value) Moved serves =
+    ages (Wrote address value (Ok written.Moved)) old new refl serves
+line_ages old new (Write address value) Full serves =
+    ages (Wrote address value (Err fault.Full)) old new refl serves
+line_ages old new (Write address value) Spent serves =
+    ages (Wrote address value (Err fault.Spent)) old new refl serves
+line_ages old new (Forget address) Appended serves =
+    ages (Forgot address (Ok written.Appended)) old new refl serves
+line_ages old new (Forget address) Moved serves =
+    ages (Forgot address (Ok written.Moved)) old new refl serves
+line_ages old new (Forget address) Absent serves =
+    ages (Forgot address (Err forgetting.Absent)) old new refl serves
+line_ages old new (Forget address) Spent serves =
+    ages (Forgot address (Err forgetting.Spent)) old new refl serves
+line_ages old new (Read address) (Value value) serves =
+    ages (DidRead address (Ok (Some value))) old new refl serves
+line_ages old new (Read address) NoValue serves =
+    ages (DidRead address (Ok None)) old new refl serves
 line_ages old new Clean Cleaned serves = ages (call.Cleaned (Ok true)) old new refl serves
 line_ages old new Clean Idle serves = ages (call.Cleaned (Ok false)) old new refl serves
-line_ages old new (Arm fuse) Armed serves = rw serves (stays old (with_cut_to_come old) refl refl (pending_armed old (live_of old)) refl)
+line_ages old new (Arm fuse) Armed serves =
+    rw serves (stays old (with_cut_to_come old) refl refl (pending_armed old (live_of old)) refl)
 line_ages old new PowerOn Opened serves = rw serves (stays old old refl refl refl refl)
 line_ages old new command answer serves = absurd serves
 
-lines_age : (old new : Device) (commands : List Command) (answers : List Answer) → Run UncutLineAnswers old commands answers new → Aged (moves answers) old new
+lines_age : (old new : Device) (commands : List Command) (answers : List Answer)
+    → Run UncutLineAnswers old commands answers new → Aged (moves answers) old new
 lines_age old new [] [] run = rw run (none_more old)
 lines_age old new [] (answer ∷ answers) run = absurd run
 lines_age old new (command ∷ commands) [] run = absurd run
-lines_age old new (command ∷ commands) (answer ∷ answers) run = search (rules, is_move, line_ages, moves_more, one_more, (lines_age run.0 new commands answers run.2))
+lines_age old new (command ∷ commands) (answer ∷ answers) run = search (
+  rules,
+  is_move,
+  line_ages,
+  moves_more,
+  one_more,
+  (lines_age run.0 new commands answers run.2),
+)
 
 -- ---- a script
 
 -- on a store that is open
-lines_wear : (old new : Device) (commands : List Command) (answers : List Answer) → Run UncutLineAnswers old commands answers new
-    → (page : ℕ) → WearsAtMost (moves answers) page old new
-lines_wear old new commands answers run = λ page. wears_at_most (moves answers) page old new (lines_age old new commands answers run)
+lines_wear : (old new : Device) (commands : List Command) (answers : List Answer)
+    → Run UncutLineAnswers old commands answers new → (page : ℕ)
+    → WearsAtMost (moves answers) page old new
+lines_wear old new commands answers run =
+    λ page. wears_at_most (moves answers) page old new (lines_age old new commands answers run)
 
 -- all that the lines made of it
-made_at : (old : Device) (last : Stand) (commands : List Command) (answers : List Answer) → Run LineAnswers (stand_on old) commands answers last → IsMade old commands answers last.point
+made_at : (old : Device) (last : Stand) (commands : List Command) (answers : List Answer)
+    → Run LineAnswers (stand_on old) commands answers last → IsMade old commands answers last.point
 made_at old last commands answers run = record {
   last = last;
   last_is = refl;
   lines = run;
-  erases = λ plain. (machine_run old last.point.device commands answers (run_open old last commands answers plain run).run).erases;
-  wears = λ plain. lines_wear old last.point.device commands answers (run_open old last commands answers plain run).run;
-  calls = λ plain unarmed. whole_run old last.point.device commands answers unarmed (run_open old last commands answers plain run).run;
+  erases =
+      λ plain. (machine_run old last.point.device commands answers
+      (run_open old last commands answers plain run).run).erases;
+  wears =
+      λ plain. lines_wear old last.point.device commands answers
+      (run_open old last commands answers plain run).run;
+  calls =
+      λ plain unarmed. whole_run old last.point.device commands answers unarmed
+      (run_open old last commands answers plain run).run;
 }
 
-pub made_of : (old : Device) (new : Point) (last : Stand) (commands : List Command) (answers : List Answer) → last.point ≡ new → Run LineAnswers (stand_on old) commands answers last
+pub made_of : (old : Device) (new : Point) (last : Stand) (commands : List Command)
+    (answers : List Answer)
+    → last.point ≡ new → Run LineAnswers (stand_on old) commands answers last
     → IsMade old commands answers new
-made_of old new last commands answers is run = subst (IsMade old commands answers) is (made_at old last commands answers run)
+made_of old new last commands answers is run =
+    subst (IsMade old commands answers) is (made_at old last commands answers run)
 
 -- on the store that was opened of a device
-pub wears_since_opening : (old store : Device) (last : Stand) (commands : List Command) (answers : List Answer) → Opens old store → was_cut answers ≡ false
-    → Run LineAnswers (stand_on store) commands answers last → (page : ℕ) → WearsAtMost (moves answers) page old last.point.device
+pub wears_since_opening : (old store : Device) (last : Stand) (commands : List Command)
+    (answers : List Answer)
+    → Opens old store → was_cut answers ≡ false
+    → Run LineAnswers (stand_on store) commands answers last → (page : ℕ)
+    → WearsAtMost (moves answers) page old last.point.device
 wears_since_opening old store last commands answers opens plain run = λ page.
     let end = last.point.device in
-    let later = lines_age store end commands answers (run_open store last commands answers plain run).run in
-    let opening = stays old store opens.goes_on.same_size opens.live_is opens.same_pending opens.no_wear in
+    let later =
+    lines_age store end commands answers (run_open store last commands answers plain run).run in
+    let opening =
+    stays old store opens.goes_on.same_size opens.live_is opens.same_pending opens.no_wear in
     let none : 0 + moves answers ≡ moves answers = omega arith in
-    wears_at_most (moves answers) page old end (subst (λ (count : ℕ). Aged count old end) none (one_more false (moves answers) old store end opening later))
+    wears_at_most (moves answers) page old end
+    (subst (λ (count : ℕ). Aged count old end) none
+    (one_more false (moves answers) old store end opening later))

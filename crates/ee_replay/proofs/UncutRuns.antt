@@ -14,34 +14,66 @@ use Rattle.ee_replay.proofs.Powering.{now_armed}
 use Rattle.ee_replay.proofs.Runs.{neither}
 
 -- a line starts from a point, whatever is at hand
-pub from_point : (old from : Stand) (command : Command) (answer : Answer) (new : Stand) → old.point ≡ from.point → LineAnswers old command answer new → LineAnswers from command answer new
-from_point old from (Arm fuse) answer new at attends = (attends.0, subst (λ (point : Point). ArmsItsFuse point fuse new) at attends.1)
-from_point old from PowerOn answer new at attends = subst (λ (point : Point). PowerAnswers point.serving point.device answer new.point) at attends
-from_point old from (Write address value) answer new at attends = subst (λ (point : Point). CallAnswers point.serving point.device (Write address value) answer new.point) at attends
-from_point old from (Forget address) answer new at attends = subst (λ (point : Point). CallAnswers point.serving point.device (Forget address) answer new.point) at attends
-from_point old from (Read address) answer new at attends = subst (λ (point : Point). CallAnswers point.serving point.device (Read address) answer new.point) at attends
-from_point old from Clean answer new at attends = subst (λ (point : Point). CallAnswers point.serving point.device Clean answer new.point) at attends
+pub from_point : (old from : Stand) (command : Command) (answer : Answer) (new : Stand)
+    → old.point ≡ from.point → LineAnswers old command answer new
+    → LineAnswers from command answer new
+from_point old from (Arm fuse) answer new at attends =
+    (attends.0, subst (λ (point : Point). ArmsItsFuse point fuse new) at attends.1)
+from_point old from PowerOn answer new at attends =
+    subst (λ (point : Point). PowerAnswers point.serving point.device answer new.point) at attends
+from_point old from (Write address value) answer new at attends =
+    subst
+    (λ (point : Point).
+    CallAnswers point.serving point.device (Write address value) answer new.point) at
+    attends
+from_point old from (Forget address) answer new at attends =
+    subst
+    (λ (point : Point).
+    CallAnswers point.serving point.device (Forget address) answer new.point) at attends
+from_point old from (Read address) answer new at attends =
+    subst
+    (λ (point : Point). CallAnswers point.serving point.device (Read address) answer new.point)
+    at attends
+from_point old from Clean answer new at attends =
+    subst (λ (point : Point). CallAnswers point.serving point.device Clean answer new.point) at
+    attends
 
 -- a line that is served by a store that is open, and leaves it open
-pub record IsServedOpen (old : Device) (command : Command) (answer : Answer) (new : Point) : Type 0 where
+pub record IsServedOpen (old : Device) (command : Command) (answer : Answer) (new : Point)
+    : Type 0 where
   pub serves : UncutLineAnswers old command answer new.device
   pub still : new.serving ≡ true
 
-pub served_open : (old : Device) (command : Command) (answer : Answer) (new : Stand) → is_cut_answer answer ≡ false → LineAnswers (stand_on old) command answer new
+pub served_open : (old : Device) (command : Command) (answer : Answer) (new : Stand)
+    → is_cut_answer answer ≡ false → LineAnswers (stand_on old) command answer new
     → IsServedOpen old command answer new.point
 served_open old (Arm fuse) Armed new plain attends = search (rules, now_armed)
 served_open old (Arm fuse) answer new plain attends = absurd (cc (attends.0))
-served_open old PowerOn Opened new plain attends = record { serves = ap (λ (point : Point). point.device) attends; still = ap (λ (point : Point). point.serving) attends }
-served_open old (Write address value) Appended new plain attends = record { serves = attends.0; still = attends.1 }
-served_open old (Write address value) Moved new plain attends = record { serves = attends.0; still = attends.1 }
-served_open old (Write address value) Full new plain attends = record { serves = attends.0; still = attends.1 }
-served_open old (Write address value) Spent new plain attends = record { serves = attends.0; still = attends.1 }
-served_open old (Forget address) Appended new plain attends = record { serves = attends.0; still = attends.1 }
-served_open old (Forget address) Moved new plain attends = record { serves = attends.0; still = attends.1 }
-served_open old (Forget address) Absent new plain attends = record { serves = attends.0; still = attends.1 }
-served_open old (Forget address) Spent new plain attends = record { serves = attends.0; still = attends.1 }
-served_open old (Read address) (Value value) new plain attends = record { serves = attends.0; still = attends.1 }
-served_open old (Read address) NoValue new plain attends = record { serves = attends.0; still = attends.1 }
+served_open old PowerOn Opened new plain attends = record {
+  serves =
+      ap (λ (point : Point). point.device) attends;
+  still = ap (λ (point : Point). point.serving) attends;
+}
+served_open old (Write address value) Appended new plain attends =
+    record { serves = attends.0; still = attends.1 }
+served_open old (Write address value) Moved new plain attends =
+    record { serves = attends.0; still = attends.1 }
+served_open old (Write address value) Full new plain attends =
+    record { serves = attends.0; still = attends.1 }
+served_open old (Write address value) Spent new plain attends =
+    record { serves = attends.0; still = attends.1 }
+served_open old (Forget address) Appended new plain attends =
+    record { serves = attends.0; still = attends.1 }
+served_open old (Forget address) Moved new plain attends =
+    record { serves = attends.0; still = attends.1 }
+served_open old (Forget address) Absent new plain attends =
+    record { serves = attends.0; still = attends.1 }
+served_open old (Forget address) Spent new plain attends =
+    record { serves = attends.0; still = attends.1 }
+served_open old (Read address) (Value value) new plain attends =
+    record { serves = attends.0; still = attends.1 }
+served_open old (Read address) NoValue new plain attends =
+    record { serves = attends.0; still = attends.1 }
 served_open old Clean Cleaned new plain attends = record { serves = attends.0; still = attends.1 }
 served_open old Clean Idle new plain attends = record { serves = attends.0; still = attends.1 }
 served_open old (Write address value) Cut new plain attends = absurd (cc plain)
@@ -50,7 +82,8 @@ served_open old Clean Cut new plain attends = absurd (cc plain)
 served_open old command answer new plain attends = absurd attends
 
 -- a whole run
-pub record IsRunOpen (old : Device) (commands : List Command) (answers : List Answer) (new : Point) : Type 0 where
+pub record IsRunOpen (old : Device) (commands : List Command) (answers : List Answer) (new : Point)
+    : Type 0 where
   pub run : Run UncutLineAnswers old commands answers new.device
   pub still : new.serving ≡ true
 
@@ -58,20 +91,29 @@ pub record IsRunOpen (old : Device) (commands : List Command) (answers : List An
 pub at_open : (point : Point) → point.serving ≡ true → point ≡ serving_on point.device
 at_open point still = rw still refl
 
-run_from : (device : Device) (old new : Stand) (commands : List Command) (answers : List Answer) → was_cut answers ≡ false → old.point ≡ serving_on device
+run_from : (device : Device) (old new : Stand) (commands : List Command) (answers : List Answer)
+    → was_cut answers ≡ false → old.point ≡ serving_on device
     → Run LineAnswers old commands answers new → IsRunOpen device commands answers new.point
 run_from device old new [] [] plain at run =
     let there = ap (λ (stand : Stand). stand.point) run ∙ at in
-    record { run = ap (λ (point : Point). point.device) there; still = ap (λ (point : Point). point.serving) there }
+    record {
+      run = ap (λ (point : Point). point.device) there;
+      still = ap (λ (point : Point). point.serving) there;
+    }
 run_from device old new [] (answer ∷ answers) plain at run = absurd run
 run_from device old new (command ∷ commands) [] plain at run = absurd run
 run_from device old new (command ∷ commands) (answer ∷ answers) plain at run =
     let parts = neither (is_cut_answer answer) (was_cut answers) plain in
     let mid = run.0.point in
-    let here = served_open device command answer run.0 parts.0 (from_point old (stand_on device) command answer run.0 at run.1) in
-    let rest = run_from mid.device run.0 new commands answers parts.1 (at_open mid here.still) run.2 in
+    let here =
+    served_open device command answer run.0 parts.0
+    (from_point old (stand_on device) command answer run.0 at run.1) in
+    let rest =
+    run_from mid.device run.0 new commands answers parts.1 (at_open mid here.still) run.2 in
     record { run = (mid.device, here.serves, rest.run); still = rest.still }
 
-pub run_open : (device : Device) (new : Stand) (commands : List Command) (answers : List Answer) → was_cut answers ≡ false → Run LineAnswers (stand_on device) commands answers new
+pub run_open : (device : Device) (new : Stand) (commands : List Command) (answers : List Answer)
+    → was_cut answers ≡ false → Run LineAnswers (stand_on device) commands answers new
     → IsRunOpen device commands answers new.point
-run_open device new commands answers plain run = run_from device (stand_on device) new commands answers plain refl run
+run_open device new commands answers plain run =
+    run_from device (stand_on device) new commands answers plain refl run

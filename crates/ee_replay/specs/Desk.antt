@@ -18,7 +18,8 @@ IsOffCall call = ⊥
 
 -- a call at a desk, by whether a store is open
 abbrev pub CallsAtDesk : Bool → Device → Call → Point → Type 0
-CallsAtDesk true old made new = IsOn old × Follows made old new.device × (new ≡ open_point new.device)
+CallsAtDesk true old made new =
+    IsOn old × Follows made old new.device × (new ≡ open_point new.device)
 CallsAtDesk false old made new = IsOffCall made × (new ≡ closed_point old)
 
 -- the size is as before, and what the image says

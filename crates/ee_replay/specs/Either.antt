@@ -16,7 +16,8 @@ FitsEither (Index lookup) slots = IsIndex slots (slot_for lookup.index)
 -- and is ready for a value of this address
 abbrev pub IsReadyEither : {A : Type 0} → EitherLookup A → List Word → ℕ → Type 0
 IsReadyEither (Slots lookup) slots address = Unit {0}
-IsReadyEither (Index lookup) slots address = IsReadyFor slots (Put address 0) (fill_of slots) (slot_for lookup.index)
+IsReadyEither (Index lookup) slots address =
+    IsReadyFor slots (Put address 0) (fill_of slots) (slot_for lookup.index)
 
 -- and has room for a transfer with these values
 abbrev pub HasRoomEither : {A : Type 0} → EitherLookup A → List Word → List listed.Put → Type 0

@@ -49,7 +49,10 @@ command_asks_change_of address command = false
 -- asks for a change of its address, the image has it in the end.
 abbrev pub AnAnsweredChangeStays : Type 0
 AnAnsweredChangeStays =
-    (before later : List Command) (said answers : List Answer) (command : Command) (answer : Answer) (change : Change) (old new : Map)
-    → Run Keeps old (before ++ command ∷ later) (said ++ answer ∷ answers) new → length before ≡ length said
-    → change_answered command answer ≡ Some change → All (λ one. command_asks_change_of (address_of change) one ≡ false) later
+    (before later : List Command) (said answers : List Answer) (command : Command) (answer : Answer)
+    (change : Change) (old new : Map)
+    → Run Keeps old (before ++ command ∷ later) (said ++ answer ∷ answers) new
+    → length before ≡ length said
+    → change_answered command answer ≡ Some change
+    → All (λ one. command_asks_change_of (address_of change) one ≡ false) later
     → HasChange change new

@@ -16,7 +16,8 @@ pub record IsGiven (before after : Option (List ℕ)) (text : List ℕ) : Type 0
 
 -- what the reader gave isn't answered to its end, for what was met first
 abbrev pub IsNotAnswered : Option (List ℕ) → Option (List ℕ) → ReplayFault → Type 0
-IsNotAnswered before after fault = (stream : StreamFault) × IsStreamFault before after stream × (fault ≡ of_stream stream)
+IsNotAnswered before after fault =
+    (stream : StreamFault) × IsStreamFault before after stream × (fault ≡ of_stream stream)
 
 -- Why a script that a reader gives isn't replayed, the first cause that applies: no store is
 -- opened, and nothing was read; or one is, and the script isn't answered.

@@ -26,7 +26,8 @@ pub record IsDeskLeft (size : Size) (text : List ℕ) (point : Point) : Type 0 w
 -- From a store that is open with this state, on a device of this size, the script was answered with
 -- this report, as the report machine answers it; and the text is that of the device at the end,
 -- with what the machine came to.
-pub record IsScriptRun (size : Size) (start : State) (text new_image reported : List ℕ) : Type 0 where
+pub record IsScriptRun (size : Size) (start : State) (text new_image reported : List ℕ)
+    : Type 0 where
   pub last : Point
   pub left : IsDeskLeft size new_image last
   pub report : IsDeskReported size start text (desk_of last) reported
@@ -47,8 +48,10 @@ pub record IsReplayed (old_image text new_image reported : List ℕ) : Type 0 wh
   pub opened : Device
   pub opens : Opens device opened
   pub made : IsMade opened run.report.commands run.report.answers run.last
-  pub erases : was_cut run.report.answers ≡ false → ErasesRise (erases_of_all device.size run.report.answers) device run.last.device
-  pub wears : was_cut run.report.answers ≡ false → (page : ℕ) → WearsAtMost (moves run.report.answers) page device run.last.device
+  pub erases : was_cut run.report.answers ≡ false
+      → ErasesRise (erases_of_all device.size run.report.answers) device run.last.device
+  pub wears : was_cut run.report.answers ≡ false → (page : ℕ)
+      → WearsAtMost (moves run.report.answers) page device run.last.device
 
 -- how often pages of a fresh device were erased, or wait to be: those of a set for each move
 pub record IsWornBy (size : Size) (pages : ℕ) (last : Device) : Type 0 where
@@ -64,7 +67,8 @@ pub record IsTried (size : Size) (text new_image reported : List ℕ) : Type 0 w
   pub fresh : Device
   pub formats : IsFormatted (blank_device size) fresh
   pub made : IsMade fresh run.report.commands run.report.answers run.last
-  pub worn : was_cut run.report.answers ≡ false → IsWornBy size (erases_of_all size run.report.answers) run.last.device
+  pub worn : was_cut run.report.answers ≡ false
+      → IsWornBy size (erases_of_all size run.report.answers) run.last.device
 
 -- why a script isn't answered: its first bad line, or want of memory
 abbrev pub IsRunFault : List ℕ → ReplayFault → Type 0
@@ -77,4 +81,6 @@ IsRunFault text Read = ⊥
 -- why a script isn't replayed, the first cause that applies: no store is opened, or one is and the
 -- script isn't answered
 abbrev pub IsReplayFault : List ℕ → List ℕ → ReplayFault → Type 0
-IsReplayFault old_image text fault = IsOpenFault old_image fault ⊎ (((device : Device) × IsStoreText old_image device) × IsRunFault text fault)
+IsReplayFault old_image text fault =
+    IsOpenFault old_image fault
+    ⊎ (((device : Device) × IsStoreText old_image device) × IsRunFault text fault)

@@ -65,7 +65,8 @@ with_call (Some first) calls = first ∷ calls
 
 -- the calls of a whole script
 abbrev pub calls_of : List Command → List Answer → List Call
-calls_of (command ∷ commands) (answer ∷ answers) = with_call (call_of_command command answer) (calls_of commands answers)
+calls_of (command ∷ commands) (answer ∷ answers) =
+    with_call (call_of_command command answer) (calls_of commands answers)
 calls_of commands answers = []
 
 -- ---- lines, one after another
@@ -82,8 +83,11 @@ is_armed left = true
 -- An open store makes the call of the command, and none is open once power is cut in it; where none
 -- is open, the answer is `off`, and nothing is done.
 abbrev pub CallAnswers : Bool → Device → Command → Answer → Point → Type 0
-CallAnswers true old command Cut new = IsSomeAnd (cut_call_of command) (λ made. Follows made old new.device × (new.serving ≡ false))
-CallAnswers true old command answer new = IsSomeAnd (call_of_command command answer) (λ made. Follows made old new.device × (new.serving ≡ true))
+CallAnswers true old command Cut new =
+    IsSomeAnd (cut_call_of command) (λ made. Follows made old new.device × (new.serving ≡ false))
+CallAnswers true old command answer new =
+    IsSomeAnd (call_of_command command answer)
+    (λ made. Follows made old new.device × (new.serving ≡ true))
 CallAnswers false old command Off new = new ≡ closed_point old
 CallAnswers false old command answer new = ⊥
 
@@ -106,12 +110,18 @@ pub record ArmsItsFuse (old : Point) (fuse : Fuse) (new : Stand) : Type 0 where
 -- From this stand the command is answered so, and the desk has that one afterwards.
 abbrev pub LineAnswers : Stand → Command → Answer → Stand → Type 0
 LineAnswers old (Arm fuse) answer new = (answer ≡ Armed) × ArmsItsFuse old.point fuse new
-LineAnswers old PowerOn answer new = PowerAnswers old.point.serving old.point.device answer new.point
-LineAnswers old command answer new = CallAnswers old.point.serving old.point.device command answer new.point
+LineAnswers old PowerOn answer new =
+    PowerAnswers old.point.serving old.point.device answer new.point
+LineAnswers old command answer new =
+    CallAnswers old.point.serving old.point.device command answer new.point
 
 -- the desk, as the report machine knows it
 abbrev pub desk_of : Point → Desk
-desk_of point = record { state = state_of point.device; serving = point.serving; armed = is_armed point.device.cuts_left }
+desk_of point = record {
+  state = state_of point.device;
+  serving = point.serving;
+  armed = is_armed point.device.cuts_left;
+}
 
 -- a store of this device is open
 abbrev pub serving_on : Device → Point
@@ -129,13 +139,15 @@ is_armed_by commands = list_any is_arming commands
 -- call, or armed a cut, or turned power on. Where no line was cut, each move left the pages of a
 -- set to be erased, and any other answer none, and no page was erased more often than at every
 -- second move, by where it stood; and where no cut was armed either, it is a whole run of calls.
-pub record IsMade (old : Device) (commands : List Command) (answers : List Answer) (new : Point) : Type 0 where
+pub record IsMade (old : Device) (commands : List Command) (answers : List Answer) (new : Point)
+    : Type 0 where
   pub last : Stand
   pub last_is : last.point ≡ new
   pub lines : Run LineAnswers (stand_on old) commands answers last
   pub erases : was_cut answers ≡ false → ErasesRise (erases_of_all old.size answers) old new.device
   pub wears : was_cut answers ≡ false → (page : ℕ) → WearsAtMost (moves answers) page old new.device
-  pub calls : was_cut answers ≡ false → is_armed_by commands ≡ false → IsWholeRun (calls_of commands answers) old new.device
+  pub calls : was_cut answers ≡ false → is_armed_by commands ≡ false
+      → IsWholeRun (calls_of commands answers) old new.device
 
 -- ---- a store that is open, while power is not cut
 
@@ -143,7 +155,8 @@ pub record IsMade (old : Device) (commands : List Command) (answers : List Answe
 abbrev pub UncutLineAnswers : Device → Command → Answer → Device → Type 0
 UncutLineAnswers old (Arm fuse) Armed new = new ≡ with_cut_to_come old
 UncutLineAnswers old PowerOn Opened new = new ≡ old
-UncutLineAnswers old command answer new = IsSomeAnd (call_of_command command answer) (λ made. Follows made old new)
+UncutLineAnswers old command answer new =
+    IsSomeAnd (call_of_command command answer) (λ made. Follows made old new)
 
 -- the answer to a change that was stored
 abbrev pub stored_answer : Written → Answer
@@ -196,7 +209,8 @@ abbrev pub with_notes : Stand → Notes → Noted
 with_notes stand notes = record { stand = stand; notes = notes }
 
 -- A line is served, and its answer is noted.
-pub record LineIsNoted (old : Noted) (command : Command) (answer : Answer) (new : Noted) : Type 0 where
+pub record LineIsNoted (old : Noted) (command : Command) (answer : Answer) (new : Noted)
+    : Type 0 where
   pub attends : LineAnswers old.stand command answer new.stand
   pub notes_are : new.notes ≡ notes_after answer (state_of new.stand.point.device).fill old.notes
 
@@ -205,7 +219,8 @@ pub record LineIsNoted (old : Noted) (command : Command) (answer : Answer) (new 
 pub record IsCounted (device : Device) (notes : Notes) : Type 0 where
   pub slots : slot_count device.size ≤ 32512
   pub generation : (state_of device).generation ≤ greatest_generation
-  pub changes : notes.changes ≤ (state_of device).generation * (slot_count device.size + 1) + (state_of device).fill
+  pub changes : notes.changes ≤ (state_of device).generation * (slot_count device.size + 1)
+      + (state_of device).fill
 
 -- how a desk may be left: its image is legal, and a store that is open is on, with
 -- no mark left to set
@@ -217,14 +232,17 @@ pub record IsSound (point : Point) : Type 0 where
 -- The lines of a script were answered from a store that is open to a point. What was noted is how
 -- often it was moved, whether power was cut, and where it was not, the tight certificate of the
 -- changes that were accepted, from each start that is the old state's.
-pub record IsTraced (old : Device) (text : List ℕ) (new : Point) (notes : Notes) (lines : List ℕ) : Type 0 where
+pub record IsTraced (old : Device) (text : List ℕ) (new : Point) (notes : Notes) (lines : List ℕ)
+    : Type 0 where
   pub last : Stand
   pub last_is : last.point ≡ new
   pub answered : IsAnswered LineAnswers (stand_on old) text last lines
   pub transfers : length notes.stretches ≡ moves answered.answers
   pub cut : notes.cut ≡ was_cut answered.answers
-  pub tight : was_cut answered.answers ≡ false → (start : Situation) → IsStartOf (slot_count old.size) (state_of old) start
-      → IsProper start → IsTight start (trace_of (accepted_commands answered.commands answered.answers)) (claim_noted start notes)
+  pub tight : was_cut answered.answers ≡ false → (start : Situation)
+      → IsStartOf (slot_count old.size) (state_of old) start → IsProper start
+      → IsTight start (trace_of (accepted_commands answered.commands answered.answers))
+      (claim_noted start notes)
 
 -- A script was answered from a store that is open to a point, with the whole report of a run from
 -- the one's state to the other's.

@@ -28,38 +28,58 @@ some_left : (rest : List ℕ) → rest ≢ [] → 0 < length rest
 some_left rest h1 = grind (arith, common_steps)
 
 -- the lines of a text that a u64 measures can be counted in a u64
-number_counts : (text rest : List ℕ) (good : List Command) (n : ℕ) → length text < 2 ^ 64 → text ≡ script good ++ rest → rest ≢ [] → n ≡ saturating_count (length good + 1) → n ≡ length good + 1
-number_counts text rest good n small text_is goes_on e = grind (arith, common_steps, length-script, some_left)
+number_counts : (text rest : List ℕ) (good : List Command) (n : ℕ) → length text < 2 ^ 64
+    → text ≡ script good ++ rest → rest ≢ [] → n ≡ saturating_count (length good + 1)
+    → n ≡ length good + 1
+number_counts text rest good n small text_is goes_on e =
+    grind (arith, common_steps, length-script, some_left)
 
 -- a bad line that a session met is the first bad one, whatever follows
-pub bad_already : {S : Type 0} (server : S) (text : List ℕ) (n : ℕ) → length text < 2 ^ 64 → MeetsBadLine (started server) text n → IsBadAlready text n
+pub bad_already : {S : Type 0} (server : S) (text : List ℕ) (n : ℕ) → length text < 2 ^ 64
+    → MeetsBadLine (started server) text n → IsBadAlready text n
 bad_already server text n small met = grind (arith, common_steps, no_front, number_counts)
 
-pub fault_in_script : {S : Type 0} (server : S) (text : List ℕ) (fault : ScriptFault) → length text < 2 ^ 64 → IsFault (started server) text fault → IsScriptFault text fault
-fault_in_script server text (BadLine n) small met = subst (λ l. IsFirstBadCommandLine l n) (append-nil text) (bad_already server text n small met [])
+pub fault_in_script : {S : Type 0} (server : S) (text : List ℕ) (fault : ScriptFault)
+    → length text < 2 ^ 64 → IsFault (started server) text fault → IsScriptFault text fault
+fault_in_script server text (BadLine n) small met =
+    subst (λ l. IsFirstBadCommandLine l n) (append-nil text)
+    (bad_already server text n small met [])
 fault_in_script server text Memory small met = tt
 
-pub fault_at_end : {S : Type 0} (step : S → Command → Answer → S → Type 0) (server : S) (text : List ℕ) (last : Progress S) (fault : ScriptFault)
-    → length text < 2 ^ 64 → Goes step (started server) text last → EndsBadly last fault → IsScriptFault text fault
+pub fault_at_end : {S : Type 0} (step : S → Command → Answer → S → Type 0) (server : S)
+    (text : List ℕ) (last : Progress S) (fault : ScriptFault)
+    → length text < 2 ^ 64 → Goes step (started server) text last → EndsBadly last fault
+    → IsScriptFault text fault
 fault_at_end step server text last fault h1 h2 h3 = search (rules, number_counts)
 
 -- a bad line is the one that is named
-pub named : (text : List ℕ) (fault : ScriptFault) (n : ℕ) → IsFirstBadCommandLine text n → IsScriptFault text fault → (fault ≡ BadLine n) ⊎ (fault ≡ Memory)
+pub named : (text : List ℕ) (fault : ScriptFault) (n : ℕ) → IsFirstBadCommandLine text n
+    → IsScriptFault text fault → (fault ≡ BadLine n) ⊎ (fault ≡ Memory)
 named text (BadLine m) n bad is = inl (ap BadLine (one_first_bad_line_lem text m n is bad))
 named text Memory n bad is = inr refl
 
 -- and what is answered has none
-pub none_passed : {S : Type 0} (step : S → Command → Answer → S → Type 0) (old new : S) (text reported : List ℕ) (n : ℕ)
+pub none_passed : {S : Type 0} (step : S → Command → Answer → S → Type 0) (old new : S)
+    (text reported : List ℕ) (n : ℕ)
     → IsFirstBadCommandLine text n → IsAnswered step old text new reported → ⊥
-none_passed step old new text reported n bad answered = scripts_are_good_lem text answered.commands n answered.is_script bad
+none_passed step old new text reported n bad answered =
+    scripts_are_good_lem text answered.commands n answered.is_script bad
 
 -- a session that ends behind a line feed has answered the whole
-pub answered : {S : Type 0} (step : S → Command → Answer → S → Type 0) (server : S) (text : List ℕ) (last : Progress S) (new : S) (reported : List ℕ)
-    → Goes step (started server) text last → EndsScript last new reported → IsAnswered step server text new reported
+pub answered : {S : Type 0} (step : S → Command → Answer → S → Type 0) (server : S) (text : List ℕ)
+    (last : Progress S) (new : S) (reported : List ℕ)
+    → Goes step (started server) text last → EndsScript last new reported
+    → IsAnswered step server text new reported
 answered {S} step server text last new reported went ended = record {
   commands = went.commands;
   answers = went.answers;
-  is_script = record { proper = went.proper; text_is = went.text_is ∙ ap (λ rest. script went.commands ++ rest) ended.nothing_left ∙ append-nil (script went.commands) };
-  run = subst (λ (s : S). Run step server went.commands went.answers s) (sym ended.server_is) went.run;
+  is_script = record {
+    proper = went.proper;
+    text_is =
+        went.text_is ∙ ap (λ rest. script went.commands ++ rest) ended.nothing_left
+        ∙ append-nil (script went.commands);
+  };
+  run = subst (λ (s : S). Run step server went.commands went.answers s) (sym ended.server_is)
+      went.run;
   report_is = ended.report_is ∙ went.report_is;
 }

@@ -25,9 +25,11 @@ letter Mixed = codes "m"
 
 -- what its line says: its fields in a row
 abbrev pub command_text : Command → List ℕ
-command_text (Write address value) = joined_fields (codes "w" ∷ decimal address ∷ decimal value ∷ [])
+command_text (Write address value) =
+    joined_fields (codes "w" ∷ decimal address ∷ decimal value ∷ [])
 command_text (Read address) = joined_fields (codes "r" ∷ decimal address ∷ [])
 command_text (Forget address) = joined_fields (codes "f" ∷ decimal address ∷ [])
 command_text Clean = codes "c"
-command_text (Arm fuse) = joined_fields (codes "x" ∷ decimal (fuse.after + 1) ∷ letter fuse.tear ∷ [])
+command_text (Arm fuse) =
+    joined_fields (codes "x" ∷ decimal (fuse.after + 1) ∷ letter fuse.tear ∷ [])
 command_text PowerOn = codes "p"

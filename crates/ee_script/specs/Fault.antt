@@ -12,5 +12,6 @@ IsFault old piece Memory = Unit {0}
 
 -- at the end: in the middle of a line
 abbrev pub EndsBadly : {S : Type 0} → Progress S → ScriptFault → Type 0
-EndsBadly old (BadLine n) = (old.unfinished ≢ []) × NoLine old.unfinished × (n ≡ saturating_count (old.lines + 1))
+EndsBadly old (BadLine n) =
+    (old.unfinished ≢ []) × NoLine old.unfinished × (n ≡ saturating_count (old.lines + 1))
 EndsBadly old Memory = ⊥

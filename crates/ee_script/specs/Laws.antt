@@ -11,12 +11,18 @@ OneScript =
 
 -- no other line is the first bad one
 abbrev pub OneFirstBadLine : Type 0
-OneFirstBadLine = (text : List ℕ) (m n : ℕ) → IsFirstBadCommandLine text m → IsFirstBadCommandLine text n → m ≡ n
+OneFirstBadLine =
+    (text : List ℕ) (m n : ℕ) → IsFirstBadCommandLine text m → IsFirstBadCommandLine text n → m ≡ n
 
 -- a script has no bad line
 abbrev pub ScriptsAreGood : Type 0
-ScriptsAreGood = (text : List ℕ) (commands : List Command) (n : ℕ) → IsScript text commands → IsFirstBadCommandLine text n → ⊥
+ScriptsAreGood =
+    (text : List ℕ) (commands : List Command) (n : ℕ) → IsScript text commands
+    → IsFirstBadCommandLine text n → ⊥
 
 -- every text is a script of some commands, or has a first bad line
 abbrev pub EachTextIsJudged : Type 0
-EachTextIsJudged = (text : List ℕ) → ((commands : List Command) × IsScript text commands) ⊎ ((n : ℕ) × IsFirstBadCommandLine text n)
+EachTextIsJudged =
+    (text : List ℕ)
+    → ((commands : List Command) × IsScript text commands)
+    ⊎ ((n : ℕ) × IsFirstBadCommandLine text n)

@@ -15,7 +15,8 @@ use Rattle.ee_script.specs.Whole.{IsAnswered}
 -- ---- a session
 
 -- the reader gave this text, whose bytes a u64 counts, and it was judged
-pub record TakesText {S : Type 0} (step : S → Command → Answer → S → Type 0) (old : Progress S) (before after : Option (List ℕ)) (new : Progress S) : Type 0 where
+pub record TakesText {S : Type 0} (step : S → Command → Answer → S → Type 0) (old : Progress S)
+    (before after : Option (List ℕ)) (new : Progress S) : Type 0 where
   pub text : List ℕ
   pub given : Consumes before after text
   pub countable : length text < 2 ^ 64
@@ -23,14 +24,18 @@ pub record TakesText {S : Type 0} (step : S → Command → Answer → S → Typ
 
 -- Why it is not fed to the end. A read failed, or there were too many: all that was given before
 -- was judged, and what no line feed ended yet is less than a line. Or what was given has a fault.
-abbrev pub StopsReading : {S : Type 0} → (S → Command → Answer → S → Type 0) → Progress S → Option (List ℕ) → Option (List ℕ) → StreamFault → Type 0
-StopsReading {S} step old before after Read = (held : Progress S) × TakesText step old before after held × IsUnfinished held.unfinished
-StopsReading step old before after (Script fault) = (text : List ℕ) × Consumes before after text × (length text < 2 ^ 64) × IsFault old text fault
+abbrev pub StopsReading : {S : Type 0} → (S → Command → Answer → S → Type 0) → Progress S
+    → Option (List ℕ) → Option (List ℕ) → StreamFault → Type 0
+StopsReading {S} step old before after Read =
+    (held : Progress S) × TakesText step old before after held × IsUnfinished held.unfinished
+StopsReading step old before after (Script fault) =
+    (text : List ℕ) × Consumes before after text × (length text < 2 ^ 64) × IsFault old text fault
 
 -- ---- a whole script
 
 -- The reader gave a script and had no more, and the report has the answers to it.
-pub record IsStreamAnswered {S : Type 0} (step : S → Command → Answer → S → Type 0) (old : S) (before after : Option (List ℕ)) (new : S) (reported : List ℕ) : Type 0 where
+pub record IsStreamAnswered {S : Type 0} (step : S → Command → Answer → S → Type 0) (old : S)
+    (before after : Option (List ℕ)) (new : S) (reported : List ℕ) : Type 0 where
   pub text : List ℕ
   pub given : Consumes before after text
   pub ended : IsAtEnd after
@@ -52,7 +57,8 @@ IsBadAlready text n = (more : List ℕ) → IsFirstBadCommandLine (text ++ more)
 -- judged before it; a line that is bad whatever follows; a bad line at the end; or memory ran out.
 abbrev pub IsMet : Option (List ℕ) → List ℕ → StreamFault → Type 0
 IsMet after text Read = IsGoodSoFar text
-IsMet after text (Script (BadLine n)) = IsBadAlready text n ⊎ (IsAtEnd after × IsFirstBadCommandLine text n)
+IsMet after text (Script (BadLine n)) =
+    IsBadAlready text n ⊎ (IsAtEnd after × IsFirstBadCommandLine text n)
 IsMet after text (Script Memory) = Unit {0}
 
 -- why what a reader gives isn't answered to its end

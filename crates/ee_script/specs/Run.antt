@@ -4,7 +4,8 @@ use Rattle.ee_script.specs.declared.command.Command.{Command}
 use Rattle.ee_script.specs.declared.answer.Answer.{Answer}
 
 -- From old, what takes these steps may give these answers to these commands, and is new in the end.
-abbrev pub Run : {S : Type 0} → (S → Command → Answer → S → Type 0) → S → List Command → List Answer → S → Type 0
+abbrev pub Run : {S : Type 0} → (S → Command → Answer → S → Type 0) → S → List Command → List Answer
+    → S → Type 0
 Run step old [] [] new = new ≡ old
 Run {S} step old (command ∷ commands) (answer ∷ answers) new =
     (mid : S) × step old command answer mid × Run step mid commands answers new

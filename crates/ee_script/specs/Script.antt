@@ -19,7 +19,9 @@ pub record IsScript (text : List ℕ) (commands : List Command) : Type 0 where
 
 -- the line of no good command stands at the front of the text
 abbrev pub NoLineOf : (Command → Type 0) → List ℕ → Type 0
-NoLineOf IsGood text = (command : Command) (more : List ℕ) → IsGood command → text ≢ line_of (command_text command) ++ more
+NoLineOf IsGood text =
+    (command : Command) (more : List ℕ) → IsGood command
+    → text ≢ line_of (command_text command) ++ more
 
 -- Line n is the first bad one: the lines of good commands before it are one fewer, and after them
 -- the text goes on, but not with such a line. A line that isn't ended by a line feed is bad too.

@@ -26,7 +26,8 @@ pub record IsUnfinished (text : List ℕ) : Type 0 where
 
 -- The piece was judged: with what was unfinished before, it is the lines of some commands and what
 -- is unfinished now; the report grew by the answers to them, which what serves may give.
-pub record Goes {S : Type 0} (step : S → Command → Answer → S → Type 0) (old : Progress S) (piece : List ℕ) (new : Progress S) : Type 0 where
+pub record Goes {S : Type 0} (step : S → Command → Answer → S → Type 0) (old : Progress S)
+    (piece : List ℕ) (new : Progress S) : Type 0 where
   pub commands : List Command
   pub answers : List Answer
   pub proper : AreCommands commands
@@ -36,7 +37,8 @@ pub record Goes {S : Type 0} (step : S → Command → Answer → S → Type 0) 
   pub lines_are : saturating_count new.lines ≡ saturating_count (old.lines + length commands)
 
 -- The command of a line was answered; the report grew by the answer, and what is unfinished stays.
-pub record Answered {S : Type 0} (step : S → Command → Answer → S → Type 0) (old : Progress S) (command : Command) (new : Progress S) : Type 0 where
+pub record Answered {S : Type 0} (step : S → Command → Answer → S → Type 0) (old : Progress S)
+    (command : Command) (new : Progress S) : Type 0 where
   pub answer : Answer
   pub stepped : step old.server command answer new.server
   pub report_is : new.report ≡ old.report ++ report (answer ∷ [])
@@ -55,7 +57,8 @@ pub record MeetsBadLine {S : Type 0} (old : Progress S) (piece : List ℕ) (n : 
   pub number : n ≡ saturating_count (old.lines + length good + 1)
 
 -- The script ended behind a line feed: this served it, and this is the report.
-pub record EndsScript {S : Type 0} (old : Progress S) (server : S) (reported : List ℕ) : Type 0 where
+pub record EndsScript {S : Type 0} (old : Progress S) (server : S) (reported : List ℕ)
+    : Type 0 where
   pub nothing_left : old.unfinished ≡ []
   pub server_is : server ≡ old.server
   pub report_is : reported ≡ old.report

@@ -10,7 +10,8 @@ use Rattle.ee_script.specs.Run.{Run}
 
 -- The text is a script, and the report has the answers that what takes these steps gave to its
 -- commands, from old to new.
-pub record IsAnswered {S : Type 0} (step : S → Command → Answer → S → Type 0) (old : S) (text : List ℕ) (new : S) (reported : List ℕ) : Type 0 where
+pub record IsAnswered {S : Type 0} (step : S → Command → Answer → S → Type 0) (old : S)
+    (text : List ℕ) (new : S) (reported : List ℕ) : Type 0 where
   pub commands : List Command
   pub answers : List Answer
   pub is_script : IsScript text commands

@@ -18,43 +18,83 @@ use Rattle.ee_settings.specs.declared.fault.TidyFault.{TidyFault}
 
 -- ---- one forgetting
 
-pub map_without : (old new : Device) (address : ℕ) (written : Written) → Forgets old address (Ok written) new → (state_of new).map ≡ map_after (Forget address) (state_of old).map
+pub map_without : (old new : Device) (address : ℕ) (written : Written)
+    → Forgets old address (Ok written) new
+    → (state_of new).map ≡ map_after (Forget address) (state_of old).map
 map_without old new address written h1 = search rules
 
-forgetting_goes_on : (old new : Device) (address : ℕ) (written : Written) → Forgets old address (Ok written) new → GoesOn old new
+forgetting_goes_on : (old new : Device) (address : ℕ) (written : Written)
+    → Forgets old address (Ok written) new → GoesOn old new
 forgetting_goes_on old new address written h1 = search rules
 
 -- ---- a run of them
 
-pub each_later : (front more : List ℕ) (old mid new : Device) → ForgetsEach front old mid → ForgetsEach more mid new → ForgetsEach (front ++ more) old new
-each_later [] more old mid new first second = subst (λ (device : Device). ForgetsEach more device new) first second
-each_later (address ∷ front) more old mid new first second = search (rules, (each_later front more first.1 mid new first.3 second))
+pub each_later : (front more : List ℕ) (old mid new : Device) → ForgetsEach front old mid
+    → ForgetsEach more mid new → ForgetsEach (front ++ more) old new
+each_later [] more old mid new first second =
+    subst (λ (device : Device). ForgetsEach more device new) first second
+each_later (address ∷ front) more old mid new first second =
+    search (rules, (each_later front more first.1 mid new first.3 second))
 
-pub each_goes_on : (addresses : List ℕ) (old new : Device) → ForgetsEach addresses old new → GoesOn old new
-each_goes_on [] old new done = subst (λ (device : Device). GoesOn old device) (sym done) (goes_on_same old)
-each_goes_on (address ∷ addresses) old new done = search (rules, goes_on_both, forgetting_goes_on, (each_goes_on addresses done.1 new done.3))
+pub each_goes_on : (addresses : List ℕ) (old new : Device) → ForgetsEach addresses old new
+    → GoesOn old new
+each_goes_on [] old new done =
+    subst (λ (device : Device). GoesOn old device) (sym done) (goes_on_same old)
+each_goes_on (address ∷ addresses) old new done =
+    search (rules, goes_on_both, forgetting_goes_on, (each_goes_on addresses done.1 new done.3))
 
-pub each_stays_on : (addresses : List ℕ) (old new : Device) → IsOn old → ForgetsEach addresses old new → IsOn new
+pub each_stays_on : (addresses : List ℕ) (old new : Device) → IsOn old
+    → ForgetsEach addresses old new → IsOn new
 each_stays_on addresses old new on done = (each_goes_on addresses old new done).same_power ∙ on
 
 -- an address that is none of them has what it had
-pub each_keeps : (addresses : List ℕ) (old new : Device) (address : ℕ) → ForgetsEach addresses old new → All (λ one. one ≢ address) addresses → (state_of new).map address ≡ (state_of old).map address
-each_keeps [] old new address done others = ap (λ (device : Device). (state_of device).map address) done
-each_keeps (one ∷ addresses) old new address done others = search (rules, All-head, All-tail, map_without, forget-other, (each_keeps addresses done.1 new address done.3 (All-tail (λ a. a ≢ address) one addresses others)))
+pub each_keeps : (addresses : List ℕ) (old new : Device) (address : ℕ)
+    → ForgetsEach addresses old new → All (λ one. one ≢ address) addresses
+    → (state_of new).map address ≡ (state_of old).map address
+each_keeps [] old new address done others =
+    ap (λ (device : Device). (state_of device).map address) done
+each_keeps (one ∷ addresses) old new address done others = search (
+  rules,
+  All-head,
+  All-tail,
+  map_without,
+  forget-other,
+  (each_keeps addresses done.1 new address done.3
+      (All-tail (λ a. a ≢ address) one addresses others)),
+)
 
 -- ---- where one stops
 
-pub stops_one : (settings : List Setting) (address : ℕ) (fault : ForgetFault) (old new : Device) → has_address settings address ≡ false → Forgets old address (Err fault) new → StopsForgetting (unnamed_of settings address) fault old new
-stops_one settings address fault old new free stopped = record { front = []; address = address; rest = []; addresses_are = rw free refl; last = old; forgotten = refl; stopped = stopped }
+pub stops_one : (settings : List Setting) (address : ℕ) (fault : ForgetFault) (old new : Device)
+    → has_address settings address ≡ false → Forgets old address (Err fault) new
+    → StopsForgetting (unnamed_of settings address) fault old new
+stops_one settings address fault old new free stopped = record {
+  front = [];
+  address = address;
+  rest = [];
+  addresses_are = rw free refl;
+  last = old;
+  forgotten = refl;
+  stopped = stopped;
+}
 
-at_later : (front addresses rest : List ℕ) (fault : ForgetFault) (old mid new : Device) → ForgetsEach front old mid → StopsForgetting addresses fault mid new → StopsForgetting (front ++ (addresses ++ rest)) fault old new
+at_later : (front addresses rest : List ℕ) (fault : ForgetFault) (old mid new : Device)
+    → ForgetsEach front old mid → StopsForgetting addresses fault mid new
+    → StopsForgetting (front ++ (addresses ++ rest)) fault old new
 at_later front addresses rest fault old mid new done stops = grind (arith, common_steps, each_later)
 
-pub stops_later : (front addresses rest all : List ℕ) (fault : TidyFault) (old mid new : Device) → all ≡ front ++ (addresses ++ rest) → ForgetsEach front old mid → Stops addresses mid fault new → Stops all old fault new
+pub stops_later : (front addresses rest all : List ℕ) (fault : TidyFault) (old mid new : Device)
+    → all ≡ front ++ (addresses ++ rest) → ForgetsEach front old mid → Stops addresses mid fault new
+    → Stops all old fault new
 stops_later front addresses rest all fault old mid new h1 h2 h3 = search (rules, at_later)
 
 -- ---- live addresses above one that was looked at
 
-pub still_next : (map other : Map) (above : ℕ) (found : List (ℕ × ℕ)) → ((address : ℕ) → above < address → other address ≡ map address) → AreNextLive map above found → AreNextLive other above found
+pub still_next : (map other : Map) (above : ℕ) (found : List (ℕ × ℕ))
+    → ((address : ℕ) → above < address → other address ≡ map address) → AreNextLive map above found
+    → AreNextLive other above found
 still_next map other above [] same next = tt
-still_next map other above (first ∷ more) same next = search (rules, (still_next map other first.0 more (λ address high. same address (omega arith)) next.1))
+still_next map other above (first ∷ more) same next = search (
+  rules,
+  (still_next map other first.0 more (λ address high. same address (omega arith)) next.1),
+)

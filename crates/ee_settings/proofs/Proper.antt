@@ -8,10 +8,12 @@ use Rattle.ee_pages.specs.declared.side.Side.{Side}
 use Rattle.ee_core.specs.State.{state_in, state_of}
 use Rattle.ee_core.proofs.Public.{meaning_outside}
 
-in_state : (device : Device) (live : Option (Side × ℕ)) (address : ℕ) → ¬ IsAddress address → (state_in device live).map address ≡ None
+in_state : (device : Device) (live : Option (Side × ℕ)) (address : ℕ) → ¬ IsAddress address
+    → (state_in device live).map address ≡ None
 in_state device live address outside = search (rules, meaning_outside)
 
-pub none_outside : (device : Device) (address : ℕ) → ¬ IsAddress address → (state_of device).map address ≡ None
+pub none_outside : (device : Device) (address : ℕ) → ¬ IsAddress address
+    → (state_of device).map address ≡ None
 none_outside device address outside = in_state device (live_of device) address outside
 
 pub proper_or_not : (address : ℕ) → IsAddress address ⊎ ¬ IsAddress address

@@ -15,21 +15,32 @@ pub entries_seen : (es : List (String Global × Value)) → entries_of (members_
 entries_seen [] = refl
 entries_seen (e ∷ es) = ap (λ rest. seen e ∷ rest) (entries_seen es)
 
-pub entries_counted : (es : List (String Global × Value)) → length (entries_of (members_view es)) ≡ length es
+pub entries_counted : (es : List (String Global × Value))
+    → length (entries_of (members_view es)) ≡ length es
 entries_counted [] = refl
 entries_counted (e ∷ es) = ap suc (entries_counted es)
 
 -- where a whole number stands
-pub integer_found : (found : Option Data) (z : ℤ) → option_and_then as_integer found ≡ Some z → found ≡ Some (integer z)
+pub integer_found : (found : Option Data) (z : ℤ) → option_and_then as_integer found ≡ Some z
+    → found ≡ Some (integer z)
 integer_found found z h1 = search rules
 
-pub whole_found : (found : Option Data) (z y : ℤ) → option_and_then as_integer found ≡ Some z → y ≡ z → found ≡ Some (integer y)
+pub whole_found : (found : Option Data) (z y : ℤ) → option_and_then as_integer found ≡ Some z
+    → y ≡ z → found ≡ Some (integer y)
 whole_found found z y h e = integer_found found z h ∙ ap (λ x. Some (integer x)) (sym e)
 
 -- what stands before an entry and behind it
-pub split_entries : (all before after : List (String Global × Value)) (e : String Global × Value) → all ≡ before ++ e ∷ after → entries_of (members_view all) ≡ map seen before ++ seen e ∷ map seen after
-split_entries all before after e h = entries_seen all ∙ ap (map seen) h ∙ map-append seen before (e ∷ after)
+pub split_entries : (all before after : List (String Global × Value)) (e : String Global × Value)
+    → all ≡ before ++ e ∷ after
+    → entries_of (members_view all) ≡ map seen before ++ seen e ∷ map seen after
+split_entries all before after e h =
+    entries_seen all ∙ ap (map seen) h ∙ map-append seen before (e ∷ after)
 
 -- one more entry was gone over
-pub gone_more : (yielded : List (Bor (String Global) × Bor Value)) (x : Bor (String Global) × Bor Value) → map seen (map deref_pair (yielded ++ x ∷ [])) ≡ map seen (map deref_pair yielded) ++ seen (deref_pair x) ∷ []
-gone_more yielded x = ap (map seen) (map-append deref_pair yielded (x ∷ [])) ∙ map-append seen (map deref_pair yielded) (deref_pair x ∷ [])
+pub gone_more : (yielded : List (Bor (String Global) × Bor Value))
+    (x : Bor (String Global) × Bor Value)
+    → map seen (map deref_pair (yielded ++ x ∷ []))
+    ≡ map seen (map deref_pair yielded) ++ seen (deref_pair x) ∷ []
+gone_more yielded x =
+    ap (map seen) (map-append deref_pair yielded (x ∷ []))
+    ∙ map-append seen (map deref_pair yielded) (deref_pair x ∷ [])

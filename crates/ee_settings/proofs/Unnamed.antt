@@ -21,20 +21,27 @@ pub unnamed_to-zero : (settings : List Setting) (map : Map) → unnamed_to setti
 unfolding unnamed_to
 unnamed_to-zero settings map = refl
 
-pub unnamed_to-suc : (settings : List Setting) (map : Map) (n : ℕ) → unnamed_to settings map (suc n) ≡ unnamed_to settings map n ++ cond (is_unnamed settings map (suc n)) (suc n ∷ []) []
+pub unnamed_to-suc : (settings : List Setting) (map : Map) (n : ℕ)
+    → unnamed_to settings map (suc n)
+    ≡ unnamed_to settings map n ++ cond (is_unnamed settings map (suc n)) (suc n ∷ []) []
 unfolding unnamed_to
 unnamed_to-suc settings map n = refl
 
 -- ---- up to where there are none
 
-none_unnamed : (settings : List Setting) (map : Map) (address : ℕ) → map address ≡ None → is_unnamed settings map address ≡ false
-none_unnamed settings map address none = ap (λ (value : Option ℕ). is_some value && not (has_address settings address)) none
+none_unnamed : (settings : List Setting) (map : Map) (address : ℕ) → map address ≡ None
+    → is_unnamed settings map address ≡ false
+none_unnamed settings map address none =
+    ap (λ (value : Option ℕ). is_some value && not (has_address settings address)) none
 
-gap : (settings : List Setting) (map : Map) (n k : ℕ) → ((address : ℕ) → n < address → address ≤ n + k → map address ≡ None) → unnamed_to settings map (n + k) ≡ unnamed_to settings map n
+gap : (settings : List Setting) (map : Map) (n k : ℕ)
+    → ((address : ℕ) → n < address → address ≤ n + k → map address ≡ None)
+    → unnamed_to settings map (n + k) ≡ unnamed_to settings map n
 gap settings map n zero none = ap (unnamed_to settings map) (let e : n + 0 ≡ n = omega arith in e)
 gap settings map n (suc k) none =
     let e : n + suc k ≡ suc (n + k) = omega arith in
-    let here : is_unnamed settings map (suc (n + k)) ≡ false = none_unnamed settings map (suc (n + k)) (none (suc (n + k)) (omega arith) (omega arith)) in
+    let here : is_unnamed settings map (suc (n + k)) ≡ false =
+    none_unnamed settings map (suc (n + k)) (none (suc (n + k)) (omega arith) (omega arith)) in
     let rest = gap settings map n k (λ address low high. none address low (omega arith)) in
     ap (unnamed_to settings map) e
     ∙ unnamed_to-suc settings map (n + k)
@@ -42,15 +49,23 @@ gap settings map n (suc k) none =
     ∙ append-nil (unnamed_to settings map (n + k))
     ∙ rest
 
-pub gap_to : (settings : List Setting) (map : Map) (n m : ℕ) → n ≤ m → ((address : ℕ) → n < address → address ≤ m → map address ≡ None) → unnamed_to settings map m ≡ unnamed_to settings map n
+pub gap_to : (settings : List Setting) (map : Map) (n m : ℕ) → n ≤ m
+    → ((address : ℕ) → n < address → address ≤ m → map address ≡ None)
+    → unnamed_to settings map m ≡ unnamed_to settings map n
 gap_to settings map n m h none =
     let e : m ≡ n + (m - n) = omega arith in
-    ap (unnamed_to settings map) e ∙ gap settings map n (m - n) (λ address low high. none address low (omega arith))
+    ap (unnamed_to settings map) e
+    ∙ gap settings map n (m - n) (λ address low high. none address low (omega arith))
 
 -- ---- further on
 
-longer : (settings : List Setting) (map : Map) (n k : ℕ) → (rest : List ℕ) × (unnamed_to settings map (n + k) ≡ unnamed_to settings map n ++ rest)
-longer settings map n zero = ([], ap (unnamed_to settings map) (let e : n + 0 ≡ n = omega arith in e) ∙ sym (append-nil (unnamed_to settings map n)))
+longer : (settings : List Setting) (map : Map) (n k : ℕ)
+    → (rest : List ℕ) × (unnamed_to settings map (n + k) ≡ unnamed_to settings map n ++ rest)
+longer settings map n zero = (
+  [],
+  ap (unnamed_to settings map) (let e : n + 0 ≡ n = omega arith in e)
+      ∙ sym (append-nil (unnamed_to settings map n)),
+)
 longer settings map n (suc k) =
     let e : n + suc k ≡ suc (n + k) = omega arith in
     let front = longer settings map n k in
@@ -62,7 +77,8 @@ longer settings map n (suc k) =
           ∙ append_assoc (unnamed_to settings map n) front.0 last,
     )
 
-pub begins_with : (settings : List Setting) (map : Map) (n m : ℕ) → n ≤ m → (rest : List ℕ) × (unnamed_to settings map m ≡ unnamed_to settings map n ++ rest)
+pub begins_with : (settings : List Setting) (map : Map) (n m : ℕ) → n ≤ m
+    → (rest : List ℕ) × (unnamed_to settings map m ≡ unnamed_to settings map n ++ rest)
 begins_with settings map n m low =
     let e : m ≡ n + (m - n) = omega arith in
     let more = longer settings map n (m - n) in
@@ -73,31 +89,50 @@ begins_with settings map n m low =
 turned : (b : Bool) (address : ℕ) → if_so (not b) address ≡ cond b [] (address ∷ [])
 turned b address = search rules
 
-next_one : (settings : List Setting) (map : Map) (above address value : ℕ) → IsNextLive map above (Some (address, value)) → unnamed_to settings map address ≡ unnamed_to settings map above ++ unnamed_of settings address
+next_one : (settings : List Setting) (map : Map) (above address value : ℕ)
+    → IsNextLive map above (Some (address, value))
+    → unnamed_to settings map address ≡ unnamed_to settings map above ++ unnamed_of settings address
 next_one settings map above address value next =
     let e : address ≡ suc (address - 1) = omega (arith, next.0) in
-    let before = gap_to settings map above (address - 1) (omega (arith, next.0)) (λ k low high. next.2 k low (omega (arith, next.0))) in
-    let here : is_unnamed settings map address ≡ not (has_address settings address) = ap (λ (found : Option ℕ). is_some found && not (has_address settings address)) next.1 in
+    let before =
+    gap_to settings map above (address - 1) (omega (arith, next.0))
+    (λ k low high. next.2 k low (omega (arith, next.0))) in
+    let here : is_unnamed settings map address ≡ not (has_address settings address) =
+    ap (λ (found : Option ℕ). is_some found && not (has_address settings address)) next.1 in
     ap (unnamed_to settings map) e
     ∙ unnamed_to-suc settings map (address - 1)
     ∙ ap (λ k. unnamed_to settings map (address - 1) ++ if_so (is_unnamed settings map k) k) (sym e)
     ∙ ap (λ (b : Bool). unnamed_to settings map (address - 1) ++ if_so b address) here
-    ∙ ap (λ l. unnamed_to settings map (address - 1) ++ l) (turned (has_address settings address) address)
+    ∙ ap (λ l. unnamed_to settings map (address - 1) ++ l)
+    (turned (has_address settings address) address)
     ∙ ap (λ l. l ++ unnamed_of settings address) before
 
-pub batch : (settings : List Setting) (map : Map) (above : ℕ) (found : List (ℕ × ℕ)) → AreNextLive map above found → unnamed_to settings map (last_of above found) ≡ unnamed_to settings map above ++ unnamed_among settings found
+pub batch : (settings : List Setting) (map : Map) (above : ℕ) (found : List (ℕ × ℕ))
+    → AreNextLive map above found
+    → unnamed_to settings map (last_of above found)
+    ≡ unnamed_to settings map above ++ unnamed_among settings found
 batch settings map above [] next = sym (append-nil (unnamed_to settings map above))
 batch settings map above (first ∷ more) next =
     batch settings map first.0 more next.1
-    ∙ ap (λ l. l ++ unnamed_among settings more) (next_one settings map above first.0 first.1 next.0)
-    ∙ append_assoc (unnamed_to settings map above) (unnamed_of settings first.0) (unnamed_among settings more)
+    ∙ ap (λ l. l ++ unnamed_among settings more)
+    (next_one settings map above first.0 first.1 next.0)
+    ∙ append_assoc (unnamed_to settings map above) (unnamed_of settings first.0)
+    (unnamed_among settings more)
 
-pub batch_through : (settings : List Setting) (map : Map) (above to : ℕ) (found : List (ℕ × ℕ)) → AreLiveThrough map above found (Some to) → unnamed_to settings map to ≡ unnamed_to settings map above ++ unnamed_among settings found
-batch_through settings map above to found live = gap_to settings map (last_of above found) to live.rest.0 live.rest.1 ∙ batch settings map above found live.next
+pub batch_through : (settings : List Setting) (map : Map) (above to : ℕ) (found : List (ℕ × ℕ))
+    → AreLiveThrough map above found (Some to)
+    → unnamed_to settings map to ≡ unnamed_to settings map above ++ unnamed_among settings found
+batch_through settings map above to found live =
+    gap_to settings map (last_of above found) to live.rest.0 live.rest.1
+    ∙ batch settings map above found live.next
 
-pub batch_all : (settings : List Setting) (map : Map) (above : ℕ) (found : List (ℕ × ℕ)) → last_of above found ≤ 65534 → AreLiveThrough map above found None → unnamed_in settings map ≡ unnamed_to settings map above ++ unnamed_among settings found
+pub batch_all : (settings : List Setting) (map : Map) (above : ℕ) (found : List (ℕ × ℕ))
+    → last_of above found ≤ 65534 → AreLiveThrough map above found None
+    → unnamed_in settings map ≡ unnamed_to settings map above ++ unnamed_among settings found
 batch_all settings map above found below live =
-    gap_to settings map (last_of above found) 65534 below (λ address low high. live.rest address low) ∙ batch settings map above found live.next
+    gap_to settings map (last_of above found) 65534 below
+    (λ address low high. live.rest address low)
+    ∙ batch settings map above found live.next
 
 -- ---- how many, and where
 
@@ -106,37 +141,56 @@ so_few b address = search rules
 
 pub few : (settings : List Setting) (map : Map) (n : ℕ) → length (unnamed_to settings map n) ≤ n
 few settings map zero = rw (unnamed_to-zero settings map) (omega arith)
-few settings map (suc n) = search (rules, length-append, so_few, unnamed_to-suc, (few settings map n))
+few settings map (suc n) =
+    search (rules, length-append, so_few, unnamed_to-suc, (few settings map n))
 
 -- ---- those that were found lie up to the last one
 
-low_of : (b : Bool) (address last : ℕ) → address ≤ last → All (λ a. a ≤ last) (cond b [] (address ∷ []))
+low_of : (b : Bool) (address last : ℕ) → address ≤ last
+    → All (λ a. a ≤ last) (cond b [] (address ∷ []))
 low_of b address last h1 = search (rules, All-nil, All-cons)
 
-among_low : (settings : List Setting) (map : Map) (above : ℕ) (found : List (ℕ × ℕ)) → AreNextLive map above found → All (λ a. a ≤ last_of above found) (unnamed_among settings found)
+among_low : (settings : List Setting) (map : Map) (above : ℕ) (found : List (ℕ × ℕ))
+    → AreNextLive map above found
+    → All (λ a. a ≤ last_of above found) (unnamed_among settings found)
 among_low settings map above [] next = All-nil (λ a. a ≤ above)
-among_low settings map above (first ∷ more) next = search (rules, last_rises, low_of, (among_low settings map first.0 more next.1))
+among_low settings map above (first ∷ more) next =
+    search (rules, last_rises, low_of, (among_low settings map first.0 more next.1))
 
-pub among_others : (settings : List Setting) (map : Map) (above address : ℕ) (found : List (ℕ × ℕ)) → AreNextLive map above found → last_of above found < address → All (λ a. a ≢ address) (unnamed_among settings found)
+pub among_others : (settings : List Setting) (map : Map) (above address : ℕ) (found : List (ℕ × ℕ))
+    → AreNextLive map above found → last_of above found < address
+    → All (λ a. a ≢ address) (unnamed_among settings found)
 among_others settings map above address found next high = search (rules, All-weaker, among_low)
 
 -- ---- a batch of one map in another that says the same from there on
 
-none_same : (map other : Map) (above : ℕ) (through : Option ℕ) → ((address : ℕ) → above < address → other address ≡ map address) → IsNoneLive map above through → IsNoneLive other above through
+none_same : (map other : Map) (above : ℕ) (through : Option ℕ)
+    → ((address : ℕ) → above < address → other address ≡ map address) → IsNoneLive map above through
+    → IsNoneLive other above through
 none_same map other above through h1 h2 = search rules
 
-pub live_same : (map other : Map) (above : ℕ) (found : List (ℕ × ℕ)) (through : Option ℕ) → ((address : ℕ) → above < address → other address ≡ map address) → AreLiveThrough map above found through → AreLiveThrough other above found through
-live_same map other above found through same live = search (rules, last_rises, none_same, still_next)
+pub live_same : (map other : Map) (above : ℕ) (found : List (ℕ × ℕ)) (through : Option ℕ)
+    → ((address : ℕ) → above < address → other address ≡ map address)
+    → AreLiveThrough map above found through → AreLiveThrough other above found through
+live_same map other above found through same live =
+    search (rules, last_rises, none_same, still_next)
 
 -- ---- within a batch
 
-pub among_more : (settings : List Setting) (found : List (ℕ × ℕ)) (n : ℕ) (one : ℕ × ℕ) → n < length found → one ≡ get_or found n one
-    → unnamed_among settings (take (n + 1) found) ≡ unnamed_among settings (take n found) ++ unnamed_of settings one.0
-among_more settings found n one inside here = grind (arith, common_steps, append-nil, flat_map-append, take_more)
+pub among_more : (settings : List Setting) (found : List (ℕ × ℕ)) (n : ℕ) (one : ℕ × ℕ)
+    → n < length found → one ≡ get_or found n one
+    → unnamed_among settings (take (n + 1) found)
+    ≡ unnamed_among settings (take n found) ++ unnamed_of settings one.0
+among_more settings found n one inside here =
+    grind (arith, common_steps, append-nil, flat_map-append, take_more)
 
-pub among_split : (settings : List Setting) (found : List (ℕ × ℕ)) (n : ℕ) (one : ℕ × ℕ) → n < length found → one ≡ get_or found n one
-    → unnamed_among settings found ≡ unnamed_among settings (take n found) ++ (unnamed_of settings one.0 ++ unnamed_among settings (drop (n + 1) found))
+pub among_split : (settings : List Setting) (found : List (ℕ × ℕ)) (n : ℕ) (one : ℕ × ℕ)
+    → n < length found → one ≡ get_or found n one
+    → unnamed_among settings found
+    ≡ unnamed_among settings (take n found)
+    ++ (unnamed_of settings one.0 ++ unnamed_among settings (drop (n + 1) found))
 among_split settings found n one inside here =
     ap (unnamed_among settings) (sym (take-append-drop n found))
     ∙ flat_map-append (λ (x : ℕ × ℕ). unnamed_of settings x.0) (take n found) (drop n found)
-    ∙ ap (λ l. unnamed_among settings (take n found) ++ unnamed_among settings l) (drop_more found n one inside ∙ ap (λ (x : ℕ × ℕ). x ∷ drop (n + 1) found) (sym here))
+    ∙ ap (λ l. unnamed_among settings (take n found) ++ unnamed_among settings l)
+    (drop_more found n one inside ∙ ap (λ (x : ℕ × ℕ). x ∷ drop (n + 1) found) (sym here))

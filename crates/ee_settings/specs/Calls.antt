@@ -24,15 +24,18 @@ IsUnknown settings name = (setting : Setting) → ¬ IsNamed settings name setti
 -- the name's setting has these numbers
 abbrev pub IsNumbersOf : List Setting → List ℕ → Numbers → Type 0
 IsNumbersOf settings name numbers =
-    AreProper numbers × (setting : Setting) × IsNamed settings name setting × (setting.numbers ≡ numbers)
+    AreProper numbers × (setting : Setting) × IsNamed settings name setting
+    × (setting.numbers ≡ numbers)
 
 -- the reading of the name's setting in the store's map; or there is no such setting;
 -- or the device was off
 abbrev pub Gets : List Setting → Device → List ℕ → Result Reading GetFault → Type 0
 Gets settings device name (Ok reading) =
-    IsOn device × (setting : Setting) × IsNamed settings name setting × (reading ≡ reading_in (state_of device).map setting)
+    IsOn device × (setting : Setting) × IsNamed settings name setting
+    × (reading ≡ reading_in (state_of device).map setting)
 Gets settings device name (Err get.UnknownName) = IsUnknown settings name
-Gets settings device name (Err get.Off) = IsOff device × (setting : Setting) × IsNamed settings name setting
+Gets settings device name (Err get.Off) =
+    IsOff device × (setting : Setting) × IsNamed settings name setting
 
 -- The value, in the range of the name's setting, is written at its address, with the store's
 -- answer; or there is no such setting, or the value isn't in its range, and nothing changed.

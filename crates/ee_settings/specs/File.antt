@@ -54,7 +54,8 @@ pub record IsEntryOf (entry : Entry) (setting : Setting) : Type 0 where
 -- each entry is the setting in the same place
 abbrev pub AreEntriesOf : List Entry → List Setting → Type 0
 AreEntriesOf [] [] = ⊤
-AreEntriesOf (entry ∷ entries) (setting ∷ settings) = IsEntryOf entry setting × AreEntriesOf entries settings
+AreEntriesOf (entry ∷ entries) (setting ∷ settings) =
+    IsEntryOf entry setting × AreEntriesOf entries settings
 AreEntriesOf _ _ = ⊥
 
 -- a table is the schema with these settings
@@ -72,7 +73,8 @@ HaveBadRange fields = (numbers : Numbers) → AreProper numbers → fields ≢ f
 
 -- an earlier setting has the address
 abbrev pub IsTaken : List Setting → ℕ → Type 0
-IsTaken earlier address = (other : Setting) × Contains earlier other × (other.numbers.address ≡ address)
+IsTaken earlier address =
+    (other : Setting) × Contains earlier other × (other.numbers.address ≡ address)
 
 -- the rules that an entry can break, in the order in which they are tried
 pub data Rule : Type 0 where
@@ -85,8 +87,10 @@ pub data Rule : Type 0 where
 abbrev pub BreaksFirst : Rule → List Setting → Entry → Type 0
 BreaksFirst Name earlier entry = ¬ IsName entry.0
 BreaksFirst Field earlier entry = IsName entry.0 × HasBadField entry.1
-BreaksFirst Range earlier entry = IsName entry.0 × (fields : Fields) × IsTableOf entry.1 fields × HaveBadRange fields
-BreaksFirst Address earlier entry = (setting : Setting) × IsEntryOf entry setting × IsTaken earlier setting.numbers.address
+BreaksFirst Range earlier entry =
+    IsName entry.0 × (fields : Fields) × IsTableOf entry.1 fields × HaveBadRange fields
+BreaksFirst Address earlier entry =
+    (setting : Setting) × IsEntryOf entry setting × IsTaken earlier setting.numbers.address
 
 -- the entry of this number, counted from 1, breaks this rule, and those before it are settings
 pub record IsFirstFault (entries : List Entry) (number : ℕ) (rule : Rule) : Type 0 where
@@ -109,14 +113,20 @@ IsSchemaFault entries fault.Memory = ⊤
 
 -- what reading the entry of this number gives, behind these settings
 abbrev pub GivesSetting : List Setting → ℕ → Entry → Result Setting SchemaFault → Type 0
-GivesSetting earlier number entry (Ok setting) = IsEntryOf entry setting × ¬ IsTaken earlier setting.numbers.address
-GivesSetting earlier number entry (Err (fault.BadName at)) = (at ≡ number) × BreaksFirst Name earlier entry
-GivesSetting earlier number entry (Err (fault.BadField at)) = (at ≡ number) × BreaksFirst Field earlier entry
-GivesSetting earlier number entry (Err (fault.BadRange at)) = (at ≡ number) × BreaksFirst Range earlier entry
-GivesSetting earlier number entry (Err (fault.SameAddress at)) = (at ≡ number) × BreaksFirst Address earlier entry
+GivesSetting earlier number entry (Ok setting) =
+    IsEntryOf entry setting × ¬ IsTaken earlier setting.numbers.address
+GivesSetting earlier number entry (Err (fault.BadName at)) =
+    (at ≡ number) × BreaksFirst Name earlier entry
+GivesSetting earlier number entry (Err (fault.BadField at)) =
+    (at ≡ number) × BreaksFirst Field earlier entry
+GivesSetting earlier number entry (Err (fault.BadRange at)) =
+    (at ≡ number) × BreaksFirst Range earlier entry
+GivesSetting earlier number entry (Err (fault.SameAddress at)) =
+    (at ≡ number) × BreaksFirst Address earlier entry
 GivesSetting earlier number entry (Err fault.Memory) = ⊤
 
 -- what reading a table gives
 abbrev pub GivesSchema : Members → Result (List Setting) SchemaFault → Type 0
-GivesSchema members (Ok settings) = IsSchemaOf (entries_of members) settings × HaveRisingNames settings
+GivesSchema members (Ok settings) =
+    IsSchemaOf (entries_of members) settings × HaveRisingNames settings
 GivesSchema members (Err fault) = IsSchemaFault (entries_of members) fault

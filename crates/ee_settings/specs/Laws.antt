@@ -34,7 +34,8 @@ KeepsOthers settings name old new = (other : Setting) → Contains settings othe
 -- the setting of the name reads as this value, stored
 abbrev pub ReadsStored : List Setting → List ℕ → ℕ → Device → Type 0
 ReadsStored settings name value device =
-    (setting : Setting) × IsNamed settings name setting × (reading_in (state_of device).map setting ≡ Stored value)
+    (setting : Setting) × IsNamed settings name setting
+    × (reading_in (state_of device).map setting ≡ Stored value)
 
 -- each setting reads as before
 abbrev pub KeepsAll : List Setting → Device → Device → Type 0
@@ -44,23 +45,31 @@ KeepsAll settings old new = (setting : Setting) → Contains settings setting
 -- A setting that was set reads as that value, and no other reading changes, whether the
 -- store moved or not.
 abbrev pub SetIsRead : Type 0
-SetIsRead = (settings : List Setting) → IsSchema settings → (old new : Device) (name : List ℕ) (value : ℕ) (written : Written)
-    → Sets settings old name value (Ok written) new → ReadsStored settings name value new × KeepsOthers settings name old new
+SetIsRead =
+    (settings : List Setting) → IsSchema settings
+    → (old new : Device) (name : List ℕ) (value : ℕ) (written : Written)
+    → Sets settings old name value (Ok written) new
+    → ReadsStored settings name value new × KeepsOthers settings name old new
 
 -- After a cut it reads as that value or as before, and no other reading changes.
 abbrev pub CutKeepsOthers : Type 0
-CutKeepsOthers = (settings : List Setting) → IsSchema settings → (old new : Device) → IsFormed old → (name : List ℕ) (value : ℕ)
+CutKeepsOthers =
+    (settings : List Setting) → IsSchema settings → (old new : Device) → IsFormed old
+    → (name : List ℕ) (value : ℕ)
     → Sets settings old name value (Err (set.Store write.Cut)) new
-    → KeepsAll settings old new ⊎ (ReadsStored settings name value new × KeepsOthers settings name old new)
+    → KeepsAll settings old new
+    ⊎ (ReadsStored settings name value new × KeepsOthers settings name old new)
 
 -- Every other refusal leaves the device as it was.
 abbrev pub RefusalsChangeNothing : Type 0
-RefusalsChangeNothing = (settings : List Setting) (old new : Device) (name : List ℕ) (value : ℕ) (fault : SetFault)
+RefusalsChangeNothing =
+    (settings : List Setting) (old new : Device) (name : List ℕ) (value : ℕ) (fault : SetFault)
     → fault ≢ set.Store write.Cut → Sets settings old name value (Err fault) new → new ≡ old
 
 -- A name has one setting at most.
 abbrev pub NamesAreApart : Type 0
-NamesAreApart = (settings : List Setting) → IsSchema settings → (name : List ℕ) (one other : Setting)
+NamesAreApart =
+    (settings : List Setting) → IsSchema settings → (name : List ℕ) (one other : Setting)
     → IsNamed settings name one → IsNamed settings name other → one ≡ other
 
 -- A table is one schema at most.
@@ -89,9 +98,11 @@ EachTableIsJudged = (members : Members) → HaveRisingKeys (entries_of members)
 
 -- The stale entries that are told are rising, each is one, and each that is one is among them.
 pub record IsStaleExact (settings : List Setting) (stored : Map) : Type 0 where
-  pub rising : IsStrictlySortedBy nat_cmp (map (λ (stale : Stale). stale.entry) (stale_in stored settings))
+  pub rising : IsStrictlySortedBy nat_cmp
+      (map (λ (stale : Stale). stale.entry) (stale_in stored settings))
   pub each : All (IsStale settings stored) (stale_in stored settings)
-  pub all : (stale : Stale) → IsStale settings stored stale → Contains (stale_in stored settings) stale
+  pub all : (stale : Stale) → IsStale settings stored stale
+      → Contains (stale_in stored settings) stale
 
 abbrev pub StaleIsExact : Type 0
 StaleIsExact = (settings : List Setting) (stored : Map) → IsStaleExact settings stored
@@ -101,7 +112,8 @@ StaleIsExact = (settings : List Setting) (stored : Map) → IsStaleExact setting
 -- What is listed rises by address, so each is listed once; what is said of each is so; and each
 -- that has a value or a setting is listed.
 pub record IsListedExact (settings : List Setting) (stored : Map) : Type 0 where
-  pub rising : IsStrictlySortedBy nat_cmp (map (λ (listed : Listed). listed.address) (listed_in settings stored))
+  pub rising : IsStrictlySortedBy nat_cmp
+      (map (λ (listed : Listed). listed.address) (listed_in settings stored))
   pub each : All (IsListedSo settings stored) (listed_in settings stored)
   pub all : (address : ℕ) → IsToldOf settings stored address
       → (listed : Listed) × (listed.address ≡ address) × Contains (listed_in settings stored) listed
@@ -113,37 +125,45 @@ ListedIsExact = (settings : List Setting) (stored : Map) → IsListedExact setti
 
 -- Each setting reads as before, whatever tidying answers.
 abbrev pub TidyKeepsReadings : Type 0
-TidyKeepsReadings = (settings : List Setting) (old new : Device) (answer : Result ℕ TidyFault) → IsFormed old
+TidyKeepsReadings =
+    (settings : List Setting) (old new : Device) (answer : Result ℕ TidyFault) → IsFormed old
     → Tidies settings old answer new → KeepsAll settings old new
 
 -- Each address has what it had, but some that no setting has have nothing now,
 -- whatever tidying answers.
 abbrev pub TidyTakesTheUnnamed : Type 0
-TidyTakesTheUnnamed = (settings : List Setting) (old new : Device) (answer : Result ℕ TidyFault) → IsFormed old
+TidyTakesTheUnnamed =
+    (settings : List Setting) (old new : Device) (answer : Result ℕ TidyFault) → IsFormed old
     → Tidies settings old answer new → (address : ℕ)
     → ((state_of new).map address ≡ (state_of old).map address)
     ⊎ ((has_address settings address ≡ false) × ((state_of new).map address ≡ None))
 
 -- Tidied to the end, a store has the values of the settings' addresses and no others.
 abbrev pub TidyLeavesTheNamed : Type 0
-TidyLeavesTheNamed = (settings : List Setting) (old new : Device) (count : ℕ) → Tidies settings old (Ok count) new
+TidyLeavesTheNamed =
+    (settings : List Setting) (old new : Device) (count : ℕ) → Tidies settings old (Ok count) new
     → (address : ℕ) → (state_of new).map address ≡ kept_map settings (state_of old).map address
 
 -- Its state is what those forgettings make of the state before: so far used, of this generation,
 -- and so many pages waiting.
 abbrev pub TidyLeavesThisState : Type 0
-TidyLeavesThisState = (settings : List Setting) (old new : Device) (count : ℕ) → Tidies settings old (Ok count) new
-    → state_of new ≡ after_forgettings old.size (unnamed_in settings (state_of old).map) (state_of old)
+TidyLeavesThisState =
+    (settings : List Setting) (old new : Device) (count : ℕ) → Tidies settings old (Ok count) new
+    → state_of new
+    ≡ after_forgettings old.size (unnamed_in settings (state_of old).map) (state_of old)
 
 -- It came to that by as many forgettings as the answer says, each of one that no setting has.
 abbrev pub TidyIsARun : Type 0
-TidyIsARun = (settings : List Setting) (old new : Device) (count : ℕ) → Tidies settings old (Ok count) new
+TidyIsARun =
+    (settings : List Setting) (old new : Device) (count : ℕ) → Tidies settings old (Ok count) new
     → (calls : List Call) × IsWholeRun calls old new
-    × (flat_map changes_of_call calls ≡ map Forget (unnamed_in settings (state_of old).map)) × (length calls ≡ count)
+    × (flat_map changes_of_call calls ≡ map Forget (unnamed_in settings (state_of old).map))
+    × (length calls ≡ count)
 
 -- It is spent exactly where one of the forgettings is.
 abbrev pub TidyIsSpent : Type 0
 TidyIsSpent = (settings : List Setting) (old new : Device)
-    → (Tidies settings old (Err tidy.Spent) new → IsSpentAmong old.size (unnamed_in settings (state_of old).map) (state_of old))
+    → (Tidies settings old (Err tidy.Spent) new
+    → IsSpentAmong old.size (unnamed_in settings (state_of old).map) (state_of old))
     × ((count : ℕ) → Tidies settings old (Ok count) new
     → ¬ IsSpentAmong old.size (unnamed_in settings (state_of old).map) (state_of old))

@@ -17,7 +17,8 @@ use Rattle.ee_settings.specs.declared.numbers.Numbers.{Numbers}
 abbrev pub named_from : ℕ → List Setting → ℕ → Option (ℕ × Numbers)
 named_from entry [] address = None
 named_from entry (setting ∷ settings) address =
-    if setting.numbers.address == address then Some (entry, setting.numbers) else named_from (entry + 1) settings address
+    if setting.numbers.address
+    == address then Some (entry, setting.numbers) else named_from (entry + 1) settings address
 
 -- entries are counted from 1
 abbrev pub named_in : List Setting → ℕ → Option (ℕ × Numbers)
@@ -30,15 +31,19 @@ held_by numbers value = if is_in_range numbers value then Value value else Stale
 -- what there is to say of an address, by its setting and its value
 abbrev pub listed_of : ℕ → Option (ℕ × Numbers) → Option ℕ → List Listed
 listed_of address None None = []
-listed_of address None (Some value) = record { address = address; entry = None; held = Value value } ∷ []
-listed_of address (Some named) None = record { address = address; entry = Some named.0; held = Default named.1.default } ∷ []
-listed_of address (Some named) (Some value) = record { address = address; entry = Some named.0; held = held_by named.1 value } ∷ []
+listed_of address None (Some value) =
+    record { address = address; entry = None; held = Value value } ∷ []
+listed_of address (Some named) None =
+    record { address = address; entry = Some named.0; held = Default named.1.default } ∷ []
+listed_of address (Some named) (Some value) =
+    record { address = address; entry = Some named.0; held = held_by named.1 value } ∷ []
 
 -- of the addresses 1 to this one, by rising address
 unfoldable pub listed_to : List Setting → Map → ℕ → List Listed
 listed_to settings map zero = []
 listed_to settings map (suc address) =
-    listed_to settings map address ++ listed_of (suc address) (named_in settings (suc address)) (map (suc address))
+    listed_to settings map address
+    ++ listed_of (suc address) (named_in settings (suc address)) (map (suc address))
 
 -- of all addresses
 abbrev pub listed_in : List Setting → Map → List Listed
@@ -60,9 +65,11 @@ IsHeld numbers stored (Default value) = (stored ≡ None) × (value ≡ numbers.
 -- value; or by the entry of the setting that has it.
 abbrev pub IsSaidOf : List Setting → Map → ℕ → Option ℕ → Held → Type 0
 IsSaidOf settings stored address None held =
-    (has_address settings address ≡ false) × (value : ℕ) × (stored address ≡ Some value) × (held ≡ Value value)
+    (has_address settings address ≡ false) × (value : ℕ) × (stored address ≡ Some value)
+    × (held ≡ Value value)
 IsSaidOf settings stored address (Some entry) held =
-    (setting : Setting) × (entry_of settings entry ≡ Some setting) × (setting.numbers.address ≡ address)
+    (setting : Setting) × (entry_of settings entry ≡ Some setting)
+    × (setting.numbers.address ≡ address)
     × IsHeld setting.numbers (stored address) held
 
 abbrev pub IsListedSo : List Setting → Map → Listed → Type 0

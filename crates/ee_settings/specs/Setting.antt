@@ -64,11 +64,13 @@ has_address settings address = list_any (λ setting. setting.numbers.address == 
 -- no two settings have one address
 abbrev pub HaveOwnAddresses : List Setting → Type 0
 HaveOwnAddresses settings = (one other : Setting)
-    → Contains settings one → Contains settings other → one.numbers.address ≡ other.numbers.address → one ≡ other
+    → Contains settings one → Contains settings other → one.numbers.address ≡ other.numbers.address
+    → one ≡ other
 
 -- the names rise in the order of bytes, so no two are one
 abbrev pub HaveRisingNames : List Setting → Type 0
-HaveRisingNames settings = IsStrictlySortedBy (slice_cmp nat_cmp) (map (λ setting. setting.name) settings)
+HaveRisingNames settings =
+    IsStrictlySortedBy (slice_cmp nat_cmp) (map (λ setting. setting.name) settings)
 
 -- what the settings of a program are
 pub record IsSchema (settings : List Setting) : Type 0 where

@@ -15,19 +15,22 @@ entry_of settings (suc index) = slice_get settings index
 
 -- the name of that entry
 abbrev pub IsNameOf : List Setting → ℕ → List ℕ → Type 0
-IsNameOf settings entry name = (setting : Setting) × (entry_of settings entry ≡ Some setting) × (name ≡ setting.name)
+IsNameOf settings entry name =
+    (setting : Setting) × (entry_of settings entry ≡ Some setting) × (name ≡ setting.name)
 
 -- an entry is stale if the value that its address has is not in its range
 abbrev pub stale_at : ℕ → Numbers → Option ℕ → List Stale
 stale_at entry numbers None = []
-stale_at entry numbers (Some value) = if is_in_range numbers value then [] else record { entry = entry; value = value } ∷ []
+stale_at entry numbers (Some value) =
+    if is_in_range numbers value then [] else record { entry = entry; value = value } ∷ []
 
 -- those of the settings that are stale, with their values, where the first setting is the
 -- entry of this number
 abbrev pub stale_from : ℕ → Map → List Setting → List Stale
 stale_from entry stored [] = []
 stale_from entry stored (setting ∷ settings) =
-    stale_at entry setting.numbers (stored setting.numbers.address) ++ stale_from (entry + 1) stored settings
+    stale_at entry setting.numbers (stored setting.numbers.address)
+    ++ stale_from (entry + 1) stored settings
 
 -- all of them, by rising entry
 abbrev pub stale_in : Map → List Setting → List Stale

@@ -22,7 +22,8 @@ is_unnamed settings map address = is_some (map address) && not (has_address sett
 unfoldable pub unnamed_to : List Setting → Map → ℕ → List ℕ
 unnamed_to settings map zero = []
 unnamed_to settings map (suc address) =
-    unnamed_to settings map address ++ (if is_unnamed settings map (suc address) then suc address ∷ [] else [])
+    unnamed_to settings map address
+    ++ (if is_unnamed settings map (suc address) then suc address ∷ [] else [])
 
 -- of all addresses
 abbrev pub unnamed_in : List Setting → Map → List ℕ
@@ -32,11 +33,13 @@ unnamed_in settings map = unnamed_to settings map 65534
 abbrev pub ForgetsEach : List ℕ → Device → Device → Type 0
 ForgetsEach [] old new = new ≡ old
 ForgetsEach (address ∷ addresses) old new =
-    (written : Written) × (between : Device) × Forgets old address (Ok written) between × ForgetsEach addresses between new
+    (written : Written) × (between : Device) × Forgets old address (Ok written) between
+    × ForgetsEach addresses between new
 
 -- a front of these addresses was forgotten, and the forgetting of the next one was
 -- answered with this fault
-pub record StopsForgetting (addresses : List ℕ) (fault : ForgetFault) (old new : Device) : Type 0 where
+pub record StopsForgetting (addresses : List ℕ) (fault : ForgetFault) (old new : Device)
+    : Type 0 where
   pub front : List ℕ
   pub address : ℕ
   pub rest : List ℕ
@@ -70,18 +73,22 @@ kept_map settings map address = if has_address settings address then map address
 -- what forgetting an address leaves: appended, or moved where no slot is free
 abbrev pub after_forgetting : Size → ℕ → State → State
 after_forgetting size address state =
-    if state.fill == slot_count size then moved_state size.pages (Forget address ∷ []) state else appended_state (Forget address) state
+    if state.fill
+    == slot_count size then moved_state size.pages (Forget address ∷ []) state else
+    appended_state (Forget address) state
 
 -- and what forgetting these leaves, one after another
 abbrev pub after_forgettings : Size → List ℕ → State → State
 after_forgettings size [] state = state
-after_forgettings size (address ∷ addresses) state = after_forgettings size addresses (after_forgetting size address state)
+after_forgettings size (address ∷ addresses) state =
+    after_forgettings size addresses (after_forgetting size address state)
 
 -- where these are forgotten, one after another, the store is spent before the last of them
 abbrev pub IsSpentAmong : Size → List ℕ → State → Type 0
 IsSpentAmong size [] state = ⊥
 IsSpentAmong size (address ∷ addresses) state =
-    IsSpent (slot_count size) state ⊎ IsSpentAmong size addresses (after_forgetting size address state)
+    IsSpent (slot_count size) state
+    ⊎ IsSpentAmong size addresses (after_forgetting size address state)
 
 -- ---- for the functions within
 

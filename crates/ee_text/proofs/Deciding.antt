@@ -3,7 +3,8 @@ use Rattle.std.proofs.Common.{◌≡◌, ◌≢◌, ◌⊎◌, ℕ, zero, suc, �
 use Rattle.std.proofs.lemmas.Bool.{cases_eq}
 use Rattle.std.proofs.lemmas.List.{append_cancel_left}
 
-pub some_below : (P : ℕ → Type 0) → ((n : ℕ) → P n ⊎ ¬ P n) → (bound : ℕ) → ((n : ℕ) × (n < bound) × P n) ⊎ ((n : ℕ) → n < bound → ¬ P n)
+pub some_below : (P : ℕ → Type 0) → ((n : ℕ) → P n ⊎ ¬ P n) → (bound : ℕ)
+    → ((n : ℕ) × (n < bound) × P n) ⊎ ((n : ℕ) → n < bound → ¬ P n)
 some_below P told zero = inr (λ n less. absurd (omega arith))
 some_below P told (suc bound) =
     elim (told bound) [
@@ -17,7 +18,8 @@ some_below P told (suc bound) =
       ]
     ]
 
-pub begins_so : (front text : List ℕ) → ((rest : List ℕ) × (text ≡ front ++ rest)) ⊎ ((rest : List ℕ) → text ≢ front ++ rest)
+pub begins_so : (front text : List ℕ)
+    → ((rest : List ℕ) × (text ≡ front ++ rest)) ⊎ ((rest : List ℕ) → text ≢ front ++ rest)
 begins_so [] text = inl (text, refl)
 begins_so (byte ∷ front) [] = inr (λ rest e. cc)
 begins_so (byte ∷ front) (first ∷ text) =
@@ -30,13 +32,18 @@ begins_so (byte ∷ front) (first ∷ text) =
     ]
 
 -- and goes on so
-pub begins_and : (front : List ℕ) (P : List ℕ → Type 0) → ((rest : List ℕ) → P rest ⊎ ¬ P rest) → (text : List ℕ)
-    → ((rest : List ℕ) × (text ≡ front ++ rest) × P rest) ⊎ ¬ ((rest : List ℕ) × (text ≡ front ++ rest) × P rest)
+pub begins_and : (front : List ℕ) (P : List ℕ → Type 0) → ((rest : List ℕ) → P rest ⊎ ¬ P rest)
+    → (text : List ℕ)
+    → ((rest : List ℕ) × (text ≡ front ++ rest) × P rest)
+    ⊎ ¬ ((rest : List ℕ) × (text ≡ front ++ rest) × P rest)
 begins_and front P told text =
     elim (begins_so front text) [
       | inl found ↦ elim (told found.0) [
         | inl has ↦ inl (found.0, found.1, has)
-        | inr lacks ↦ inr (λ other. lacks (subst P (append_cancel_left front other.0 found.0 (sym other.1 ∙ found.1)) other.2))
+        | inr lacks ↦ inr
+            (λ other. lacks
+            (subst P (append_cancel_left front other.0 found.0 (sym other.1 ∙ found.1))
+            other.2))
       ]
       | inr none ↦ inr (λ other. none other.0 other.1)
     ]

@@ -31,7 +31,8 @@ Lacks-append c (x ∷ xs) ys first second =
     Lacks-cons c x (xs ++ ys) parts.0 (Lacks-append c xs ys parts.1 second)
 
 -- what stands before the first place of a byte, and what stands after it, are determined
-pub first_place : (c : ℕ) (a b x y : List ℕ) → Lacks c a → Lacks c b → a ++ c ∷ x ≡ b ++ c ∷ y → (a ≡ b) × (x ≡ y)
+pub first_place : (c : ℕ) (a b x y : List ℕ) → Lacks c a → Lacks c b → a ++ c ∷ x ≡ b ++ c ∷ y
+    → (a ≡ b) × (x ≡ y)
 first_place c [] [] x y in_a in_b e = (refl, cc)
 first_place c [] (d ∷ b) x y in_a in_b e = absurd ((Lacks-parts c d b in_b).0 (cc))
 first_place c (d ∷ a) [] x y in_a in_b e = absurd ((Lacks-parts c d a in_a).0 (cc))
@@ -44,7 +45,8 @@ first_place c (d ∷ a) (f ∷ b) x y in_a in_b e =
 pub front_ends : (c : ℕ) (a b x y : List ℕ) → Lacks c a → a ++ x ≡ b ++ c ∷ y → length a ≤ length b
 front_ends c [] b x y lacks e = omega arith
 front_ends c (d ∷ a) [] x y lacks e = absurd ((Lacks-parts c d a lacks).0 (cc))
-front_ends c (d ∷ a) (f ∷ b) x y lacks e = omega (arith, front_ends c a b x y (Lacks-parts c d a lacks).1 (cc))
+front_ends c (d ∷ a) (f ∷ b) x y lacks e =
+    omega (arith, front_ends c a b x y (Lacks-parts c d a lacks).1 (cc))
 
 -- a text that lacks the byte has no place of it
 pub no_place : (c : ℕ) (a b y : List ℕ) → Lacks c a → a ≡ b ++ c ∷ y → ⊥
@@ -53,7 +55,8 @@ no_place c [] (f ∷ b) y lacks e = cc
 no_place c (d ∷ a) [] y lacks e = (Lacks-parts c d a lacks).0 (cc)
 no_place c (d ∷ a) (f ∷ b) y lacks e = no_place c a b y (Lacks-parts c d a lacks).1 (cc)
 
-lacks_in_digits : (c : ℕ) (digits : List ℕ) → (c < 48) ⊎ (57 < c) → AllDigits 10 digits → Lacks c digits
+lacks_in_digits : (c : ℕ) (digits : List ℕ) → (c < 48) ⊎ (57 < c) → AllDigits 10 digits
+    → Lacks c digits
 lacks_in_digits c [] none h = refl
 lacks_in_digits c (d ∷ digits) none h =
     let parts = IsDigitsTest.parts tells_digits d digits h in

@@ -15,7 +15,8 @@ fields_of-field (b ∷ bs) lacks =
     rw (ne_eqb b space parts.0, fields_of-field bs parts.1) refl
 
 -- a field, and others after a space
-pub fields_of-append : (field rest : List ℕ) → IsField field → fields_of (field ++ space ∷ rest) ≡ field ∷ fields_of rest
+pub fields_of-append : (field rest : List ℕ) → IsField field
+    → fields_of (field ++ space ∷ rest) ≡ field ∷ fields_of rest
 fields_of-append [] rest lacks = refl
 fields_of-append (b ∷ bs) rest lacks =
     let parts = Lacks-parts space b bs lacks in
@@ -25,7 +26,8 @@ fields_of-append (b ∷ bs) rest lacks =
 pub joined-fields_of : (line : List ℕ) → joined_fields (fields_of line) ≡ line
 joined-fields_of line = join_with_byte-slice_split space line
 
-onto_first-fields : (b : ℕ) (fields : List (List ℕ)) → (b == space) ≡ false → AllByRecursion IsField fields → AllByRecursion IsField (onto_first b fields)
+onto_first-fields : (b : ℕ) (fields : List (List ℕ)) → (b == space) ≡ false
+    → AllByRecursion IsField fields → AllByRecursion IsField (onto_first b fields)
 onto_first-fields b [] other all = rw other (refl, tt)
 onto_first-fields b (field ∷ fields) other all = rw other all
 
@@ -38,16 +40,21 @@ fields_of-each (b ∷ bs) = elim (cases_Bool (b == space)) [
 ]
 
 -- and there are no others
-pub fields_of-joined : (first : List ℕ) (others : List (List ℕ)) → AllByRecursion IsField (first ∷ others) → fields_of (joined_fields (first ∷ others)) ≡ first ∷ others
+pub fields_of-joined : (first : List ℕ) (others : List (List ℕ))
+    → AllByRecursion IsField (first ∷ others)
+    → fields_of (joined_fields (first ∷ others)) ≡ first ∷ others
 fields_of-joined first [] all = fields_of-field first all.0
 fields_of-joined first (next ∷ others) all =
-    rw (fields_of-append first (joined_fields (next ∷ others)) all.0) (ap (λ l. first ∷ l) (fields_of-joined next others all.1))
+    rw (fields_of-append first (joined_fields (next ∷ others)) all.0)
+    (ap (λ l. first ∷ l) (fields_of-joined next others all.1))
 
 -- what the reader of a line has to give is what the line has
 pub of_line : (line : List ℕ) → line ≡ joined_fields (fields_of line)
 of_line line = sym (joined-fields_of line)
 
-pub no_others : (line first : List ℕ) (others : List (List ℕ)) → AllByRecursion IsField (first ∷ others) → line ≡ joined_fields (first ∷ others) → fields_of line ≡ first ∷ others
+pub no_others : (line first : List ℕ) (others : List (List ℕ))
+    → AllByRecursion IsField (first ∷ others) → line ≡ joined_fields (first ∷ others)
+    → fields_of line ≡ first ∷ others
 no_others line first others all e = ap fields_of e ∙ fields_of-joined first others all
 
 -- for a reader of fields

@@ -20,13 +20,19 @@ NumbersAreFields = (n : ℕ) → n < 2 ^ 64 → IsNumberField (decimal n)
 
 -- a row of fields is of these fields and no others
 abbrev pub RowsTellFields : Type 0
-RowsTellFields = (first other : List ℕ) (firsts others : List (List ℕ)) → AllByRecursion IsField (first ∷ firsts) → AllByRecursion IsField (other ∷ others)
-    → joined_fields (first ∷ firsts) ≡ joined_fields (other ∷ others) → ◌≡◌ {A = List (List ℕ)} (first ∷ firsts) (other ∷ others)
+RowsTellFields =
+    (first other : List ℕ) (firsts others : List (List ℕ)) → AllByRecursion IsField (first ∷ firsts)
+    → AllByRecursion IsField (other ∷ others)
+    → joined_fields (first ∷ firsts) ≡ joined_fields (other ∷ others)
+    → ◌≡◌ {A = List (List ℕ)} (first ∷ firsts) (other ∷ others)
 
 -- fields with no line feed stand in a line
 abbrev pub FieldsMakeALine : Type 0
-FieldsMakeALine = (fields : List (List ℕ)) → AllByRecursion IsLine fields → IsLine (joined_fields fields)
+FieldsMakeALine =
+    (fields : List (List ℕ)) → AllByRecursion IsLine fields → IsLine (joined_fields fields)
 
 -- a text of lines is of these lines and no others
 abbrev pub TextsTellLines : Type 0
-TextsTellLines = (texts others : List (List ℕ)) → AllByRecursion IsLine texts → AllByRecursion IsLine others → lines_of texts ≡ lines_of others → texts ≡ others
+TextsTellLines =
+    (texts others : List (List ℕ)) → AllByRecursion IsLine texts → AllByRecursion IsLine others
+    → lines_of texts ≡ lines_of others → texts ≡ others

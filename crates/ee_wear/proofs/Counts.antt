@@ -10,8 +10,12 @@ use Rattle.ee_wear.specs.Counts.{IsLedger}
 use Rattle.ee_wear.specs.Since.{NoneFell, differences}
 
 -- the wear of each page, read one by one
-pub wear_read : (device : Device) → IsFormed device → map (wear_at device) (range_with_len 0 (page_count device.size)) ≡ device.wear
-wear_read device formed = sym (fill_by_all (wear_at device) device.wear (page_count device.size) 0 formed.wear_length (λ k h. refl))
+pub wear_read : (device : Device) → IsFormed device
+    → map (wear_at device) (range_with_len 0 (page_count device.size)) ≡ device.wear
+wear_read device formed =
+    sym
+    (fill_by_all (wear_at device) device.wear (page_count device.size) 0 formed.wear_length
+    (λ k h. refl))
 
 pub IsLedger-wear : (device : Device) → IsFormed device → IsLedger device.wear
 IsLedger-wear device formed = record {
@@ -21,9 +25,11 @@ IsLedger-wear device formed = record {
 }
 
 tails : (x y : ℕ) (before now : List ℕ) → NoneFell (x ∷ before) (y ∷ now) → NoneFell before now
-tails x y before now h = record { as_many = omega (arith, h.as_many); each = λ k below. h.each (suc k) (omega arith) }
+tails x y before now h =
+    record { as_many = omega (arith, h.as_many); each = λ k below. h.each (suc k) (omega arith) }
 
-pub sum-differences : (before now : List ℕ) → NoneFell before now → sum before + sum (differences before now) ≡ sum now
+pub sum-differences : (before now : List ℕ) → NoneFell before now
+    → sum before + sum (differences before now) ≡ sum now
 sum-differences [] [] h = refl
 sum-differences [] (y ∷ now) h = omega (arith, h.as_many)
 sum-differences (x ∷ before) [] h = omega (arith, h.as_many)

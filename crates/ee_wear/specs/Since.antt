@@ -22,5 +22,6 @@ pub record IsFirstFallen (before now : List ℕ) (page : ℕ) : Type 0 where
 -- why there is no difference; for want of memory only where there is one
 abbrev pub IsSinceFault : List ℕ → List ℕ → SinceFault → Type 0
 IsSinceFault before now OtherShape = length now ≢ length before
-IsSinceFault before now (Backwards page) = (length now ≡ length before) × IsFirstFallen before now page
+IsSinceFault before now (Backwards page) =
+    (length now ≡ length before) × IsFirstFallen before now page
 IsSinceFault before now Memory = NoneFell before now

@@ -40,14 +40,27 @@ digit_found None v is small = absurd (omega arith)
 digit_missing : (byte v : ℕ) → v ≡ worth byte → 16 ≤ v → hex_digit_value byte ≡ None
 digit_missing byte v is large = grind arith
 
-pair_found : (a b i high low : ℕ) → high ≡ worth a → low ≡ worth b → high < 16 → low < 16 → pair_value a b i ≡ Ok (high * 16 + low)
-pair_found a b i high low high_is low_is first second = rw (digit_found (hex_digit_value a) high high_is first, digit_found (hex_digit_value b) low low_is second) refl
+pair_found : (a b i high low : ℕ) → high ≡ worth a → low ≡ worth b → high < 16 → low < 16
+    → pair_value a b i ≡ Ok (high * 16 + low)
+pair_found a b i high low high_is low_is first second =
+    rw (
+      digit_found (hex_digit_value a) high high_is first,
+      digit_found (hex_digit_value b) low low_is second,
+    ) refl
 
-pair_missing : (a b i high low : ℕ) → high ≡ worth a → low ≡ worth b → (16 ≤ high) ⊎ (16 ≤ low) → (e : FromHexError) × (pair_value a b i ≡ Err e)
-pair_missing a b i high low high_is low_is (inl first) = (InvalidHexCharacter a i, rw (digit_missing a high high_is first) refl)
+pair_missing : (a b i high low : ℕ) → high ≡ worth a → low ≡ worth b → (16 ≤ high) ⊎ (16 ≤ low)
+    → (e : FromHexError) × (pair_value a b i ≡ Err e)
+pair_missing a b i high low high_is low_is (inl first) =
+    (InvalidHexCharacter a i, rw (digit_missing a high high_is first) refl)
 pair_missing a b i high low high_is low_is (inr second) =
     elim (cases_lt high 16) [
-      | inl small ↦ (InvalidHexCharacter b (i + 1), rw (digit_found (hex_digit_value a) high high_is small, digit_missing b low low_is second) refl)
+      | inl small ↦ (
+        InvalidHexCharacter b (i + 1),
+        rw (
+          digit_found (hex_digit_value a) high high_is small,
+          digit_missing b low low_is second,
+        ) refl,
+      )
       | inr large ↦ (InvalidHexCharacter a i, rw (digit_missing a high high_is large) refl)
     ]
 
@@ -55,12 +68,14 @@ pair_missing a b i high low high_is low_is (inr second) =
 
 -- the bytes so far, and what is left to decode
 abbrev pub Decoded : List ℕ → ℕ → List ℕ → Type 0
-Decoded digits i bytes = decode_pairs 0 digits ≡ prepend (take i bytes) (decode_pairs (2 * i) (drop (2 * i) digits))
+Decoded digits i bytes =
+    decode_pairs 0 digits ≡ prepend (take i bytes) (decode_pairs (2 * i) (drop (2 * i) digits))
 
 abbrev pub IsRefused : List ℕ → Type 0
 IsRefused digits = (others : List ℕ) → decode_pairs 0 digits ≡ Ok others → ⊥
 
-small_or : (seen high low : ℕ) → bit_or seen (bit_or high low) < 16 → (seen < 16) × (high < 16) × (low < 16)
+small_or : (seen high low : ℕ) → bit_or seen (bit_or high low) < 16
+    → (seen < 16) × (high < 16) × (low < 16)
 small_or seen high low small = search (rules, le_or_l, le_or_r)
 
 joined : (high low : ℕ) → high < 16 → low < 16 → bit_or (high * 16 % 256) low ≡ high * 16 + low
@@ -68,15 +83,22 @@ joined high low first second =
     let same : high * 16 % 256 ≡ high * 16 = omega arith in
     ap (λ h. bit_or h low) same ∙ or_shifted high 4 low second
 
-pub one_pair_more : (digits bytes : List ℕ) (i seen high low : ℕ) → 2 * i + 1 < length digits → i < length bytes → high ≡ worth (get_or digits (2 * i) 0) → low ≡ worth (get_or digits (2 * i + 1) 0)
-    → (seen < 16 → Decoded digits i bytes) → bit_or seen (bit_or high low) < 16 → Decoded digits (i + 1) (set bytes i (bit_or (high * 16 % 256) low))
-one_pair_more digits bytes i seen high low fits room high_is low_is so_far small = search (rules, small_or, decode_step, pair_found, joined)
+pub one_pair_more : (digits bytes : List ℕ) (i seen high low : ℕ) → 2 * i + 1 < length digits
+    → i < length bytes → high ≡ worth (get_or digits (2 * i) 0)
+    → low ≡ worth (get_or digits (2 * i + 1) 0) → (seen < 16 → Decoded digits i bytes)
+    → bit_or seen (bit_or high low) < 16
+    → Decoded digits (i + 1) (set bytes i (bit_or (high * 16 % 256) low))
+one_pair_more digits bytes i seen high low fits room high_is low_is so_far small =
+    search (rules, small_or, decode_step, pair_found, joined)
 
-all_small : (seen high low : ℕ) → seen < 16 → high < 16 → low < 16 → bit_or seen (bit_or high low) < 16
+all_small : (seen high low : ℕ) → seen < 16 → high < 16 → low < 16
+    → bit_or seen (bit_or high low) < 16
 all_small seen high low a b c = or_lt 4 seen (bit_or high low) a (or_lt 4 high low b c)
 
-pub no_pair_more : (digits bytes : List ℕ) (i seen high low : ℕ) → 2 * i + 1 < length digits → high ≡ worth (get_or digits (2 * i) 0) → low ≡ worth (get_or digits (2 * i + 1) 0)
-    → (seen < 16 → Decoded digits i bytes) → (16 ≤ seen → IsRefused digits) → 16 ≤ bit_or seen (bit_or high low) → IsRefused digits
+pub no_pair_more : (digits bytes : List ℕ) (i seen high low : ℕ) → 2 * i + 1 < length digits
+    → high ≡ worth (get_or digits (2 * i) 0) → low ≡ worth (get_or digits (2 * i + 1) 0)
+    → (seen < 16 → Decoded digits i bytes) → (16 ≤ seen → IsRefused digits)
+    → 16 ≤ bit_or seen (bit_or high low) → IsRefused digits
 no_pair_more digits bytes i seen high low fits high_is low_is so_far before large =
     elim (cases_lt seen 16) [
       | inr was ↦ before was
@@ -85,14 +107,19 @@ no_pair_more digits bytes i seen high low fits high_is low_is so_far before larg
             | inr first ↦ inl first
             | inl first ↦ elim (cases_lt low 16) [
               | inr second ↦ inr second
-              | inl second ↦ let all = all_small seen high low small first second in absurd (omega arith)
+              | inl second ↦ let all =
+                  all_small seen high low small first second in absurd (omega arith)
             ]
           ] in
-          let bad = pair_missing (get_or digits (2 * i) 0) (get_or digits (2 * i + 1) 0) (2 * i) high low high_is low_is missing in
+          let bad =
+          pair_missing (get_or digits (2 * i) 0) (get_or digits (2 * i + 1) 0) (2 * i) high low
+          high_is low_is missing in
           λ others good. cc (sym (decode_err digits bytes i bad.0 fits bad.1 (so_far small)) ∙ good)
     ]
 
 -- ---- all of them
 
-pub all_decoded : (digits bytes : List ℕ) (i seen : ℕ) → length digits ≡ 2 * length bytes → length bytes ≤ i → (seen < 16 → Decoded digits i bytes) → seen < 16 → decode_of digits ≡ Ok bytes
+pub all_decoded : (digits bytes : List ℕ) (i seen : ℕ) → length digits ≡ 2 * length bytes
+    → length bytes ≤ i → (seen < 16 → Decoded digits i bytes) → seen < 16
+    → decode_of digits ≡ Ok bytes
 all_decoded digits bytes i seen long past so_far small = search (rules, decode_done)

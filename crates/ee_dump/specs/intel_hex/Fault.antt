@@ -8,7 +8,8 @@ use Rattle.ee_dump.specs.declared.intel_hex.fault.HexFault.TheVariants.{BadLine,
 -- behind these records no record's line that agrees with them stands at the front
 abbrev pub NoGoodLine : ℕ → ℕ → List Record → List ℕ → Type 0
 NoGoodLine base size records text =
-    (r : Record) (rest : List ℕ) → IsLineOf r text rest → AgreeWithin base size (all_placed 0 (records ++ r ∷ [])) → ⊥
+    (r : Record) (rest : List ℕ) → IsLineOf r text rest
+    → AgreeWithin base size (all_placed 0 (records ++ r ∷ [])) → ⊥
 
 -- line n is the first that is no good record's. A line that isn't ended by a line feed is bad, and
 -- so is one that is missing.

@@ -24,7 +24,9 @@ bytes_in (first ∷ digits) = if first == colon then bytes_decoded (decode_of di
 -- the record that bytes are
 abbrev pub record_of : List ℕ → Option Record
 record_of (count ∷ high ∷ low ∷ kind ∷ behind) =
-    if length behind == count + 1 && (sum (count ∷ high ∷ low ∷ kind ∷ behind) % 256 == 0 && fits_kind kind (high * 256 + low) count)
+    if length behind == count + 1
+    && (sum (count ∷ high ∷ low ∷ kind ∷ behind) % 256 == 0
+    && fits_kind kind (high * 256 + low) count)
     then Some (record { address = high * 256 + low; kind = kind; bytes = take count behind })
     else None
 record_of bytes = None
@@ -48,7 +50,8 @@ put base place byte cells =
 -- bytes come to their places, one after another
 abbrev pub put_all : ℕ → List (ℕ × ℕ) → List (Option ℕ) → Option (List (Option ℕ))
 put_all base [] cells = Some cells
-put_all base (pair ∷ pairs) cells = option_and_then (put_all base pairs) (put base pair.0 pair.1 cells)
+put_all base (pair ∷ pairs) cells =
+    option_and_then (put_all base pairs) (put base pair.0 pair.1 cells)
 
 -- what a line does to a reader
 pub data RecordStep : Type 0 where
@@ -64,24 +67,30 @@ step_kept upper (Some cells) = Goes upper cells
 abbrev pub step_of_record : ℕ → ℕ → List (Option ℕ) → Option Record → RecordStep
 step_of_record base upper cells None = Stops
 step_of_record base upper cells (Some r) =
-    if r.kind == end_kind then Ends else step_kept (upper_after upper r) (put_all base (placed_bytes upper r) cells)
+    if r.kind
+    == end_kind then Ends else step_kept (upper_after upper r)
+    (put_all base (placed_bytes upper r) cells)
 
 -- behind the end nothing follows, or line n is one too many
 abbrev pub cells_at_end : ℕ → List (Option ℕ) → List (List ℕ) → Result (List (Option ℕ)) ℕ
 cells_at_end n cells ([] ∷ []) = Ok cells
 cells_at_end n cells parts = Err n
 
-abbrev pub after_record : ℕ → List (Option ℕ) → List (List ℕ) → (ℕ → List (Option ℕ) → Result (List (Option ℕ)) ℕ) → RecordStep → Result (List (Option ℕ)) ℕ
+abbrev pub after_record : ℕ → List (Option ℕ) → List (List ℕ)
+    → (ℕ → List (Option ℕ) → Result (List (Option ℕ)) ℕ) → RecordStep → Result (List (Option ℕ)) ℕ
 after_record n cells parts more Stops = Err n
 after_record n cells parts more Ends = cells_at_end (n + 1) cells parts
 after_record n cells parts more (Goes upper new) = more upper new
 
 -- what the lines from line n on come to: the places of the part, or the first bad line
-unfoldable pub cells_of_lines : ℕ → ℕ → ℕ → List (Option ℕ) → List (List ℕ) → Result (List (Option ℕ)) ℕ
+unfoldable pub cells_of_lines : ℕ → ℕ → ℕ → List (Option ℕ) → List (List ℕ)
+    → Result (List (Option ℕ)) ℕ
 cells_of_lines base n upper cells [] = Err n
 cells_of_lines base n upper cells (last ∷ []) = Err n
 cells_of_lines base n upper cells (line ∷ next ∷ parts) =
-    after_record n cells (next ∷ parts) (λ above new. cells_of_lines base (n + 1) above new (next ∷ parts)) (step_of_record base upper cells (record_in line))
+    after_record n cells (next ∷ parts)
+    (λ above new. cells_of_lines base (n + 1) above new (next ∷ parts))
+    (step_of_record base upper cells (record_in line))
 
 -- the bytes of the part
 abbrev pub bytes_of : List (Option ℕ) → List ℕ

@@ -84,4 +84,5 @@ pub record IsLineOf (r : Record) (text rest : List ℕ) : Type 0 where
 -- the first lines of the text spell the records, one after another, and the rest comes behind them
 abbrev pub AreLinesOf : List Record → List ℕ → List ℕ → Type 0
 AreLinesOf [] text rest = text ≡ rest
-AreLinesOf (r ∷ records) text rest = (more : List ℕ) × IsLineOf r text more × AreLinesOf records more rest
+AreLinesOf (r ∷ records) text rest =
+    (more : List ℕ) × IsLineOf r text more × AreLinesOf records more rest

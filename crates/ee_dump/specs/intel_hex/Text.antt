@@ -22,7 +22,8 @@ upper_after upper r =
 
 -- the bytes that a record says, each with its place
 abbrev pub placed_bytes : ℕ → Record → List (ℕ × ℕ)
-placed_bytes upper r = if r.kind == data_kind then numbered_bytes (upper + r.address) r.bytes else []
+placed_bytes upper r =
+    if r.kind == data_kind then numbered_bytes (upper + r.address) r.bytes else []
 
 -- the bytes that records say, the first of them at this upper address
 abbrev pub all_placed : ℕ → List Record → List (ℕ × ℕ)
@@ -36,7 +37,9 @@ Says (pair ∷ pairs) place byte = ((pair.0 ≡ place) × (pair.1 ≡ byte)) ⊎
 
 -- no two bytes are said of one place among these, `size` of them from `base` on
 abbrev pub AgreeWithin : ℕ → ℕ → List (ℕ × ℕ) → Type 0
-AgreeWithin base size pairs = (place byte other : ℕ) → base ≤ place → place < base + size → Says pairs place byte → Says pairs place other → byte ≡ other
+AgreeWithin base size pairs =
+    (place byte other : ℕ) → base ≤ place → place < base + size → Says pairs place byte
+    → Says pairs place other → byte ≡ other
 
 -- a byte that was never programmed
 abbrev pub erased_byte : ℕ
@@ -44,7 +47,8 @@ erased_byte = 255
 
 -- the byte is the one that is said of the place, or none is, and the place is erased
 abbrev pub IsByteAt : List (ℕ × ℕ) → ℕ → ℕ → Type 0
-IsByteAt pairs place byte = Says pairs place byte ⊎ (((other : ℕ) → ¬ Says pairs place other) × (byte ≡ erased_byte))
+IsByteAt pairs place byte =
+    Says pairs place byte ⊎ (((other : ℕ) → ¬ Says pairs place other) × (byte ≡ erased_byte))
 
 -- the first lines of the text are records', none of which ends it, and agree within the part
 pub record IsGoodFront (base size : ℕ) (records : List Record) (text rest : List ℕ) : Type 0 where
@@ -66,4 +70,5 @@ pub record IsHexOf (text : List ℕ) (base size : ℕ) (bytes : List ℕ) : Type
   pub front : IsGoodFront base size records text closing
   pub closes : IsEndLine closing []
   pub as_long : length bytes ≡ size
-  pub bytes_are : (i : ℕ) → i < size → IsByteAt (all_placed 0 records) (base + i) (slice_index bytes i)
+  pub bytes_are : (i : ℕ) → i < size
+      → IsByteAt (all_placed 0 records) (base + i) (slice_index bytes i)

@@ -15,7 +15,8 @@ data_record place bytes = record { address = place % 65536; kind = data_kind; by
 
 -- the upper half of the places that follow
 abbrev pub upper_record : ℕ → Record
-upper_record half = record { address = 0; kind = linear_kind; bytes = (half / 256) ∷ (half % 256) ∷ [] }
+upper_record half =
+    record { address = 0; kind = linear_kind; bytes = (half / 256) ∷ (half % 256) ∷ [] }
 
 abbrev pub end_record : Record
 end_record = record { address = 0; kind = end_kind; bytes = [] }
@@ -37,7 +38,8 @@ rows (suc most) told place [] = []
 rows (suc most) told place (byte ∷ bytes) =
     let count = row_length place (length (byte ∷ bytes)) in
     upper_told told (place / 65536)
-    ++ data_record place (take count (byte ∷ bytes)) ∷ rows most (Some (place / 65536)) (place + count) (drop count (byte ∷ bytes))
+    ++ data_record place (take count (byte ∷ bytes))
+    ∷ rows most (Some (place / 65536)) (place + count) (drop count (byte ∷ bytes))
 
 -- the text for bytes from the place `base` on; for none it is the end record alone
 unfoldable pub hex_text : ℕ → List ℕ → List ℕ

@@ -5,7 +5,8 @@ use Rattle.ee_bench.proofs.driving.drive.Given as goal
 
 abbrev pub invariant-events : goal.invariant-events
 invariant-events g l = record {
-  met : HasMet (g.F.Flash.device l.fn.flash) (take l.event-index l.events) l.log.items l.kept.items (point_of_bench g.F.Flash.device l.bench);
+  met : HasMet (g.F.Flash.device l.fn.flash) (take l.event-index l.events) l.log.items l.kept.items
+      (point_of_bench g.F.Flash.device l.bench);
   answered : vec_len l.log ≡ l.event-index;
   room : length l.events ≤ vec_capacity l.log;
   few : vec_len l.kept ≤ l.event-index;

@@ -8,11 +8,14 @@ returns-then-ne g c =
     let map = (state_of (g.F.Flash.device c.args.flash.now)).map in (
       λ wrong. absurd (cc wrong),
       λ there. absurd (other_value c.value_in.result c.put-item.result.value c.if-ne.ensures
-          (c.value_in.ensures ∙ has_at map c.args.puts.now c.entries.put-index c.put-item.result there c.entries-test.true c.put-item.is)),
+          (c.value_in.ensures
+          ∙ has_at map c.args.puts.now c.entries.put-index c.put-item.result there
+          c.entries-test.true c.put-item.is)),
     )
 
 pub entries-preserved : goal.entries-preserved
 entries-preserved g c =
     let map = (state_of (g.F.Flash.device c.args.flash.now)).map in
-    has_one_more map c.args.puts.now c.entries.put-index c.put-item.result c.entries.invariant c.entries-test.true c.put-item.is
+    has_one_more map c.args.puts.now c.entries.put-index c.put-item.result c.entries.invariant
+    c.entries-test.true c.put-item.is
     (sym c.value_in.ensures ∙ same_value c.value_in.result c.put-item.result.value c.if-ne.ensures)

@@ -8,7 +8,10 @@ use Rattle.ee_by_name.proofs.applying.apply_left.Goals as goal
 -- power stays on in each write
 pub text_left-requires : goal.text_left-requires
 text_left-requires g c =
-    let kept = applied_keeps c.args.schema.now (entries_of (table_view c.args.table.now)) c.args.store c.take_entries.new.store c.in_ok-counts.counts.written c.requires c.in_ok-counts.ensures.applied in
+    let kept =
+    applied_keeps c.args.schema.now (entries_of (table_view c.args.table.now)) c.args.store
+    c.take_entries.new.store c.in_ok-counts.counts.written c.requires
+    c.in_ok-counts.ensures.applied in
     record { stays_on = kept.0 }
 
 pub returns-clause-applied : goal.returns-clause-applied

@@ -5,4 +5,7 @@ use Rattle.ee_by_name.proofs.constants.push_constant.Goals as goal
 
 pub returns-in-C : goal.returns-in-C
 unfolding c_constant
-returns-in-C g c = rw c.in-C.is (on_ok_weaker c.writeln.result (λ here. search (rules, append_assoc)) c.writeln.ensures.bytes)
+returns-in-C g c =
+    rw c.in-C.is
+    (on_ok_weaker c.writeln.result (λ here. search (rules, append_assoc))
+    c.writeln.ensures.bytes)

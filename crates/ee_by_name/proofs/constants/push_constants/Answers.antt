@@ -4,4 +4,6 @@ use Rattle.ee_by_name.proofs.Writing.{constants_made}
 use Rattle.ee_by_name.proofs.constants.push_constants.Goals as goal
 
 pub returns : goal.returns
-returns g c = on_ok_weaker c.push_constant-4.result (λ here. search (rules, constants_made)) c.push_constant-4.ensures
+returns g c =
+    on_ok_weaker c.push_constant-4.result (λ here. search (rules, constants_made))
+    c.push_constant-4.ensures

@@ -5,4 +5,6 @@ use Rattle.ee_by_name.proofs.constants.push_each_constant.Given as goal
 
 -- those of the settings so far are written
 abbrev pub invariant-loop-setting : goal.invariant-loop-setting
-invariant-loop-setting g l = string_bytes l.out ≡ string_bytes l.fn.out ++ flat_map (constants_in l.language) (take l.setting-index l.settings)
+invariant-loop-setting g l =
+    string_bytes l.out
+    ≡ string_bytes l.fn.out ++ flat_map (constants_in l.language) (take l.setting-index l.settings)

@@ -5,4 +5,5 @@ use Rattle.ee_by_name.proofs.constants.push_row.Goals as goal
 
 pub returns-in-C : goal.returns-in-C
 unfolding c_row_of
-returns-in-C g c = on_ok_weaker c.write.result (λ here. search (rules, append_assoc)) c.write.ensures.bytes
+returns-in-C g c =
+    on_ok_weaker c.write.result (λ here. search (rules, append_assoc)) c.write.ensures.bytes

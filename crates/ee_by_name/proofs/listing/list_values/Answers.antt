@@ -6,10 +6,14 @@ use Rattle.ee_by_name.proofs.listing.list_values.Goals as goal
 pub returns-in_err-store-clause-names : goal.returns-in_err-store-clause-names
 returns-in_err-store-clause-names g c = λ cause some applies.
     let p = err_from_is_err_and c.from_residual.result c.from_residual.ensures.1 in
-    rw p.1 (opening_named c.args.image.now c.in_err-store.field-0.0 p.0 cause c.in_err-store.ensures.fault p.2 some applies)
+    rw p.1
+    (opening_named c.args.image.now c.in_err-store.field-0.0 p.0 cause
+    c.in_err-store.ensures.fault p.2 some applies)
 
 pub returns-clause-fault : goal.returns-clause-fault
-returns-clause-fault g c = IfErr-weaker c.lines_on.result _ _ (λ fault none. no_memory c.args.image.now fault none) c.lines_on.ensures.fault
+returns-clause-fault g c =
+    IfErr-weaker c.lines_on.result _ _ (λ fault none. no_memory c.args.image.now fault none)
+    c.lines_on.ensures.fault
 
 pub returns-clause-names : goal.returns-clause-names
 returns-clause-names g c = λ cause some applies.
@@ -18,5 +22,6 @@ returns-clause-names g c = λ cause some applies.
 
 pub returns-clause-list : goal.returns-clause-list
 returns-clause-list g c = IfOk-weaker c.lines_on.result _ _
-    (λ text. is_list c.args.image.now text.items c.in_ok-store.store c.empty-schema.result _ c.in_ok-store.ensures.opened c.empty-schema.ensures)
+    (λ text. is_list c.args.image.now text.items c.in_ok-store.store c.empty-schema.result _
+    c.in_ok-store.ensures.opened c.empty-schema.ensures)
     c.lines_on.ensures.lines

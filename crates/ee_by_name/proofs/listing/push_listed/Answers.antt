@@ -5,4 +5,6 @@ use Rattle.ee_by_name.proofs.Writing.{written_ok}
 use Rattle.ee_by_name.proofs.listing.push_listed.Goals as goal
 
 pub returns : goal.returns
-returns g c = on_ok_weaker c.extend_from_slice.result (λ here. search (rules, line_made)) (written_ok c.extend_from_slice.result _ _ _ c.extend_from_slice.ensures.items)
+returns g c =
+    on_ok_weaker c.extend_from_slice.result (λ here. search (rules, line_made))
+    (written_ok c.extend_from_slice.result _ _ _ c.extend_from_slice.ensures.items)

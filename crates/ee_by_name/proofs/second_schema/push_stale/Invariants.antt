@@ -4,4 +4,5 @@ use Rattle.ee_by_name.proofs.second_schema.push_stale.Given as goal
 
 -- the lines so far are written
 abbrev pub invariant-loop-one : goal.invariant-loop-one
-invariant-loop-one g l = l.out.items ≡ l.fn.out.items ++ stale_lines l.schema (take l.one-index l.stale)
+invariant-loop-one g l =
+    l.out.items ≡ l.fn.out.items ++ stale_lines l.schema (take l.one-index l.stale)

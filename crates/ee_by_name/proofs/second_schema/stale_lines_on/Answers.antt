@@ -6,5 +6,6 @@ use Rattle.ee_by_name.proofs.second_schema.stale_lines_on.Goals as goal
 
 pub push_stale-requires : goal.push_stale-requires
 push_stale-requires g c =
-    subst (All (λ (one : Stale). (1 ≤ one.entry) × (one.entry < 1 + length c.args.schema.now))) (sym (c.as_slice.ensures.value ∙ c.in_ok-stale.ensures))
+    subst (All (λ (one : Stale). (1 ≤ one.entry) × (one.entry < 1 + length c.args.schema.now)))
+    (sym (c.as_slice.ensures.value ∙ c.in_ok-stale.ensures))
     (stale_within _ c.args.schema.now 1)

@@ -15,9 +15,13 @@ pub returns-in_err-judge-clause-err : goal.returns-in_err-judge-clause-err
 unfolding no_stretch
 returns-in_err-judge-clause-err g c =
     let l = c.loop-stretch in
-    let flaw = flaw_met c.args.start.now c.args.trace.now c.args.stretches.now l.stretch-index l.count no_stretch l.walk c.in_err-judge.field-0.0
+    let flaw =
+    flaw_met c.args.start.now c.args.trace.now c.args.stretches.now l.stretch-index l.count
+    no_stretch l.walk c.in_err-judge.field-0.0
     c.loop-stretch-test.true l.invariant.counted l.invariant.so_far c.in_err-judge.ensures in
-    passed_on c.from_residual-in_err-judge.result c.in_err-judge.field-0.0 (λ fault. IsFirstFlaw c.args.start.now c.args.trace.now c.args.stretches.now fault ⊎ (fault ≡ Memory))
+    passed_on c.from_residual-in_err-judge.result c.in_err-judge.field-0.0
+    (λ fault. IsFirstFlaw c.args.start.now c.args.trace.now c.args.stretches.now fault
+    ⊎ (fault ≡ Memory))
     c.from_residual-in_err-judge.ensures.1 (inl flaw)
 
 pub loop-stretch-preserved : goal.loop-stretch-preserved
@@ -26,8 +30,11 @@ loop-stretch-preserved g c =
     let l = c.loop-stretch in
     record {
       counted = omega (arith, l.invariant.counted);
-      so_far = one_further c.args.start.now c.args.trace.now c.args.stretches.now l.stretch-index no_stretch l.walk c.pass.new.self
-          c.loop-stretch-test.true l.invariant.so_far c.in_ok-judge.ensures c.in_ok-pass.ensures.live c.in_ok-pass.ensures.place;
+      so_far =
+          one_further c.args.start.now c.args.trace.now c.args.stretches.now l.stretch-index
+          no_stretch l.walk c.pass.new.self
+          c.loop-stretch-test.true l.invariant.so_far c.in_ok-judge.ensures
+          c.in_ok-pass.ensures.live c.in_ok-pass.ensures.place;
     }
 
 pub returns-clause-ok : goal.returns-clause-ok

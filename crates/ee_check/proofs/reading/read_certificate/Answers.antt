@@ -10,9 +10,16 @@ use Rattle.ee_check.proofs.reading.read_certificate.Goals as goal
 
 -- what was read, where the ending is wrong
 refused : (g : Given.Over) (c : goal.After-drop-stretches g) → Claim
-refused g c = record { slots = c.in-Some.heading.slots; fill = c.in-Some.heading.fill; live = c.in-Some.heading.live; writes = c.in-Some.heading.writes; stretches = c.in_ok-stretches.stretches.items }
+refused g c = record {
+  slots = c.in-Some.heading.slots;
+  fill = c.in-Some.heading.fill;
+  live = c.in-Some.heading.live;
+  writes = c.in-Some.heading.writes;
+  stretches = c.in_ok-stretches.stretches.items;
+}
 
-wrong : (g : Given.Over) (c : goal.After-drop-stretches g) → IsCertificateTextFault c.args.text.now c.in_err-check_ending.field-0.0
+wrong : (g : Given.Over) (c : goal.After-drop-stretches g)
+    → IsCertificateTextFault c.args.text.now c.in_err-check_ending.field-0.0
 unfolding refused
 wrong g c =
     let proper : IsClaim (refused g c) = record {
@@ -23,27 +30,41 @@ wrong g c =
       count = search rules;
       stretches = c.in_ok-stretches.ensures.proper;
     } in
-    fault_behind c.args.text.now (refused g c) c.in_ok-stretches.rest.now c.len.result c.in_err-check_ending.field-0.0
-    (front_read c.args.text.now c.in-Some.rest.now c.in_ok-stretches.rest.now (refused g c) proper c.in-Some.ensures.found c.in_ok-stretches.ensures.lines c.in_ok-stretches.ensures.all)
+    fault_behind c.args.text.now (refused g c) c.in_ok-stretches.rest.now c.len.result
+    c.in_err-check_ending.field-0.0
+    (front_read c.args.text.now c.in-Some.rest.now c.in_ok-stretches.rest.now (refused g c) proper
+    c.in-Some.ensures.found c.in_ok-stretches.ensures.lines c.in_ok-stretches.ensures.all)
     (c.len.ensures ∙ search rules) c.in_err-check_ending.ensures.err
 
 pub returns-in_err-check_ending-clause-fault : goal.returns-in_err-check_ending-clause-fault
 returns-in_err-check_ending-clause-fault g c =
-    passed_on c.from_residual-in_err-check_ending.result c.in_err-check_ending.field-0.0 (IsCertificateTextFault c.args.text.now) c.from_residual-in_err-check_ending.ensures.1 (wrong g c)
+    passed_on c.from_residual-in_err-check_ending.result c.in_err-check_ending.field-0.0
+    (IsCertificateTextFault c.args.text.now) c.from_residual-in_err-check_ending.ensures.1
+    (wrong g c)
 
 pub returns-in_err-check_ending-clause-only : goal.returns-in_err-check_ending-clause-only
 returns-in_err-check_ending-clause-only g c = λ claim is.
-    error_passed_on c.from_residual-in_err-check_ending.result c.in_err-check_ending.field-0.0 (λ certificate. claim_of certificate ≡ claim) (λ fault. fault ≡ Memory)
-    c.from_residual-in_err-check_ending.ensures.1 (text_answered c.args.text.now c.in_err-check_ending.field-0.0 claim (wrong g c) is)
+    error_passed_on c.from_residual-in_err-check_ending.result c.in_err-check_ending.field-0.0
+    (λ certificate. claim_of certificate ≡ claim) (λ fault. fault ≡ Memory)
+    c.from_residual-in_err-check_ending.ensures.1
+    (text_answered c.args.text.now c.in_err-check_ending.field-0.0 claim (wrong g c) is)
 
 pub returns-in_err-check_ending-clause-bad : goal.returns-in_err-check_ending-clause-bad
 returns-in_err-check_ending-clause-bad g c = λ n bad.
-    error_passed_on c.from_residual-in_err-check_ending.result c.in_err-check_ending.field-0.0 (λ certificate. ⊥) (λ fault. (fault ≡ BadText n) ⊎ (fault ≡ Memory))
-    c.from_residual-in_err-check_ending.ensures.1 (bad_line_answered c.args.text.now c.in_err-check_ending.field-0.0 n (wrong g c) bad)
+    error_passed_on c.from_residual-in_err-check_ending.result c.in_err-check_ending.field-0.0
+    (λ certificate. ⊥) (λ fault. (fault ≡ BadText n) ⊎ (fault ≡ Memory))
+    c.from_residual-in_err-check_ending.ensures.1
+    (bad_line_answered c.args.text.now c.in_err-check_ending.field-0.0 n (wrong g c) bad)
 
 -- what was read
 read : (g : Given.Over) (c : goal.In_ok-check_ending g) → Claim
-read g c = record { slots = c.in-Some.heading.slots; fill = c.in-Some.heading.fill; live = c.in-Some.heading.live; writes = c.in-Some.heading.writes; stretches = c.in_ok-stretches.stretches.items }
+read g c = record {
+  slots = c.in-Some.heading.slots;
+  fill = c.in-Some.heading.fill;
+  live = c.in-Some.heading.live;
+  writes = c.in-Some.heading.writes;
+  stretches = c.in_ok-stretches.stretches.items;
+}
 
 right : (g : Given.Over) (c : goal.In_ok-check_ending g) → IsText c.args.text.now (read g c)
 unfolding read
@@ -57,8 +78,10 @@ right g c =
       stretches = c.in_ok-stretches.ensures.proper;
     } in
     text_read c.args.text.now c.in_ok-stretches.rest.now (read g c)
-    (front_read c.args.text.now c.in-Some.rest.now c.in_ok-stretches.rest.now (read g c) proper c.in-Some.ensures.found c.in_ok-stretches.ensures.lines c.in_ok-stretches.ensures.all)
-    (c.in_ok-check_ending.ensures.ok ∙ ap (λ count. line_of (ending count)) (c.len.ensures ∙ search rules))
+    (front_read c.args.text.now c.in-Some.rest.now c.in_ok-stretches.rest.now (read g c) proper
+    c.in-Some.ensures.found c.in_ok-stretches.ensures.lines c.in_ok-stretches.ensures.all)
+    (c.in_ok-check_ending.ensures.ok
+    ∙ ap (λ count. line_of (ending count)) (c.len.ensures ∙ search rules))
 
 pub returns-clause-only : goal.returns-clause-only
 unfolding read

@@ -4,4 +4,8 @@ use Rattle.ee_command_line.proofs.files.read_whole.Given as goal
 
 -- the reader lost exactly the bytes that are kept, and they aren't too many
 abbrev pub invariant-reading : goal.invariant-reading
-invariant-reading g l = record { taken : Consumes (g.R.Read.remaining l.fn.reader) (g.R.Read.remaining l.reader) l.bytes.items; few : vec_len l.bytes ≤ 16777216 }
+invariant-reading g l = record {
+  taken : Consumes (g.R.Read.remaining l.fn.reader)
+      (g.R.Read.remaining l.reader) l.bytes.items;
+  few : vec_len l.bytes ≤ 16777216;
+}

@@ -4,7 +4,9 @@ use Rattle.ee_command_line.proofs.files.write_whole.Goals as goal
 
 pub writing-preserved : goal.writing-preserved
 writing-preserved g c = record {
-  gone = wrote_more (g.W.Write.contents c.args.writer.now) (g.W.Write.contents c.writing.writer) (g.W.Write.contents c.write.new.self)
-      c.args.bytes.now c.writing.written c.in-Ok.count c.writing.invariant.gone c.in-Ok.ensures.bytes;
+  gone = wrote_more (g.W.Write.contents c.args.writer.now) (g.W.Write.contents c.writing.writer)
+      (g.W.Write.contents c.write.new.self)
+      c.args.bytes.now c.writing.written c.in-Ok.count c.writing.invariant.gone
+      c.in-Ok.ensures.bytes;
   within = search rules;
 }

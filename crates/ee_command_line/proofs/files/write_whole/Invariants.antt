@@ -4,7 +4,11 @@ use Rattle.ee_command_line.proofs.files.write_whole.Given as goal
 
 -- the writer gained exactly the front that was written
 abbrev pub invariant-writing : goal.invariant-writing
-invariant-writing g l = record { gone : Appends (g.W.Write.contents l.fn.writer) (g.W.Write.contents l.writer) (take l.written l.bytes); within : l.written ≤ length l.bytes }
+invariant-writing g l = record {
+  gone : Appends (g.W.Write.contents l.fn.writer)
+      (g.W.Write.contents l.writer) (take l.written l.bytes);
+  within : l.written ≤ length l.bytes;
+}
 
 abbrev pub decreases-writing : goal.decreases-writing
 decreases-writing g l = length l.bytes - l.written

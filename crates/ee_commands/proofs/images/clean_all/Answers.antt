@@ -7,7 +7,8 @@ use Rattle.ee_commands.proofs.images.clean_all.Goals as goal
 pub returns-clause-wear : goal.returns-clause-wear
 returns-clause-wear g c =
     let now = g.V.Variables.device c.cleaning.store in
-    let none : (state_of now).pending ≡ 0 = omega (arith, c.cleaning.invariant.count, c.cleaning.invariant.within) in
+    let none : (state_of now).pending ≡ 0 =
+    omega (arith, c.cleaning.invariant.count, c.cleaning.invariant.within) in
     front_all (g.V.Variables.device c.args.store.now) now c.cleaning.invariant.erased none
 
 pub cleaning-preserved : goal.cleaning-preserved
@@ -21,5 +22,7 @@ cleaning-preserved g c =
       count = search rules;
       kept = search rules;
       erased = search (rules, front_more);
-      cleans = cleans_more c.cleaning.erased (device c.args.store.now) (device c.cleaning.store) (device c.clean_one.new.store) c.cleaning.invariant.cleans c.clean_one.ensures.cleans;
+      cleans =
+          cleans_more c.cleaning.erased (device c.args.store.now) (device c.cleaning.store)
+          (device c.clean_one.new.store) c.cleaning.invariant.cleans c.clean_one.ensures.cleans;
     }

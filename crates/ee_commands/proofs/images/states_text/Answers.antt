@@ -9,7 +9,10 @@ use Rattle.ee_commands.proofs.images.states_text.Goals as goal
 pub returns-in_err-push_states-clause-fault : goal.returns-in_err-push_states-clause-fault
 returns-in_err-push_states-clause-fault g c =
     let p = err_from_is_err_and c.from_residual.result c.from_residual.ensures.1 in
-    rw p.1 (rw p.2 (no_memory_for Image c.args.image.now (device_of c.in-Ok.flash) (record { formed = formed_of c.in-Ok.flash; text_is = c.in-Ok.ensures.found })))
+    rw p.1
+    (rw p.2
+    (no_memory_for Image c.args.image.now (device_of c.in-Ok.flash)
+    (record { formed = formed_of c.in-Ok.flash; text_is = c.in-Ok.ensures.found })))
 
 pub returns-clause-states : goal.returns-clause-states
 returns-clause-states g c =

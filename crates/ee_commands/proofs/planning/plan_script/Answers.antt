@@ -9,21 +9,29 @@ use Rattle.ee_commands.proofs.planning.plan_script.Goals as goal
 
 pub returns-in_err-start-clause-names : goal.returns-in_err-start-clause-names
 returns-in_err-start-clause-names g c = λ cause some applies.
-    error_passed_on c.from_residual.result c.in_err-start.field-0.0 (λ text. ⊥) (λ fault. (fault ≡ cause) ⊎ (fault ≡ Memory)) c.from_residual.ensures.1
-    (first_of_plan c.args.image.now c.args.script.now cause c.in_err-start.field-0.0 some applies c.in_err-start.ensures.fault)
+    error_passed_on c.from_residual.result c.in_err-start.field-0.0 (λ text. ⊥)
+    (λ fault. (fault ≡ cause) ⊎ (fault ≡ Memory)) c.from_residual.ensures.1
+    (first_of_plan c.args.image.now c.args.script.now cause c.in_err-start.field-0.0 some applies
+    c.in_err-start.ensures.fault)
 
 pub returns-in-Err-clause-names : goal.returns-in-Err-clause-names
 returns-in-Err-clause-names g c = λ cause some applies.
     let task : IsTask c.args.image.now c.args.script.now c.in_ok-start.start c.deref.result.now =
     trace_renamed _ _ _ _ _ c.in_ok-start.ensures.task (search rules) in
-    let named = change_of_plan c.args.image.now c.args.script.now c.in_ok-start.start c.deref.result.now cause some applies task in
-    subst (λ told. (told ≡ cause) ⊎ (told ≡ Memory)) (sym c.fault_of.ensures) (change_named cause c.in-Err.fault named.n named.fault_is (c.in-Err.ensures.names named.n named.first))
+    let named =
+    change_of_plan c.args.image.now c.args.script.now c.in_ok-start.start c.deref.result.now
+    cause some applies task in
+    subst (λ told. (told ≡ cause) ⊎ (told ≡ Memory)) (sym c.fault_of.ensures)
+    (change_named cause c.in-Err.fault named.n named.fault_is
+    (c.in-Err.ensures.names named.n named.first))
 
 pub returns-clause-names : goal.returns-clause-names
 returns-clause-names g c = λ cause some applies.
     let task : IsTask c.args.image.now c.args.script.now c.in_ok-start.start c.deref.result.now =
     trace_renamed _ _ _ _ _ c.in_ok-start.ensures.task (search rules) in
-    let named = change_of_plan c.args.image.now c.args.script.now c.in_ok-start.start c.deref.result.now cause some applies task in
+    let named =
+    change_of_plan c.args.image.now c.args.script.now c.in_ok-start.start c.deref.result.now
+    cause some applies task in
     c.in-Ok.ensures.names named.n named.first
 
 -- the text is found anew, so that another one leaves a goal open
@@ -31,4 +39,5 @@ pub returns-clause-planned : goal.returns-clause-planned
 returns-clause-planned g c =
     let task : IsTask c.args.image.now c.args.script.now c.in_ok-start.start c.deref.result.now =
     trace_renamed _ _ _ _ _ c.in_ok-start.ensures.task (search rules) in
-    is_planned _ _ _ _ _ _ task (subst IsProper c.start.view_is c.start.invariant.proper) c.in-Ok.ensures.planned (search rules)
+    is_planned _ _ _ _ _ _ task (subst IsProper c.start.view_is c.start.invariant.proper)
+    c.in-Ok.ensures.planned (search rules)

@@ -6,5 +6,6 @@ places-init g c = told_none _ c.args.out.now.items
 
 pub places-preserved : goal.places-preserved
 places-preserved g c =
-    told_more c.places.at _ c.args.out.now.items c.places.out.items c.push_if_bad.new.out.items c.places.invariant
+    told_more c.places.at _ c.args.out.now.items c.places.out.items c.push_if_bad.new.out.items
+    c.places.invariant
     c.in_ok-push_if_bad.ensures

@@ -7,4 +7,7 @@ use Rattle.ee_commands.proofs.rescuing.push_bad_in_set.Given as goal
 abbrev pub invariant-pages : goal.invariant-pages
 invariant-pages g l =
     let device = g.F.Flash.device l.fn.flash in
-    l.out.items ≡ l.fn.out.items ++ each_below l.page (λ page. each_below device.size.words (bad_line device l.fn.set.side page))
+    l.out.items
+    ≡ l.fn.out.items
+    ++ each_below l.page
+    (λ page. each_below device.size.words (bad_line device l.fn.set.side page))

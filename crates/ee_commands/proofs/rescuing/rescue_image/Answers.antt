@@ -8,26 +8,49 @@ pub returns-clause-rescued : goal.returns-clause-rescued
 returns-clause-rescued g c =
     let image = c.args.image.now in
     let device = device_of c.in-Ok.flash in
-    let made = λ (new_image text : List ℕ). is_rescued_image image new_image c.new-text.result.items c.push_bad.new.out.items text device c.in_ok-store.store c.in_ok-store.rescued
+    let made =
+    λ (new_image text : List ℕ). is_rescued_image image new_image c.new-text.result.items
+    c.push_bad.new.out.items text device c.in_ok-store.store c.in_ok-store.rescued
     (is_spelled image c.in-Ok.flash c.in-Ok.ensures.found) c.in_ok-store.ensures.rescued in
     search (rules, made)
 
 pub returns-in_err-push_bad-clause-fault : goal.returns-in_err-push_bad-clause-fault
 returns-in_err-push_bad-clause-fault g c =
     let p = err_from_is_err_and c.from_residual.result c.from_residual.ensures.1 in
-    rw p.1 (rw p.2 (rescue_memory c.args.image.now (device_of c.in-Ok.flash) (is_spelled c.args.image.now c.in-Ok.flash c.in-Ok.ensures.found)))
+    rw p.1
+    (rw p.2
+    (rescue_memory c.args.image.now (device_of c.in-Ok.flash)
+    (is_spelled c.args.image.now c.in-Ok.flash c.in-Ok.ensures.found)))
 
 pub returns-in_err-store-clause-fault : goal.returns-in_err-store-clause-fault
 returns-in_err-store-clause-fault g c =
-    let p = err_from_is_err_and c.from_residual-in_err-store.result c.from_residual-in_err-store.ensures.1 in
-    rw p.1 (rw p.2 (inr (device_of c.in-Ok.flash, is_spelled c.args.image.now c.in-Ok.flash c.in-Ok.ensures.found, c.in_err-store.ensures.fault)))
+    let p =
+    err_from_is_err_and c.from_residual-in_err-store.result
+    c.from_residual-in_err-store.ensures.1 in
+    rw p.1
+    (rw p.2
+    (inr (
+      device_of c.in-Ok.flash,
+      is_spelled c.args.image.now c.in-Ok.flash c.in-Ok.ensures.found,
+      c.in_err-store.ensures.fault,
+    )))
 
 pub returns-in_err-push_rescued-clause-fault : goal.returns-in_err-push_rescued-clause-fault
 returns-in_err-push_rescued-clause-fault g c =
-    let p = err_from_is_err_and c.from_residual-in_err-push_rescued.result c.from_residual-in_err-push_rescued.ensures.1 in
-    rw p.1 (rw p.2 (rescue_memory c.args.image.now (device_of c.in-Ok.flash) (is_spelled c.args.image.now c.in-Ok.flash c.in-Ok.ensures.found)))
+    let p =
+    err_from_is_err_and c.from_residual-in_err-push_rescued.result
+    c.from_residual-in_err-push_rescued.ensures.1 in
+    rw p.1
+    (rw p.2
+    (rescue_memory c.args.image.now (device_of c.in-Ok.flash)
+    (is_spelled c.args.image.now c.in-Ok.flash c.in-Ok.ensures.found)))
 
 pub returns-in_err-image-clause-fault : goal.returns-in_err-image-clause-fault
 returns-in_err-image-clause-fault g c =
-    let p = err_from_is_err_and c.from_residual-in_err-image.result c.from_residual-in_err-image.ensures.1 in
-    rw p.1 (rw p.2 (rescue_memory c.args.image.now (device_of c.in-Ok.flash) (is_spelled c.args.image.now c.in-Ok.flash c.in-Ok.ensures.found)))
+    let p =
+    err_from_is_err_and c.from_residual-in_err-image.result
+    c.from_residual-in_err-image.ensures.1 in
+    rw p.1
+    (rw p.2
+    (rescue_memory c.args.image.now (device_of c.in-Ok.flash)
+    (is_spelled c.args.image.now c.in-Ok.flash c.in-Ok.ensures.found)))

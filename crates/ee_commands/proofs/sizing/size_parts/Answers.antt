@@ -7,8 +7,12 @@ use Rattle.ee_commands.proofs.sizing.size_parts.Goals as goal
 
 pub returns-in_err-trace-clause-names : goal.returns-in_err-trace-clause-names
 returns-in_err-trace-clause-names g c = λ cause some applies.
-    error_passed_on c.from_residual.result (fault_of_script c.in_err-trace.field-0.0) (λ sizes. ⊥) (λ fault. (fault ≡ cause) ⊎ (fault ≡ Memory)) c.from_residual.ensures.1
-    (cause_of_trace c.args.script.now cause c.in_err-trace.field-0.0 some applies c.in_err-trace.ensures.fault)
+    error_passed_on c.from_residual.result (fault_of_script c.in_err-trace.field-0.0) (λ sizes. ⊥)
+    (λ fault. (fault ≡ cause) ⊎ (fault ≡ Memory)) c.from_residual.ensures.1
+    (cause_of_trace c.args.script.now cause c.in_err-trace.field-0.0 some applies
+    c.in_err-trace.ensures.fault)
 
 pub returns-clause-names : goal.returns-clause-names
-returns-clause-names g c = λ cause some applies. only_want_of_memory c.args.script.now c.in_ok-trace.trace.items cause c.in_ok-trace.ensures.trace some applies
+returns-clause-names g c =
+    λ cause some applies. only_want_of_memory c.args.script.now c.in_ok-trace.trace.items cause
+    c.in_ok-trace.ensures.trace some applies

@@ -8,7 +8,9 @@ loop-demand-preserved g c =
     let l = c.loop-demand in
     record {
       counted = omega arith;
-      so_far = sizes_grow c.args.words c.args.cycles c.args.changes l.pages l.demand-index c.args.demands.now _ l.text.items c.push_size.new.out.items
+      so_far =
+          sizes_grow c.args.words c.args.cycles c.args.changes l.pages l.demand-index
+          c.args.demands.now _ l.text.items c.push_size.new.out.items
           c.loop-demand-test.true l.invariant.counted l.invariant.so_far c.in_ok-push_size.ensures;
     }
 

@@ -10,4 +10,8 @@ returns-in_err-of-clause-fault g c =
     (record { formed = formed_of c.in-Ok.flash; text_is = c.in-Ok.ensures.found })))
 
 pub returns-clause-counts : goal.returns-clause-counts
-returns-clause-counts g c = record { device = device_of c.in-Ok.flash; spelled = record { formed = formed_of c.in-Ok.flash; text_is = c.in-Ok.ensures.found }; counts_are = c.in_ok-of.ensures.wear }
+returns-clause-counts g c = record {
+  device = device_of c.in-Ok.flash;
+  spelled = record { formed = formed_of c.in-Ok.flash; text_is = c.in-Ok.ensures.found };
+  counts_are = c.in_ok-of.ensures.wear;
+}

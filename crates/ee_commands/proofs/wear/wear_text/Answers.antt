@@ -11,7 +11,8 @@ returns-in-None-clause-names g c =
 pub returns-in-Some-clause-names : goal.returns-in-Some-clause-names
 returns-in-Some-clause-names g c =
     rw c.in-Some.is
-    (wear_names (λ text. text.items) c.wear_since.result c.args.image.now (Some c.in-Some.before.now)
+    (wear_names (λ text. text.items) c.wear_since.result c.args.image.now
+    (Some c.in-Some.before.now)
     c.wear_since.ensures.wear c.wear_since.ensures.fault)
 
 pub returns-in-Some-clause-wear : goal.returns-in-Some-clause-wear

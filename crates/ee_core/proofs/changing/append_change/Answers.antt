@@ -18,11 +18,17 @@ returns-in_err-append g c =
       appended = never_on_ok _ _ failed;
       written = never_on_ok _ _ failed;
       cut = always_on_err _
-          (cut_in_append old new layout.side layout.generation c.requires.layout.live (map_change c.args.change) c.requires.proceeds cut
+          (cut_in_append old new layout.side layout.generation c.requires.layout.live
+          (map_change c.args.change) c.requires.proceeds cut
           (omega (arith, c.requires.free, c.requires.layout.fill)) left.other left.cut left.wear
-          (shows_cut_append old new layout.side layout.generation c.requires.layout.live (map_change c.args.change) layout.fill (number_written c.args.change) c.requires.layout.fill
-          (number_is c.args.change (state_of old).map c.requires.forgets) cut.same_size left.begun left.other));
-      store = off_store new layout.side layout.generation (live_after_append old new layout.side layout.generation _ left.cut) cut.is_off;
+          (shows_cut_append old new layout.side layout.generation c.requires.layout.live
+          (map_change c.args.change) layout.fill (number_written c.args.change)
+          c.requires.layout.fill
+          (number_is c.args.change (state_of old).map c.requires.forgets) cut.same_size left.begun
+          left.other));
+      store =
+          off_store new layout.side layout.generation
+          (live_after_append old new layout.side layout.generation _ left.cut) cut.is_off;
       layout = λ on. absurd (not_both new on cut.is_off);
     }
 
@@ -35,10 +41,15 @@ returns g c =
     let done = ended.writes in
     let on = ended.power.ok in
     record {
-      appended = appends old new layout.side layout.generation c.requires.layout.live (map_change c.args.change) c.requires.proceeds on
+      appended =
+          appends old new layout.side layout.generation c.requires.layout.live
+          (map_change c.args.change) c.requires.proceeds on
           (omega (arith, c.requires.free, c.requires.layout.fill)) done.takes done.other done.wear
-          (shows_appended old new layout.side layout.generation c.requires.layout.live (map_change c.args.change) layout.fill (number_written c.args.change) c.requires.layout.fill
-          (number_is c.args.change (state_of old).map c.requires.forgets) on.same_size done.drawn done.other);
+          (shows_appended old new layout.side layout.generation c.requires.layout.live
+          (map_change c.args.change) layout.fill (number_written c.args.change)
+          c.requires.layout.fill
+          (number_is c.args.change (state_of old).map c.requires.forgets) on.same_size done.drawn
+          done.other);
       written = done;
       cut = tt;
       store = marked_store new layout.side layout.generation done.takes.live done.marked;

@@ -15,25 +15,32 @@ returns-in_err-transfer_nothing-clause-cut g c =
     let layout = c.args.layout.now in
     let left = c.in_err-transfer_nothing.ensures.moves in
     let cut = c.in_err-transfer_nothing.ensures.power.cut c.requires.may.on in
-    let few = few_pending new (other layout.side) (g.met.F.Flash.formed c.transfer_nothing.new.flash) in
-    always_on_err _ (cut_clear old new layout.side layout.generation c.requires.layout.live c.requires.may cut (omega (arith, few, ap (λ size. size.pages) cut.same_size))
-    (live_or_moved old new layout.side layout.generation each_forgotten c.requires.layout.live left.cut) (left.left c.requires.may.on))
+    let few =
+    few_pending new (other layout.side) (g.met.F.Flash.formed c.transfer_nothing.new.flash) in
+    always_on_err _ (cut_clear old new layout.side layout.generation c.requires.layout.live
+    c.requires.may cut (omega (arith, few, ap (λ size. size.pages) cut.same_size))
+    (live_or_moved old new layout.side layout.generation each_forgotten c.requires.layout.live
+    left.cut) (left.left c.requires.may.on))
 
 pub returns-in_err-transfer_nothing-clause-store : goal.returns-in_err-transfer_nothing-clause-store
 returns-in_err-transfer_nothing-clause-store g c =
     let old = g.F.Flash.device c.args.flash.now in
     let new = g.F.Flash.device c.transfer_nothing.new.flash in
     let layout = c.args.layout.now in
-    store_after_move old new layout.side layout.generation each_forgotten (c.in_err-transfer_nothing.ensures.power.cut c.requires.may.on).is_off
-    (live_or_moved old new layout.side layout.generation each_forgotten c.requires.layout.live c.in_err-transfer_nothing.ensures.moves.cut)
+    store_after_move old new layout.side layout.generation each_forgotten
+    (c.in_err-transfer_nothing.ensures.power.cut c.requires.may.on).is_off
+    (live_or_moved old new layout.side layout.generation each_forgotten c.requires.layout.live
+    c.in_err-transfer_nothing.ensures.moves.cut)
 
 pub returns-clause-emptied : goal.returns-clause-emptied
 returns-clause-emptied g c =
     let old = g.F.Flash.device c.args.flash.now in
     let layout = c.args.layout.now in
     let done = c.in_ok-transfer_nothing.ensures in
-    empties old (g.F.Flash.device c.transfer_nothing.new.flash) layout.side layout.generation c.requires.layout.live c.requires.may
-    (few_pending old layout.side (g.met.F.Flash.formed c.args.flash.now)) done.power.ok done.moves.moved done.moves.wear done.moves.new_pages done.moves.old_pages
+    empties old (g.F.Flash.device c.transfer_nothing.new.flash) layout.side layout.generation
+    c.requires.layout.live c.requires.may
+    (few_pending old layout.side (g.met.F.Flash.formed c.args.flash.now)) done.power.ok
+    done.moves.moved done.moves.wear done.moves.new_pages done.moves.old_pages
 
 pub returns-clause-nothing : goal.returns-clause-nothing
 returns-clause-nothing g c =
@@ -41,4 +48,5 @@ returns-clause-nothing g c =
     let new = g.F.Flash.device c.transfer_nothing.new.flash in
     let layout = c.args.layout.now in
     let done = c.in_ok-transfer_nothing.ensures.moves in
-    λ address. ap (λ set. map_in set new address) done.other_set ∙ done.moved.map_is address ∙ all_forgotten (slots_of (set_of layout.side old)) address
+    λ address. ap (λ set. map_in set new address) done.other_set ∙ done.moved.map_is address
+    ∙ all_forgotten (slots_of (set_of layout.side old)) address

@@ -8,19 +8,26 @@ use Rattle.ee_core.proofs.MovingFacts.{live_or_moved}
 use Rattle.ee_core.proofs.changing.move_changes.Goals as goal
 
 pub transfer-requires-clause-older : goal.transfer-requires-clause-older
-transfer-requires-clause-older g c = older_live c.args.layout.now.side (g.F.Flash.device c.args.flash.now) c.args.layout.now.generation c.requires.layout.live.live
+transfer-requires-clause-older g c =
+    older_live c.args.layout.now.side (g.F.Flash.device c.args.flash.now)
+    c.args.layout.now.generation c.requires.layout.live.live
 
 pub transfer-requires-clause-generation : goal.transfer-requires-clause-generation
 transfer-requires-clause-generation g c =
     let old = g.F.Flash.device c.args.flash.now in
     let layout = c.args.layout.now in
-    generation_left old layout.side layout.generation c.requires.layout.live (changes_of_puts c.args.puts.now c.args.forgets) c.requires.needed c.requires.proceeds.accepted.not_spent
+    generation_left old layout.side layout.generation c.requires.layout.live
+    (changes_of_puts c.args.puts.now c.args.forgets) c.requires.needed
+    c.requires.proceeds.accepted.not_spent
 
 pub transfer-requires-clause-fits : goal.transfer-requires-clause-fits
 transfer-requires-clause-fits g c =
     let old = g.F.Flash.device c.args.flash.now in
     let layout = c.args.layout.now in
-    changes_fit old layout.side layout.generation c.requires.layout.live (few_within old layout.side (g.met.F.Flash.formed c.args.flash.now)) (changes_of_puts c.args.puts.now c.args.forgets) c.requires.apart c.requires.proceeds.accepted
+    changes_fit old layout.side layout.generation c.requires.layout.live
+    (few_within old layout.side (g.met.F.Flash.formed c.args.flash.now))
+    (changes_of_puts c.args.puts.now c.args.forgets) c.requires.apart
+    c.requires.proceeds.accepted
 
 pub returns-in_err-transfer : goal.returns-in_err-transfer
 returns-in_err-transfer g c =
@@ -32,13 +39,18 @@ returns-in_err-transfer g c =
     let cut = ended.power.cut c.requires.proceeds.on in
     let few = few_pending new (other layout.side) (g.met.F.Flash.formed c.transfer.new.flash) in
     let failed = c.from_residual.ensures.0 in
-    let went = live_or_moved old new layout.side layout.generation changes c.requires.layout.live ended.moves.cut in
+    let went =
+    live_or_moved old new layout.side layout.generation changes c.requires.layout.live
+    ended.moves.cut in
     record {
       moved = never_on_ok _ _ failed;
       set_moved = never_on_ok _ _ failed;
       cut = always_on_err _
-          (cut_in_move old new layout.side layout.generation c.requires.layout.live cut (omega (arith, few, ap (λ size. size.pages) cut.same_size))
-          changes c.requires.proceeds c.requires.needed went (shows_cut_move old new layout.side layout.generation c.requires.layout.live changes (ended.moves.left c.requires.proceeds.on)));
+          (cut_in_move old new layout.side layout.generation c.requires.layout.live cut
+          (omega (arith, few, ap (λ size. size.pages) cut.same_size))
+          changes c.requires.proceeds c.requires.needed went
+          (shows_cut_move old new layout.side layout.generation c.requires.layout.live changes
+          (ended.moves.left c.requires.proceeds.on)));
       store = store_after_move old new layout.side layout.generation changes cut.is_off went;
       layout = λ on. absurd (not_both new on cut.is_off);
     }
@@ -53,10 +65,14 @@ returns g c =
     let done = ended.moves in
     let on = ended.power.ok in
     record {
-      moved = moves old new layout.side layout.generation c.requires.layout.live changes c.requires.proceeds on c.requires.needed done.moved done.wear
-          (shows_moved old new layout.side layout.generation c.requires.layout.live changes c.requires.needed on.same_size done.new_pages done.old_pages);
+      moved =
+          moves old new layout.side layout.generation c.requires.layout.live changes
+          c.requires.proceeds on c.requires.needed done.moved done.wear
+          (shows_moved old new layout.side layout.generation c.requires.layout.live changes
+          c.requires.needed on.same_size done.new_pages done.old_pages);
       set_moved = done;
       cut = tt;
-      store = marked_store new (other layout.side) (layout.generation + 1) done.moved.live done.marked;
+      store =
+          marked_store new (other layout.side) (layout.generation + 1) done.moved.live done.marked;
       layout = λ _. done.layout_is;
     }

@@ -24,8 +24,14 @@ returns g c =
       keeps = kept_side_is_live old new layout.side layout.generation live left.keeps;
       none = λ is. absurd (not_both_ok _ is refl);
       one = λ is. left.one_less;
-      lowest = λ is. erases_lowest old new layout.side c.other.result layout.generation c.in-Some.page live.live c.other.ensures found.page found.not_blank found.lowest left.others left.wear left.blank live (kept_side_is_live old new layout.side layout.generation live left.keeps);
-      marked = cleaned_marked layout.side c.in-Some.page old new live.formed left.keeps.same_size left.keeps.same_set left.others left.blank;
+      lowest =
+          λ is. erases_lowest old new layout.side c.other.result layout.generation c.in-Some.page
+          live.live c.other.ensures found.page found.not_blank found.lowest left.others
+          left.wear left.blank live
+          (kept_side_is_live old new layout.side layout.generation live left.keeps);
+      marked =
+          cleaned_marked layout.side c.in-Some.page old new live.formed left.keeps.same_size
+          left.keeps.same_set left.others left.blank;
       some = tt;
       cut = tt;
       others = tt;
@@ -42,13 +48,19 @@ returns-in_err-erase_other g c =
     let failed = c.from_residual.ensures.0 in
     let is_err = err_from_is_err_and c.from_residual.result c.from_residual.ensures.1 in
     record {
-      keeps = kept_side_is_live old new layout.side layout.generation c.requires.layout.live cut.keeps;
+      keeps =
+          kept_side_is_live old new layout.side layout.generation c.requires.layout.live cut.keeps;
       none = λ is. absurd (not_ok is is_err.1);
       one = λ is. absurd (not_ok is is_err.1);
       lowest = λ is. absurd (not_ok is is_err.1);
       marked = λ marked. never_on_ok _ _ failed;
-      some = always_on_err c.from_residual.result (subst (λ (set : Side). 0 < pending_of (set_of set old)) c.other.ensures found.some);
+      some = always_on_err c.from_residual.result
+          (subst (λ (set : Side). 0 < pending_of (set_of set old)) c.other.ensures found.some);
       cut = always_on_err c.from_residual.result cut.cut;
-      others = always_on_err c.from_residual.result (λ on. keeps_all_but_lowest old new layout.side c.other.result layout.generation c.in-Some.page c.requires.layout.live.live c.other.ensures found.page found.not_blank found.lowest cut.others (cut.wear on) cut.partly);
+      others =
+          always_on_err c.from_residual.result
+          (λ on. keeps_all_but_lowest old new layout.side c.other.result layout.generation
+          c.in-Some.page c.requires.layout.live.live c.other.ensures found.page
+          found.not_blank found.lowest cut.others (cut.wear on) cut.partly);
       power = ends_later _ failed (goes_on_same old) c.in_err-erase_other.ensures.power;
     }

@@ -9,7 +9,8 @@ returns-in_err-erase g c =
     let cut = c.in_err-erase.ensures.cut in
     record {
       erases = rw (err_from_is_err_and c.from_residual.result c.from_residual.ensures.1).1
-          (page_erased_partly c.args.page old (g.F.Flash.device c.erase.new.self) c.args.side (g.met.F.Flash.formed c.args.flash.now) c.requires.page c.requires.not_blank cut);
+          (page_erased_partly c.args.page old (g.F.Flash.device c.erase.new.self) c.args.side
+          (g.met.F.Flash.formed c.args.flash.now) c.requires.page c.requires.not_blank cut);
       power = ends_in_step (Erase c.args.page) _ c.from_residual.ensures.0 (goes_on_same old) cut;
     }
 
@@ -19,6 +20,20 @@ returns g c =
     let on = c.in_ok-erase.ensures.on in
     let done = c.in_ok-erase.ensures.done in
     record {
-      erases = page_erased c.args.page old (g.F.Flash.device c.erase.new.self) c.args.side (g.met.F.Flash.formed c.args.flash.now) c.requires.page c.requires.not_blank on done;
-      power = record { ok = rw done (record { same_size = refl; same_power = refl; same_cuts = refl; same_cuts_left = refl; same_while_off = λ off. absurd (not_both old on off) }); cut = tt; off = tt };
+      erases =
+          page_erased c.args.page old (g.F.Flash.device c.erase.new.self) c.args.side
+          (g.met.F.Flash.formed c.args.flash.now) c.requires.page c.requires.not_blank on done;
+      power = record {
+        ok =
+            rw done
+            (record {
+              same_size = refl;
+              same_power = refl;
+              same_cuts = refl;
+              same_cuts_left = refl;
+              same_while_off = λ off. absurd (not_both old on off);
+            });
+        cut = tt;
+        off = tt;
+      };
     }

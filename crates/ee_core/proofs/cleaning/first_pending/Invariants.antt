@@ -2,4 +2,5 @@ use Rattle.ee_core.proofs.Base.{◌≡◌, ◌≤◌, ◌<◌, ℕ, true, page_a
 use Rattle.ee_core.proofs.cleaning.first_pending.Given as goal
 
 abbrev pub invariant-lower : goal.invariant-lower
-invariant-lower g l = (k : ℕ) → l.first ≤ k → k < l.page → is_blank (page_at (g.F.Flash.device l.flash) k) ≡ true
+invariant-lower g l =
+    (k : ℕ) → l.first ≤ k → k < l.page → is_blank (page_at (g.F.Flash.device l.flash) k) ≡ true

@@ -13,7 +13,11 @@ returns-clause-keeps g c = search rules fits 100 parts 0
 pub returns-clause-at : goal.returns-clause-at
 returns-clause-at g c =
     let done = c.in_ok-stage_put.ensures in
-    record { generation = c.requires.at.generation; filling = done.fills.filling; behind = done.behind }
+    record {
+      generation = c.requires.at.generation;
+      filling = done.fills.filling;
+      behind = done.behind;
+    }
 
 pub returns-clause-fills : goal.returns-clause-fills
 returns-clause-fills g c = search rules fits 100 parts 0

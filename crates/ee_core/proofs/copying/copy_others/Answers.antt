@@ -15,7 +15,16 @@ use Rattle.ee_core.specs.declared.copying.Place.{Place}
 pub live-init : goal.live-init
 live-init g c =
     let device = g.F.Flash.device c.args.flash.now in
-    rw c.requires.first (record { at = c.requires.at; filled = none_filled device c.args.layout.now c.args.place (puts_of c.args.puts.now) c.requires.at c.requires.only; below = omega arith; over = c.requires.over; goes = goes_on_same device })
+    rw c.requires.first
+    (record {
+      at = c.requires.at;
+      filled =
+          none_filled device c.args.layout.now c.args.place (puts_of c.args.puts.now)
+          c.requires.at c.requires.only;
+      below = omega arith;
+      over = c.requires.over;
+      goes = goes_on_same device;
+    })
 
 pub copy_one-requires-clause-free : goal.copy_one-requires-clause-free
 copy_one-requires-clause-free g c apart =
@@ -23,7 +32,11 @@ copy_one-requires-clause-free g c apart =
     let filled = c.live.invariant.filled in
     let next = rw filled.keeps.same_slots at c.in-Some.ensures.next in
     let carries_is = c.has_put-carries.ensures.found ∙ sym (names-puts c.args.puts.now _) in
-    let free : c.live.place.slot < slot_count old.size = room old c.args.layout.now c.args.place (puts_of c.args.puts.now) (g.C.LiveCursor.behind c.live.cursor) _ _ (g.F.Flash.device c.live.flash) (g.F.Flash.device c.live.flash) c.live.place.slot next filled (sym carries_is ∙ apart) c.in-Some.ensures.proper.1 (slot_count old.size) c.requires.fits in
+    let free : c.live.place.slot < slot_count old.size =
+    room old c.args.layout.now c.args.place (puts_of c.args.puts.now)
+    (g.C.LiveCursor.behind c.live.cursor) _ _ (g.F.Flash.device c.live.flash)
+    (g.F.Flash.device c.live.flash) c.live.place.slot next filled (sym carries_is ∙ apart)
+    c.in-Some.ensures.proper.1 (slot_count old.size) c.requires.fits in
     omega (arith, ap slot_count filled.keeps.same_size)
 
 pub live-preserved : goal.live-preserved
@@ -35,8 +48,16 @@ live-preserved g c =
     let one = c.in_ok-copy_one.ensures in
     rw c.in-Some.ensures.moved (record {
       at = one.at;
-      filled = next_filled old c.args.layout.now c.args.place (puts_of c.args.puts.now) (g.C.LiveCursor.behind c.live.cursor) _ _ (g.F.Flash.device c.live.flash) (g.F.Flash.device c.copy_one.new.flash) c.live.place.slot next filled c.copy_one.new.place.slot
-          (λ same. (ap (λ (at : Place). at.slot) (one.passed (carries_is ∙ same)).1, (one.passed (carries_is ∙ same)).2)) (λ apart. one.fills (carries_is ∙ apart));
+      filled =
+          next_filled old c.args.layout.now c.args.place (puts_of c.args.puts.now)
+          (g.C.LiveCursor.behind c.live.cursor) _ _ (g.F.Flash.device c.live.flash)
+          (g.F.Flash.device c.copy_one.new.flash) c.live.place.slot next filled
+          c.copy_one.new.place.slot
+          (λ same. (
+            ap (λ (at : Place). at.slot) (one.passed (carries_is ∙ same)).1,
+            (one.passed (carries_is ∙ same)).2,
+          ))
+          (λ apart. one.fills (carries_is ∙ apart));
       below = c.in-Some.ensures.proper.1;
       over = rw filled.keeps.same_slots at c.in-Some.ensures.over;
       goes = (calls_compose _ _ _ c.live.invariant.goes).0 one.power.ok;
@@ -45,9 +66,14 @@ live-preserved g c =
 pub returns : goal.returns
 returns g c =
     let filled = c.live.invariant.filled in
-    let none = subst (λ slots. IsNextLive (meaning slots) (g.C.LiveCursor.behind c.live.cursor) None) filled.keeps.same_slots c.in_default.ensures.next in
+    let none =
+    subst (λ slots. IsNextLive (meaning slots) (g.C.LiveCursor.behind c.live.cursor) None)
+    filled.keeps.same_slots c.in_default.ensures.next in
     record {
-      fills = all_filled (g.F.Flash.device c.args.flash.now) c.args.layout.now c.args.place (puts_of c.args.puts.now) (g.C.LiveCursor.behind c.live.cursor) (g.F.Flash.device c.live.flash) c.live.place.slot filled c.live.invariant.below none;
+      fills =
+          all_filled (g.F.Flash.device c.args.flash.now) c.args.layout.now c.args.place
+          (puts_of c.args.puts.now) (g.C.LiveCursor.behind c.live.cursor)
+          (g.F.Flash.device c.live.flash) c.live.place.slot filled c.live.invariant.below none;
       behind = c.live.invariant.at.behind;
       power = record { ok = c.live.invariant.goes; cut = tt; off = tt };
     }
@@ -64,7 +90,13 @@ returns-in_err-copy_one g c =
       | inr other ↦ other
     ] in
     record {
-      fills = rw failed.1 (next_partly (g.F.Flash.device c.args.flash.now) c.args.layout.now c.args.place (puts_of c.args.puts.now) (g.C.LiveCursor.behind c.live.cursor) _ _ (g.F.Flash.device c.live.flash) (g.F.Flash.device c.copy_one.new.flash) c.live.place.slot next filled (sym carries_is ∙ apart) c.in-Some.ensures.proper.1 (one.fills apart));
+      fills =
+          rw failed.1
+          (next_partly (g.F.Flash.device c.args.flash.now) c.args.layout.now c.args.place
+          (puts_of c.args.puts.now) (g.C.LiveCursor.behind c.live.cursor) _ _
+          (g.F.Flash.device c.live.flash) (g.F.Flash.device c.copy_one.new.flash)
+          c.live.place.slot next filled (sym carries_is ∙ apart) c.in-Some.ensures.proper.1
+          (one.fills apart));
       behind = IfOk-from_err _ _ c.from_residual.ensures.0;
       power = ends_later _ c.from_residual.ensures.0 c.live.invariant.goes one.power;
     }

@@ -12,7 +12,8 @@ invariant-live g l =
     let now = g.F.Flash.device l.flash in
     record {
       at : IsOpenAt now l.layout l.place;
-      filled : FilledTo old l.layout l.fn.place (puts_of l.puts) (g.C.LiveCursor.behind l.cursor) now l.place.slot;
+      filled : FilledTo old l.layout l.fn.place (puts_of l.puts) (g.C.LiveCursor.behind l.cursor)
+          now l.place.slot;
       below : g.C.LiveCursor.behind l.cursor < 65535;
       over : g.C.LiveCursor.goes_over l.cursor (slots_of (set_of l.layout.side old));
       goes : GoesOn old now;

@@ -6,8 +6,12 @@ use Rattle.ee_core.proofs.copying.next_place.Goals as goal
 
 pub returns-then-place-words-clause-stands : goal.returns-then-place-words-clause-stands
 returns-then-place-words-clause-stands g c =
-    next_page _ (other_of c.args.layout.now.side) c.args.place c.words.result c.words.ensures.some (c.words.ensures.value ∙ ap (λ (size : Size). size.words) c.shape.ensures) c.requires.behind c.if-place-words.true
+    next_page _ (other_of c.args.layout.now.side) c.args.place c.words.result c.words.ensures.some
+    (c.words.ensures.value ∙ ap (λ (size : Size). size.words) c.shape.ensures) c.requires.behind
+    c.if-place-words.true
 
 pub returns-clause-stands : goal.returns-clause-stands
 returns-clause-stands g c =
-    same_page _ (other_of c.args.layout.now.side) c.args.place c.words.result c.words.ensures.some (c.words.ensures.value ∙ ap (λ (size : Size). size.words) c.shape.ensures) c.requires.behind c.if-place-words.false
+    same_page _ (other_of c.args.layout.now.side) c.args.place c.words.result c.words.ensures.some
+    (c.words.ensures.value ∙ ap (λ (size : Size). size.words) c.shape.ensures) c.requires.behind
+    c.if-place-words.false

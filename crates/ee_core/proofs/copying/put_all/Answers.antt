@@ -11,7 +11,10 @@ pub puts-init : goal.puts-init
 puts-init g c =
     let old = g.F.Flash.device c.args.flash.now in
     record {
-      filled = subst (λ slot. FilledBy old c.args.layout.now c.args.puts.now 0 old slot) (sym c.first_place-place.ensures.first) (none_put old c.args.layout.now c.args.puts.now c.requires.opened);
+      filled =
+          subst (λ slot. FilledBy old c.args.layout.now c.args.puts.now 0 old slot)
+          (sym c.first_place-place.ensures.first)
+          (none_put old c.args.layout.now c.args.puts.now c.requires.opened);
       behind = c.first_place-place.ensures.behind;
       goes = goes_on_same old;
     }
@@ -19,7 +22,11 @@ puts-init g c =
 pub stage_put-requires-clause-at : goal.stage_put-requires-clause-at
 stage_put-requires-clause-at g c =
     let filled = c.puts.invariant.filled in
-    record { generation = c.requires.opened.generation; filling = filled.filling; behind = c.puts.invariant.behind }
+    record {
+      generation = c.requires.opened.generation;
+      filling = filled.filling;
+      behind = c.puts.invariant.behind;
+    }
 
 pub stage_put-requires-clause-free : goal.stage_put-requires-clause-free
 stage_put-requires-clause-free g c =
@@ -27,7 +34,9 @@ stage_put-requires-clause-free g c =
     let mid = g.F.Flash.device c.puts.flash in
     let filled = c.puts.invariant.filled in
     let room : c.puts.place.slot < slot_count old.size =
-    put_room old c.args.layout.now c.args.puts.now c.puts.put-index c.put-item.result mid mid c.puts.place.slot c.puts-test.true c.put-item.is filled (slot_count old.size) c.requires.fits in
+    put_room old c.args.layout.now c.args.puts.now c.puts.put-index c.put-item.result mid mid
+    c.puts.place.slot c.puts-test.true c.put-item.is filled (slot_count old.size)
+    c.requires.fits in
     omega (arith, room, ap slot_count filled.keeps.same_size)
 
 pub puts-preserved : goal.puts-preserved
@@ -36,7 +45,10 @@ puts-preserved g c =
     let mid = g.F.Flash.device c.puts.flash in
     let new = g.F.Flash.device c.stage_put.new.flash in
     record {
-      filled = one_put old c.args.layout.now c.args.puts.now c.puts.put-index c.put-item.result mid new c.puts.place.slot c.puts-test.true c.put-item.is c.puts.invariant.filled c.stage_put.new.place.slot c.in_ok-stage_put.ensures.fills;
+      filled =
+          one_put old c.args.layout.now c.args.puts.now c.puts.put-index c.put-item.result mid new
+          c.puts.place.slot c.puts-test.true c.put-item.is c.puts.invariant.filled
+          c.stage_put.new.place.slot c.in_ok-stage_put.ensures.fills;
       behind = c.in_ok-stage_put.ensures.behind;
       goes = (calls_compose _ _ _ c.puts.invariant.goes).0 c.in_ok-stage_put.ensures.power.ok;
     }
@@ -45,7 +57,10 @@ pub returns : goal.returns
 returns g c =
     let held = c.puts.invariant in
     record {
-      fills = all_put (g.F.Flash.device c.args.flash.now) c.args.layout.now c.args.puts.now c.puts.put-index (g.F.Flash.device c.puts.flash) c.puts.place.slot c.puts-test.false held.filled;
+      fills =
+          all_put (g.F.Flash.device c.args.flash.now) c.args.layout.now c.args.puts.now
+          c.puts.put-index (g.F.Flash.device c.puts.flash) c.puts.place.slot c.puts-test.false
+          held.filled;
       behind = held.behind;
       power = record { ok = held.goes; cut = tt; off = tt };
     }
@@ -57,7 +72,13 @@ returns-in_err-stage_put g c =
     let new = g.F.Flash.device c.stage_put.new.flash in
     let is = err_from_is_err_and c.from_residual.result c.from_residual.ensures.1 in
     record {
-      fills = rw is.1 (one_put_partly old c.args.layout.now c.args.puts.now c.puts.put-index c.put-item.result mid new c.puts.place.slot c.puts-test.true c.put-item.is c.puts.invariant.filled c.in_err-stage_put.ensures.fills);
+      fills =
+          rw is.1
+          (one_put_partly old c.args.layout.now c.args.puts.now c.puts.put-index
+          c.put-item.result mid new c.puts.place.slot c.puts-test.true c.put-item.is
+          c.puts.invariant.filled c.in_err-stage_put.ensures.fills);
       behind = IfOk-from_err _ _ c.from_residual.ensures.0;
-      power = ends_later _ c.from_residual.ensures.0 c.puts.invariant.goes c.in_err-stage_put.ensures.power;
+      power =
+          ends_later _ c.from_residual.ensures.0 c.puts.invariant.goes
+          c.in_err-stage_put.ensures.power;
     }

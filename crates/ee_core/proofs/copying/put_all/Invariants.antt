@@ -8,4 +8,8 @@ abbrev pub invariant-puts : goal.invariant-puts
 invariant-puts g l =
     let old = g.F.Flash.device l.fn.flash in
     let now = g.F.Flash.device l.flash in
-    record { filled : FilledBy old l.layout l.puts l.put-index now l.place.slot; behind : IsBehind now.size (other l.layout.side) l.place; goes : GoesOn old now }
+    record {
+      filled : FilledBy old l.layout l.puts l.put-index now l.place.slot;
+      behind : IsBehind now.size (other l.layout.side) l.place;
+      goes : GoesOn old now;
+    }

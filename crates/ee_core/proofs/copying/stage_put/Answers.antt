@@ -6,7 +6,11 @@ pub stage-requires : goal.stage-requires
 stage-requires g c =
     let next = c.next_place-next.ensures in
     record {
-      at = record { generation = c.requires.at.generation; filling = rw next.same c.requires.at.filling; stands = next.stands };
+      at = record {
+        generation = c.requires.at.generation;
+        filling = rw next.same c.requires.at.filling;
+        stands = next.stands;
+      };
       free = rw next.same c.requires.free;
     }
 
@@ -16,6 +20,8 @@ returns g c =
     let done = c.in_ok-stage.ensures in
     record {
       fills = added_from _ _ _ _ _ _ next.ensures.same done.fills;
-      behind = rw done.fills.keeps.same_size (behind_slot _ (other_of c.args.layout.now.side) next.result next.ensures.stands);
+      behind =
+          rw done.fills.keeps.same_size
+          (behind_slot _ (other_of c.args.layout.now.side) next.result next.ensures.stands);
       power = done.power;
     }

@@ -11,18 +11,34 @@ loop-page-preserved g c =
     let device = g.F.Flash.device c.args.flash.now in
     let page = c.loop-page.page in
     let formed = g.met.F.Flash.formed c.args.flash.now in
-    let in_range : page < page_count device.size = omega (arith, c.pages-page-end.ensures.value, ap (λ size. size.pages) c.shape.ensures, c.loop-page-test.true) in
-    let none : (at number : ℕ) → 4 ≤ at → word_at device page at ≢ Held number = λ at number behind. elim (cases_lt at device.size.words) [
+    let in_range : page < page_count device.size =
+    omega (
+      arith,
+      c.pages-page-end.ensures.value,
+      ap (λ size. size.pages) c.shape.ensures,
+      c.loop-page-test.true,
+    ) in
+    let none : (at number : ℕ) → 4 ≤ at → word_at device page at ≢ Held number =
+    λ at number behind. elim (cases_lt at device.size.words) [
       | inl within ↦ c.if-page_holds.ensures.no refl at number behind within
       | inr past ↦ past_end device page at number formed in_range (omega arith)
     ] in
     λ k at number h behind. elim (cases_lt k page) [
       | inl earlier ↦ c.loop-page.invariant k at number earlier behind
-      | inr last ↦ let e : page ≡ k = omega arith in subst (λ n. word_at device n at ≢ Held number) e (none at number behind)
+      | inr last ↦ let e : page ≡ k =
+          omega arith in subst (λ n. word_at device n at ≢ Held number) e (none at number behind)
     ]
 
 pub returns-clause-yes : goal.returns-clause-yes
 returns-clause-yes g c = λ is page at number behind. elim (cases_lt page c.loop-page.page) [
   | inl below ↦ c.loop-page.invariant page at number below behind
-  | inr past ↦ past_device (g.F.Flash.device c.args.flash.now) page at number (g.met.F.Flash.formed c.args.flash.now) (omega (arith, past, c.loop-page-test.false, c.pages-page-end.ensures.value, ap (λ size. size.pages) c.shape.ensures))
+  | inr past ↦ past_device (g.F.Flash.device c.args.flash.now) page at number
+      (g.met.F.Flash.formed c.args.flash.now)
+      (omega (
+        arith,
+        past,
+        c.loop-page-test.false,
+        c.pages-page-end.ensures.value,
+        ap (λ size. size.pages) c.shape.ensures,
+      ))
 ]

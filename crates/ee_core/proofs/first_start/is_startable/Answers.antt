@@ -11,9 +11,18 @@ returns-in-TwoLive-clause-no g c = λ _.
 pub returns-in-Foreign-clause-no : goal.returns-in-Foreign-clause-no
 returns-in-Foreign-clause-no g c = λ _.
     let device = g.F.Flash.device c.args.flash.now in
-    foreign_stays device c.in-Foreign.page c.in-Foreign.at (subst (IsScanFault device) c.in-Foreign.is c.requires)
+    foreign_stays device c.in-Foreign.page c.in-Foreign.at
+    (subst (IsScanFault device) c.in-Foreign.is c.requires)
 
 pub returns-in-NoLiveSet : goal.returns-in-NoLiveSet
 returns-in-NoLiveSet g c =
     let device = g.F.Flash.device c.args.flash.now in
-    record { yes = λ yes. record { uncommitted = none_committed device (subst (IsScanFault device) c.in-NoLiveSet.is c.requires); none_held = c.holds_none.ensures.yes yes }; no = λ no startable. c.holds_none.ensures.no no startable.none_held }
+    record {
+      yes =
+          λ yes. record {
+            uncommitted =
+                none_committed device (subst (IsScanFault device) c.in-NoLiveSet.is c.requires);
+            none_held = c.holds_none.ensures.yes yes;
+          };
+      no = λ no startable. c.holds_none.ensures.no no startable.none_held;
+    }

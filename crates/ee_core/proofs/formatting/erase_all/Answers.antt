@@ -25,21 +25,32 @@ pages-preserved g c =
     let page = c.pages.page in
     let pages = ap (λ size. size.pages) c.shape.ensures in
     let same = ap page_count c.pages.invariant.power.same_size in
-    let in_range : page < page_count old.size = omega (arith, c.pages-page-end.ensures.value, pages, c.pages-test.true) in
+    let in_range : page < page_count old.size =
+    omega (arith, c.pages-page-end.ensures.value, pages, c.pages-test.true) in
     let now_in_range : page < page_count mid.size = omega (arith, in_range, same) in
     let formed = g.met.F.Flash.formed c.args.flash.now in
     let within : page < length old.image = omega (arith, in_range, formed.image_length) in
     let step : BlanksPage mid new page = elim c.if-not-is_blank.branch [
       | then-not-is_blank+in_ok-erase w ↦
-          let written : is_blank (page_at mid page) ≡ false = sym c.is_blank.ensures ∙ w.if-not-is_blank.true in
-          rw w.flash-is (blanks_page page mid _ (g.met.F.Flash.formed c.pages.flash) now_in_range written w.in_ok-erase.ensures.on w.in_ok-erase.ensures.done)
+          let written : is_blank (page_at mid page) ≡ false =
+          sym c.is_blank.ensures ∙ w.if-not-is_blank.true in
+          rw w.flash-is
+          (blanks_page page mid _ (g.met.F.Flash.formed c.pages.flash) now_in_range written
+          w.in_ok-erase.ensures.on w.in_ok-erase.ensures.done)
       | else-not-is_blank w ↦
-          let blank : is_blank (page_at mid page) ≡ true = sym c.is_blank.ensures ∙ w.if-not-is_blank.false in
+          let blank : is_blank (page_at mid page) ≡ true =
+          sym c.is_blank.ensures ∙ w.if-not-is_blank.false in
           rw w.flash-is (blank_already mid page blank)
     ] in
     let stays : IsStartable mid → IsStartable new = elim c.if-not-is_blank.branch [
       | then-not-is_blank+in_ok-erase w ↦
-          rw w.flash-is (erase_startable page mid _ (g.met.F.Flash.formed c.pages.flash) now_in_range (inl (record { was_on = w.in_ok-erase.ensures.on; done = w.in_ok-erase.ensures.done })))
+          rw w.flash-is
+          (erase_startable page mid _ (g.met.F.Flash.formed c.pages.flash) now_in_range
+          (inl
+          (record {
+            was_on = w.in_ok-erase.ensures.on;
+            done = w.in_ok-erase.ensures.done;
+          })))
       | else-not-is_blank w ↦ rw w.flash-is (λ before. before)
     ] in
     let at : 0 + page ≡ page = omega arith in
@@ -49,7 +60,8 @@ pages-preserved g c =
       rest = λ k h.
           let apart : k ≢ page = λ e. omega (arith, e, h) in
           step.others k apart ∙ c.pages.invariant.rest k (omega (arith, h));
-      wear = wears_next old.image 0 page page old mid new at within same_page c.pages.invariant.wear step.wear;
+      wear = wears_next old.image 0 page page old mid new at within same_page c.pages.invariant.wear
+          step.wear;
       power = goes_on_both old mid new c.pages.invariant.power step.power;
       startable = λ before. stays (c.pages.invariant.startable before);
     }
@@ -62,9 +74,26 @@ returns-clause-erases g c =
     let same = ap page_count c.pages.invariant.power.same_size in
     let formed = g.met.F.Flash.formed c.args.flash.now in
     let new_formed = g.met.F.Flash.formed c.pages.flash in
-    let all : c.pages.page ≡ length old.image = omega (arith, c.pages-page-end.ensures.value, pages, formed.image_length, c.pages.auto.page-end, c.pages-test.false) in
+    let all : c.pages.page ≡ length old.image =
+    omega (
+      arith,
+      c.pages-page-end.ensures.value,
+      pages,
+      formed.image_length,
+      c.pages.auto.page-end,
+      c.pages-test.false,
+    ) in
     record {
-      blank = all_blank new c.pages.page (omega (arith, c.pages-page-end.ensures.value, pages, same, new_formed.image_length, c.pages-test.false)) c.pages.invariant.blank;
+      blank =
+          all_blank new c.pages.page
+          (omega (
+            arith,
+            c.pages-page-end.ensures.value,
+            pages,
+            same,
+            new_formed.image_length,
+            c.pages-test.false,
+          )) c.pages.invariant.blank;
       startable = c.pages.invariant.startable;
       wear = all_wear old.image 0 c.pages.page old new all c.pages.invariant.wear;
     }
@@ -82,23 +111,34 @@ returns-in_err-erase g c =
     let pages = ap (λ size. size.pages) c.shape.ensures in
     let formed = g.met.F.Flash.formed c.args.flash.now in
     let mid_formed = g.met.F.Flash.formed c.pages.flash in
-    let in_range : page < page_count old.size = omega (arith, c.pages-page-end.ensures.value, pages, c.pages-test.true) in
-    let now_in_range : page < page_count mid.size = omega (arith, in_range, ap page_count c.pages.invariant.power.same_size) in
+    let in_range : page < page_count old.size =
+    omega (arith, c.pages-page-end.ensures.value, pages, c.pages-test.true) in
+    let now_in_range : page < page_count mid.size =
+    omega (arith, in_range, ap page_count c.pages.invariant.power.same_size) in
     let within : page < length old.image = omega (arith, in_range, formed.image_length) in
     let has_wear : page < length mid.wear = omega (arith, now_in_range, mid_formed.wear_length) in
-    let written : is_blank (page_at mid page) ≡ false = sym c.is_blank.ensures ∙ c.if-not-is_blank.true in
+    let written : is_blank (page_at mid page) ≡ false =
+    sym c.is_blank.ensures ∙ c.if-not-is_blank.true in
     let at : 0 + page ≡ page = omega arith in
-    let others : IsSameBut page mid new = λ k apart. step_keeps_other_pages (Erase page) mid new k (record { formed = mid_formed; may = now_in_range; follows = inr cut }) apart in
+    let others : IsSameBut page mid new =
+    λ k apart. step_keeps_other_pages (Erase page) mid new k
+    (record { formed = mid_formed; may = now_in_range; follows = inr cut }) apart in
     let partly : IsOn old → ErasesPartly 0 old.image old new = λ on.
     let now = cut_page_wears page mid new has_wear cut (c.pages.invariant.power.same_power ∙ on) in
-    let wear = wears_to old.image 0 page page old mid new at within (sym (c.pages.invariant.rest page (omega arith))) c.pages.invariant.wear written now in
-    erases_partly 0 page old.image old mid new wear (omega arith) (λ k low high. c.pages.invariant.blank k high)
-    (λ k either. elim either [ inl none ↦ absurd (omega (arith, none)) | inr high ↦ c.pages.invariant.rest k high ])
+    let wear =
+    wears_to old.image 0 page page old mid new at within
+    (sym (c.pages.invariant.rest page (omega arith))) c.pages.invariant.wear written now in
+    erases_partly 0 page old.image old mid new wear (omega arith)
+    (λ k low high. c.pages.invariant.blank k high)
+    (λ k either. elim either
+    [ inl none ↦ absurd (omega (arith, none)) | inr high ↦ c.pages.invariant.rest k high ])
     others (erase_partly page mid new cut) in
     record {
       erases = rw (err_from_is_err_and c.from_residual.result c.from_residual.ensures.1).1 (record {
         partly = partly;
-        startable = λ before. erase_startable page mid new mid_formed now_in_range (inr cut) (c.pages.invariant.startable before);
+        startable =
+            λ before. erase_startable page mid new mid_formed now_in_range (inr cut)
+            (c.pages.invariant.startable before);
       });
       power = ends_in_step (Erase page) _ c.from_residual.ensures.0 c.pages.invariant.power cut;
     }

@@ -34,14 +34,21 @@ returns g c =
     let on = c.in_ok-mark.ensures.on unset in
     let whole = c.in_ok-mark.ensures.done unset in
     let next = active_unset blank mid formed all on whole in
-    let on_still = goes_on_both old blank mid c.in_ok-erase_all.ensures.power.ok (goes_on_programmed _ _ _ blank on whole) in
-    let sets = sets_mark 0 (Receive 1) blank mid formed h (λ set. (c.in_ok-mark.ensures.present set).1) c.in_ok-mark.ensures.done in
+    let on_still =
+    goes_on_both old blank mid c.in_ok-erase_all.ensures.power.ok
+    (goes_on_programmed _ _ _ blank on whole) in
+    let sets =
+    sets_mark 0 (Receive 1) blank mid formed h (λ set. (c.in_ok-mark.ensures.present set).1)
+    c.in_ok-mark.ensures.done in
     let on_then = c.in_ok-mark-2.ensures.on next in
     let done = c.in_ok-mark-2.ensures.done next in
-    let sets_then = sets_mark 0 Active mid new mid_formed still (λ set. (c.in_ok-mark-2.ensures.present set).1) c.in_ok-mark-2.ensures.done in
+    let sets_then =
+    sets_mark 0 Active mid new mid_formed still (λ set. (c.in_ok-mark-2.ensures.present set).1)
+    c.in_ok-mark-2.ensures.done in
     let size = ap (λ (device : Device). device.size) whole in
     let size_then = ap (λ (device : Device). device.size) done in
-    let wear : new.wear ≡ blank.wear = ap (λ (device : Device). device.wear) done ∙ ap (λ (device : Device). device.wear) whole in
+    let wear : new.wear ≡ blank.wear =
+    ap (λ (device : Device). device.wear) done ∙ ap (λ (device : Device). device.wear) whole in
     let goes_on = goes_on_both old mid new on_still (goes_on_programmed _ _ _ mid on_then done) in
     let layout = first_layout blank mid formed all on whole new on_then done in
     let marked = first_marked blank mid formed all on whole new on_then done in
@@ -50,8 +57,12 @@ returns g c =
         layout_is = layout;
         first = refl;
         marked = marked;
-        formatted = formats _ old new layout refl marked (first_state blank mid formed all on whole new on_then done) (formats_first blank mid new formed mid_formed size size_then all sets sets_then)
-            (formats_second blank mid new formed mid_formed size size_then all sets sets_then) (wears_still (not_blank_pages old) old blank new erased wear) goes_on;
+        formatted =
+            formats _ old new layout refl marked
+            (first_state blank mid formed all on whole new on_then done)
+            (formats_first blank mid new formed mid_formed size size_then all sets sets_then)
+            (formats_second blank mid new formed mid_formed size size_then all sets sets_then)
+            (wears_still (not_blank_pages old) old blank new erased wear) goes_on;
       };
       power = record { ok = goes_on; cut = tt; off = tt };
     }
@@ -64,7 +75,9 @@ returns-in_err-erase_all g c =
         words = λ on. inl (cut.erases.partly on);
         starting = λ on startable. inl (cut.erases.startable startable);
       });
-      power = ends_later _ c.from_residual.ensures.0 (goes_on_same (g.F.Flash.device c.args.flash.now)) cut.power;
+      power =
+          ends_later _ c.from_residual.ensures.0 (goes_on_same (g.F.Flash.device c.args.flash.now))
+          cut.power;
     }
 
 pub returns-in_err-mark : goal.returns-in_err-mark
@@ -81,11 +94,20 @@ returns-in_err-mark g c =
     let taken = mark_step 0 (Receive 1) blank mid formed h proper_first unset (inr cut) in
     let same : mid.wear ≡ blank.wear = program_keeps_wear 0 0 _ blank mid (inr cut) in
     let failed = c.from_residual-in_err-mark in
-    let partly = format_cut old blank mid (wears_still (not_blank_pages old) old blank mid erased same) formed (step_changes_one_page _ blank mid taken).same_size all
+    let partly =
+    format_cut old blank mid (wears_still (not_blank_pages old) old blank mid erased same)
+    formed (step_changes_one_page _ blank mid taken).same_size all
     (mark_partly 0 (Receive 1) blank mid formed h (λ set. (c.mark.ensures.present set).1) cut) in
     record {
-      writes = rw (err_from_is_err_and failed.result failed.ensures.1).1 (record { words = λ on. inr partly; starting = λ on startable. inl (received_startable blank mid formed all taken) });
-      power = ends_in_step (marking 0 (Receive 1)) _ failed.ensures.0 c.in_ok-erase_all.ensures.power.ok cut;
+      writes =
+          rw (err_from_is_err_and failed.result failed.ensures.1).1
+          (record {
+            words = λ on. inr partly;
+            starting = λ on startable. inl (received_startable blank mid formed all taken);
+          });
+      power =
+          ends_in_step (marking 0 (Receive 1)) _ failed.ensures.0 c.in_ok-erase_all.ensures.power.ok
+          cut;
     }
 
 pub returns-in_err-mark-2 : goal.returns-in_err-mark-2
@@ -104,25 +126,44 @@ returns-in_err-mark-2 g c =
     let on_mark = c.in_ok-mark.ensures.on unset in
     let whole = c.in_ok-mark.ensures.done unset in
     let next = active_unset blank mid formed all on_mark whole in
-    let on_still = goes_on_both old blank mid c.in_ok-erase_all.ensures.power.ok (goes_on_programmed _ _ _ blank on_mark whole) in
-    let sets = sets_mark 0 (Receive 1) blank mid formed h (λ set. (c.in_ok-mark.ensures.present set).1) c.in_ok-mark.ensures.done in
+    let on_still =
+    goes_on_both old blank mid c.in_ok-erase_all.ensures.power.ok
+    (goes_on_programmed _ _ _ blank on_mark whole) in
+    let sets =
+    sets_mark 0 (Receive 1) blank mid formed h (λ set. (c.in_ok-mark.ensures.present set).1)
+    c.in_ok-mark.ensures.done in
     let size = ap (λ (device : Device). device.size) whole in
     let cut = c.in_err-mark-2.ensures.cut in
     let taken = mark_step 0 Active mid new mid_formed still proper_active next (inr cut) in
-    let wear : new.wear ≡ blank.wear = program_keeps_wear 0 1 _ mid new (inr cut) ∙ ap (λ (device : Device). device.wear) whole in
+    let wear : new.wear ≡ blank.wear =
+    program_keeps_wear 0 1 _ mid new (inr cut) ∙ ap (λ (device : Device). device.wear) whole in
     let failed = c.from_residual-in_err-mark-2 in
-    let partly = format_cut_then old blank mid new (wears_still (not_blank_pages old) old blank new erased wear) formed mid_formed size (step_changes_one_page _ mid new taken).same_size all sets
+    let partly =
+    format_cut_then old blank mid new
+    (wears_still (not_blank_pages old) old blank new erased wear) formed mid_formed size
+    (step_changes_one_page _ mid new taken).same_size all sets
     (mark_partly 0 Active mid new mid_formed still (λ set. (c.mark-2.ensures.present set).1) cut) in
     record {
       writes = rw (err_from_is_err_and failed.result failed.ensures.1).1 (record {
         words = λ on. inr partly;
-        starting = λ on startable. active_starting blank mid new formed all on_mark whole taken (received_startable blank mid formed all (receiving blank mid formed all on_mark whole));
+        starting =
+            λ on startable. active_starting blank mid new formed all on_mark whole taken
+            (received_startable blank mid formed all
+            (receiving blank mid formed all on_mark whole));
       });
       power = ends_in_step (marking 0 Active) _ failed.ensures.0 on_still cut;
     }
 
 pub mark-requires : goal.mark-requires
-mark-requires g c = record { page_in_range = omega (arith, (g.met.F.Flash.formed c.erase_all.new.flash).within_limits.some_pages); generation = proper_first }
+mark-requires g c = record {
+  page_in_range =
+      omega (arith, (g.met.F.Flash.formed c.erase_all.new.flash).within_limits.some_pages);
+  generation = proper_first;
+}
 
 pub mark-requires-2 : goal.mark-requires-2
-mark-requires-2 g c = record { page_in_range = omega (arith, (g.met.F.Flash.formed c.mark.new.flash).within_limits.some_pages); generation = proper_active }
+mark-requires-2 g c = record {
+  page_in_range =
+      omega (arith, (g.met.F.Flash.formed c.mark.new.flash).within_limits.some_pages);
+  generation = proper_active;
+}

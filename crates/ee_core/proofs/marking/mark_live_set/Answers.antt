@@ -17,21 +17,45 @@ pages-preserved g c =
     let mid = g.F.Flash.device c.pages.flash in
     let new = g.F.Flash.device c.mark_live.new.flash in
     let layout = c.args.layout.now in
-    let from : first_page old.size layout.side ≤ c.pages.page = omega (arith, c.first_page-first.ensures, c.pages.auto.page) in
+    let from : first_page old.size layout.side ≤ c.pages.page =
+    omega (arith, c.first_page-first.ensures, c.pages.auto.page) in
     let sizes = ap (λ (size : Size). size.pages) c.pages.invariant.stays.keeps.same_size in
     let behind : c.pages.page - c.first_page-first.result < mid.size.pages =
-    omega (arith, sizes, c.pages-test.true, c.pages.auto.page, c.first_page-first.ensures, last_is layout old c.requires, last_in_range layout old c.requires) in
+    omega (
+      arith,
+      sizes,
+      c.pages-test.true,
+      c.pages.auto.page,
+      c.first_page-first.ensures,
+      last_is layout old c.requires,
+      last_in_range layout old c.requires,
+    ) in
     record {
-      stays = stays_both old mid new layout.side layout.generation c.pages.invariant.stays c.mark_live.ensures.stays;
-      valid = valid_more (first_page old.size layout.side) c.pages.page mid new from c.pages.invariant.valid c.mark_live.ensures.marks c.in_ok-mark_live.ensures.marked;
+      stays =
+          stays_both old mid new layout.side layout.generation c.pages.invariant.stays
+          c.mark_live.ensures.stays;
+      valid =
+          valid_more (first_page old.size layout.side) c.pages.page mid new from
+          c.pages.invariant.valid c.mark_live.ensures.marks c.in_ok-mark_live.ensures.marked;
       no_step = λ marked.
           let same = c.pages.invariant.no_step marked in
-          let set : is_marked old c.pages.page Valid ≡ true = valid_already layout old c.pages.page c.requires marked from c.pages-test.true in
-          (c.mark_live.ensures.no_step (ap (λ device. is_marked device c.pages.page Valid) same ∙ set)).1 ∙ same;
-      drawn = valid_next layout.side old c.first_page-first.result c.first_page-first.ensures mid new c.pages.page
-          (g.met.F.Flash.formed c.pages.flash) c.pages.invariant.stays.keeps.same_size c.mark_live.ensures.stays.keeps.same_size c.pages.auto.page behind c.in_ok-mark_live.ensures.sets c.pages.invariant.drawn;
-      other = other_stays layout.side old c.first_page-first.result c.first_page-first.ensures mid new c.pages.page
-          (g.met.F.Flash.formed c.pages.flash) (g.met.F.Flash.formed c.mark_live.new.flash) c.pages.invariant.stays.keeps.same_size c.mark_live.ensures.stays.keeps.same_size c.pages.auto.page behind c.mark_live.ensures.others c.pages.invariant.other;
+          let set : is_marked old c.pages.page Valid ≡ true =
+          valid_already layout old c.pages.page c.requires marked from c.pages-test.true in
+          (c.mark_live.ensures.no_step
+          (ap (λ device. is_marked device c.pages.page Valid) same ∙ set)).1
+          ∙ same;
+      drawn =
+          valid_next layout.side old c.first_page-first.result c.first_page-first.ensures mid new
+          c.pages.page
+          (g.met.F.Flash.formed c.pages.flash) c.pages.invariant.stays.keeps.same_size
+          c.mark_live.ensures.stays.keeps.same_size c.pages.auto.page behind
+          c.in_ok-mark_live.ensures.sets c.pages.invariant.drawn;
+      other =
+          other_stays layout.side old c.first_page-first.result c.first_page-first.ensures mid new
+          c.pages.page
+          (g.met.F.Flash.formed c.pages.flash) (g.met.F.Flash.formed c.mark_live.new.flash)
+          c.pages.invariant.stays.keeps.same_size c.mark_live.ensures.stays.keeps.same_size
+          c.pages.auto.page behind c.mark_live.ensures.others c.pages.invariant.other;
       power = goes_on_both old mid new c.pages.invariant.power c.in_ok-mark_live.ensures.power.ok;
     }
 
@@ -39,7 +63,8 @@ pub mark_live-requires-2-clause-behind : goal.mark_live-requires-2-clause-behind
 mark_live-requires-2-clause-behind g c =
     let old = g.F.Flash.device c.args.flash.now in
     let mid = g.F.Flash.device c.pages.flash in
-    last_behind c.args.layout.now mid Active (layout_stays c.args.layout.now old mid c.requires c.pages.invariant.stays) (inl refl)
+    last_behind c.args.layout.now mid Active
+    (layout_stays c.args.layout.now old mid c.requires c.pages.invariant.stays) (inl refl)
 
 pub mark_live-requires-clause-layout : goal.mark_live-requires-clause-layout
 mark_live-requires-clause-layout g c = search (rules, layout_stays)
@@ -61,24 +86,44 @@ returns-in_err-mark_live g c =
     let counted = ap (λ (size : Size). size.pages) sizes in
     let last = last_is layout old c.requires in
     let k = c.pages.page - c.first_page-first.result in
-    let from : first_page old.size layout.side ≤ c.pages.page = omega (arith, c.first_page-first.ensures, c.pages.auto.page) in
-    let at : c.pages.page ≡ first_page mid.size layout.side + k = omega (arith, c.first_page-first.ensures, c.pages.auto.page, ap (λ (size : Size). first_page size layout.side) sizes) in
-    let before : k < last_used old layout.side = omega (arith, last, c.first_page-first.ensures, c.pages.auto.page, c.pages-test.true) in
-    let inside : k < mid.size.pages = omega (arith, before, last_in_range layout old c.requires, counted) in
+    let from : first_page old.size layout.side ≤ c.pages.page =
+    omega (arith, c.first_page-first.ensures, c.pages.auto.page) in
+    let at : c.pages.page ≡ first_page mid.size layout.side + k =
+    omega (
+      arith,
+      c.first_page-first.ensures,
+      c.pages.auto.page,
+      ap (λ (size : Size). first_page size layout.side) sizes,
+    ) in
+    let before : k < last_used old layout.side =
+    omega (arith, last, c.first_page-first.ensures, c.pages.auto.page, c.pages-test.true) in
+    let inside : k < mid.size.pages =
+    omega (arith, before, last_in_range layout old c.requires, counted) in
     record {
       stays = stays_both _ _ _ _ _ c.pages.invariant.stays c.mark_live.ensures.stays;
       marked = never_on_ok _ _ failed;
       live_pages = never_on_ok _ _ failed;
       old_pages = never_on_ok _ _ failed;
       begun = always_on_err _
-          (valid_partly layout.side mid new k (last_used old layout.side) (picture_of layout.side old) (g.met.F.Flash.formed c.pages.flash) c.mark_live.ensures.stays.keeps.same_size inside before
-          (subst (λ n. SetsPartly n Valid mid new) at c.in_err-mark_live.ensures.begun) c.pages.invariant.drawn);
+          (valid_partly layout.side mid new k (last_used old layout.side)
+          (picture_of layout.side old) (g.met.F.Flash.formed c.pages.flash)
+          c.mark_live.ensures.stays.keeps.same_size inside before
+          (subst (λ n. SetsPartly n Valid mid new) at c.in_err-mark_live.ensures.begun)
+          c.pages.invariant.drawn);
       old_pages_stay = always_on_err _
-          (other_stays layout.side old c.first_page-first.result c.first_page-first.ensures mid new c.pages.page (g.met.F.Flash.formed c.pages.flash) (g.met.F.Flash.formed c.mark_live.new.flash)
-          sizes c.mark_live.ensures.stays.keeps.same_size c.pages.auto.page inside c.mark_live.ensures.others c.pages.invariant.other);
+          (other_stays layout.side old c.first_page-first.result c.first_page-first.ensures mid new
+          c.pages.page (g.met.F.Flash.formed c.pages.flash)
+          (g.met.F.Flash.formed c.mark_live.new.flash)
+          sizes c.mark_live.ensures.stays.keeps.same_size c.pages.auto.page inside
+          c.mark_live.ensures.others c.pages.invariant.other);
       no_step = λ marked.
-          let set : is_marked old c.pages.page Valid ≡ true = valid_already layout old c.pages.page c.requires marked from c.pages-test.true in
-          let none = c.mark_live.ensures.no_step (ap (λ device. is_marked device c.pages.page Valid) (c.pages.invariant.no_step marked) ∙ set) in
+          let set : is_marked old c.pages.page Valid ≡ true =
+          valid_already layout old c.pages.page c.requires marked from c.pages-test.true in
+          let none =
+          c.mark_live.ensures.no_step
+          (ap (λ device. is_marked device c.pages.page Valid)
+          (c.pages.invariant.no_step marked)
+          ∙ set) in
           absurd (not_ok none.0 c.in_err-mark_live.was);
       power = ends_later _ failed c.pages.invariant.power c.in_err-mark_live.ensures.power;
     }
@@ -92,27 +137,44 @@ returns-in_err-mark_live-2 g c =
     let failed = c.from_residual-in_err-mark_live-2.ensures.0 in
     let sizes = c.pages.invariant.stays.keeps.same_size in
     let last = last_is layout old c.requires in
-    let from : c.first_page-first.result ≤ layout.current = omega (arith, last, c.first_page-first.ensures) in
-    let reached : c.pages.page - c.first_page-first.result ≡ last_used old layout.side = omega (arith, last, c.first_page-first.ensures, c.pages-test.false, c.pages.auto.page-end) in
-    let below : last_used old layout.side < mid.size.pages = omega (arith, last_in_range layout old c.requires, ap (λ (size : Size). size.pages) sizes) in
-    let behind : layout.current - c.first_page-first.result < mid.size.pages = omega (arith, below, last, c.first_page-first.ensures) in
-    let drawn = subst (λ n. IsDrawn layout.side mid (valid_to n (picture_of layout.side old))) reached c.pages.invariant.drawn in
-    let at : layout.current ≡ first_page mid.size layout.side + last_used old layout.side = omega (arith, last, ap (λ (size : Size). first_page size layout.side) sizes) in
+    let from : c.first_page-first.result ≤ layout.current =
+    omega (arith, last, c.first_page-first.ensures) in
+    let reached : c.pages.page - c.first_page-first.result ≡ last_used old layout.side =
+    omega
+    (arith, last, c.first_page-first.ensures, c.pages-test.false, c.pages.auto.page-end) in
+    let below : last_used old layout.side < mid.size.pages =
+    omega
+    (arith, last_in_range layout old c.requires, ap (λ (size : Size). size.pages) sizes) in
+    let behind : layout.current - c.first_page-first.result < mid.size.pages =
+    omega (arith, below, last, c.first_page-first.ensures) in
+    let drawn =
+    subst (λ n. IsDrawn layout.side mid (valid_to n (picture_of layout.side old))) reached
+    c.pages.invariant.drawn in
+    let at : layout.current ≡ first_page mid.size layout.side + last_used old layout.side =
+    omega (arith, last, ap (λ (size : Size). first_page size layout.side) sizes) in
     record {
       stays = stays_both _ _ _ _ _ c.pages.invariant.stays c.mark_live-2.ensures.stays;
       marked = never_on_ok _ _ failed;
       live_pages = never_on_ok _ _ failed;
       old_pages = never_on_ok _ _ failed;
       begun = always_on_err _
-          (active_partly layout.side mid new (last_used old layout.side) (picture_of layout.side old) (g.met.F.Flash.formed c.pages.flash) c.mark_live-2.ensures.stays.keeps.same_size below
+          (active_partly layout.side mid new (last_used old layout.side)
+          (picture_of layout.side old) (g.met.F.Flash.formed c.pages.flash)
+          c.mark_live-2.ensures.stays.keeps.same_size below
           (subst (λ n. SetsPartly n Active mid new) at c.in_err-mark_live-2.ensures.begun) drawn);
       old_pages_stay = always_on_err _
-          (other_stays layout.side old c.first_page-first.result c.first_page-first.ensures mid new layout.current (g.met.F.Flash.formed c.pages.flash) (g.met.F.Flash.formed c.mark_live-2.new.flash)
-          sizes c.mark_live-2.ensures.stays.keeps.same_size from behind c.mark_live-2.ensures.others c.pages.invariant.other);
+          (other_stays layout.side old c.first_page-first.result c.first_page-first.ensures mid new
+          layout.current (g.met.F.Flash.formed c.pages.flash)
+          (g.met.F.Flash.formed c.mark_live-2.new.flash)
+          sizes c.mark_live-2.ensures.stays.keeps.same_size from behind c.mark_live-2.ensures.others
+          c.pages.invariant.other);
       no_step = λ marked.
           let same = c.pages.invariant.no_step marked in
-          let set : is_marked old layout.current Active ≡ true = ap (λ n. is_marked old n Active) last ∙ marked.active in
-          let none = c.mark_live-2.ensures.no_step (ap (λ device. is_marked device layout.current Active) same ∙ set) in
+          let set : is_marked old layout.current Active ≡ true =
+          ap (λ n. is_marked old n Active) last ∙ marked.active in
+          let none =
+          c.mark_live-2.ensures.no_step
+          (ap (λ device. is_marked device layout.current Active) same ∙ set) in
           absurd (not_ok none.0 c.in_err-mark_live-2.was);
       power = ends_later _ failed c.pages.invariant.power c.in_err-mark_live-2.ensures.power;
     }
@@ -127,24 +189,48 @@ returns g c =
     let sizes = c.pages.invariant.stays.keeps.same_size in
     let formed = g.met.F.Flash.formed c.pages.flash in
     let last = last_is layout old c.requires in
-    let from : c.first_page-first.result ≤ layout.current = omega (arith, last, c.first_page-first.ensures) in
-    let reached : c.pages.page - c.first_page-first.result ≡ last_used old layout.side = omega (arith, last, c.first_page-first.ensures, c.pages-test.false, c.pages.auto.page-end) in
-    let below : last_used old layout.side < mid.size.pages = omega (arith, last_in_range layout old c.requires, ap (λ (size : Size). size.pages) sizes) in
-    let behind : layout.current - c.first_page-first.result < mid.size.pages = omega (arith, below, last, c.first_page-first.ensures) in
-    let drawn = subst (λ n. IsDrawn layout.side mid (valid_to n (picture_of layout.side old))) reached c.pages.invariant.drawn in
-    let stays = stays_both old mid new layout.side layout.generation c.pages.invariant.stays done.stays in
+    let from : c.first_page-first.result ≤ layout.current =
+    omega (arith, last, c.first_page-first.ensures) in
+    let reached : c.pages.page - c.first_page-first.result ≡ last_used old layout.side =
+    omega
+    (arith, last, c.first_page-first.ensures, c.pages-test.false, c.pages.auto.page-end) in
+    let below : last_used old layout.side < mid.size.pages =
+    omega
+    (arith, last_in_range layout old c.requires, ap (λ (size : Size). size.pages) sizes) in
+    let behind : layout.current - c.first_page-first.result < mid.size.pages =
+    omega (arith, below, last, c.first_page-first.ensures) in
+    let drawn =
+    subst (λ n. IsDrawn layout.side mid (valid_to n (picture_of layout.side old))) reached
+    c.pages.invariant.drawn in
+    let stays =
+    stays_both old mid new layout.side layout.generation c.pages.invariant.stays done.stays in
     record {
       stays = stays;
-      marked = live_marked layout old mid new c.requires stays (λ k below. c.pages.invariant.valid k (omega (arith, c.pages-test.false, below))) done.marks done.marked;
-      live_pages = active_then layout.side old c.first_page-first.result c.first_page-first.ensures mid new layout.current (last_used old layout.side) formed sizes done.stays.keeps.same_size
+      marked =
+          live_marked layout old mid new c.requires stays
+          (λ k below. c.pages.invariant.valid k (omega (arith, c.pages-test.false, below)))
+          done.marks done.marked;
+      live_pages =
+          active_then layout.side old c.first_page-first.result c.first_page-first.ensures mid new
+          layout.current (last_used old layout.side) formed sizes done.stays.keeps.same_size
           (omega (arith, last, c.first_page-first.ensures)) below done.sets drawn;
-      old_pages = other_stays layout.side old c.first_page-first.result c.first_page-first.ensures mid new layout.current formed (g.met.F.Flash.formed c.mark_live-2.new.flash)
+      old_pages =
+          other_stays layout.side old c.first_page-first.result c.first_page-first.ensures mid new
+          layout.current formed (g.met.F.Flash.formed c.mark_live-2.new.flash)
           sizes done.stays.keeps.same_size from behind done.others c.pages.invariant.other;
       begun = tt;
       old_pages_stay = tt;
       no_step = λ marked.
           let same = c.pages.invariant.no_step marked in
-          let set : is_marked old layout.current Active ≡ true = ap (λ n. is_marked old n Active) last ∙ marked.active in
-          (refl, (done.no_step (ap (λ device. is_marked device layout.current Active) same ∙ set)).1 ∙ same);
-      power = record { ok = goes_on_both old mid new c.pages.invariant.power done.power.ok; cut = tt; off = tt };
+          let set : is_marked old layout.current Active ≡ true =
+          ap (λ n. is_marked old n Active) last ∙ marked.active in (
+            refl,
+            (done.no_step (ap (λ device. is_marked device layout.current Active) same ∙ set)).1
+                ∙ same,
+          );
+      power = record {
+        ok = goes_on_both old mid new c.pages.invariant.power done.power.ok;
+        cut = tt;
+        off = tt;
+      };
     }

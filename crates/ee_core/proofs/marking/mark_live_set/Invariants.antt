@@ -8,9 +8,11 @@ invariant-pages g l =
     let now = g.F.Flash.device l.flash in
     record {
       stays : Stays old now l.layout.side l.layout.generation;
-      valid : (k : ℕ) → k < l.page - first_page old.size l.layout.side → is_marked now (first_page old.size l.layout.side + k) Valid ≡ true;
+      valid : (k : ℕ) → k < l.page - first_page old.size l.layout.side
+          → is_marked now (first_page old.size l.layout.side + k) Valid ≡ true;
       no_step : IsLiveMarked old l.layout.side → now ≡ old;
-      drawn : IsDrawn l.layout.side now (valid_to (l.page - l.first) (picture_of l.layout.side old));
+      drawn : IsDrawn l.layout.side now
+          (valid_to (l.page - l.first) (picture_of l.layout.side old));
       other : IsSameSet (other l.layout.side) old now;
       power : GoesOn old now;
     }

@@ -12,18 +12,29 @@ returns-in_err-mark g c =
     let new = g.F.Flash.device c.mark.new.flash in
     let layout = c.args.layout.now in
     let formed = g.met.F.Flash.formed c.args.flash.now in
-    let h : c.args.page < page_count old.size = page_in_device old (other layout.side) c.args.page c.requires.page.from (omega (arith, c.requires.page.from, c.requires.page.below)) in
-    let left = marks c.args.page Erasing old new c.mark.result formed h proper_old c.mark.ensures.present c.mark.ensures.on c.mark.ensures.done c.mark.ensures.cut in
+    let h : c.args.page < page_count old.size =
+    page_in_device old (other layout.side) c.args.page c.requires.page.from
+    (omega (arith, c.requires.page.from, c.requires.page.below)) in
+    let left =
+    marks c.args.page Erasing old new c.mark.result formed h proper_old c.mark.ensures.present
+    c.mark.ensures.on c.mark.ensures.done c.mark.ensures.cut in
     let failed = c.from_residual.ensures.0 in
     record {
-      stays = old_mark_stays c.args.page old new layout.side layout.generation c.requires.layout.live c.requires.page c.requires.not_blank left;
+      stays =
+          old_mark_stays c.args.page old new layout.side layout.generation c.requires.layout.live
+          c.requires.page c.requires.not_blank left;
       others = same_but c.args.page Erasing old new left;
       marks = mark_keeps_marks c.args.page Erasing old new left;
       marked = never_on_ok _ _ failed;
       sets = never_on_ok _ _ failed;
-      begun = always_on_err _ (mark_partly c.args.page Erasing old new formed h (λ set. (c.mark.ensures.present set).1) c.in_err-mark.ensures.cut);
+      begun =
+          always_on_err _
+          (mark_partly c.args.page Erasing old new formed h
+          (λ set. (c.mark.ensures.present set).1) c.in_err-mark.ensures.cut);
       no_step = λ set. absurd (not_ok (c.mark.ensures.present set).0 c.in_err-mark.was);
-      power = ends_in_step (marking c.args.page Erasing) _ failed (goes_on_same old) c.in_err-mark.ensures.cut;
+      power =
+          ends_in_step (marking c.args.page Erasing) _ failed (goes_on_same old)
+          c.in_err-mark.ensures.cut;
     }
 
 pub returns : goal.returns
@@ -32,16 +43,31 @@ returns g c =
     let new = g.F.Flash.device c.mark.new.flash in
     let layout = c.args.layout.now in
     let formed = g.met.F.Flash.formed c.args.flash.now in
-    let h : c.args.page < page_count old.size = page_in_device old (other layout.side) c.args.page c.requires.page.from (omega (arith, c.requires.page.from, c.requires.page.below)) in
-    let left = marks c.args.page Erasing old new c.mark.result formed h proper_old c.mark.ensures.present c.mark.ensures.on c.mark.ensures.done c.mark.ensures.cut in
-    let same = λ (set : is_marked old c.args.page Erasing ≡ true). (c.in_ok-mark.ensures.present set).1 in
+    let h : c.args.page < page_count old.size =
+    page_in_device old (other layout.side) c.args.page c.requires.page.from
+    (omega (arith, c.requires.page.from, c.requires.page.below)) in
+    let left =
+    marks c.args.page Erasing old new c.mark.result formed h proper_old c.mark.ensures.present
+    c.mark.ensures.on c.mark.ensures.done c.mark.ensures.cut in
+    let same =
+    λ (set : is_marked old c.args.page Erasing ≡ true). (c.in_ok-mark.ensures.present set).1 in
     record {
-      stays = old_mark_stays c.args.page old new layout.side layout.generation c.requires.layout.live c.requires.page c.requires.not_blank left;
+      stays =
+          old_mark_stays c.args.page old new layout.side layout.generation c.requires.layout.live
+          c.requires.page c.requires.not_blank left;
       others = same_but c.args.page Erasing old new left;
       marks = mark_keeps_marks c.args.page Erasing old new left;
-      marked = marked_after c.args.page Erasing old new formed h proper_old same c.in_ok-mark.ensures.on c.in_ok-mark.ensures.done;
+      marked =
+          marked_after c.args.page Erasing old new formed h proper_old same c.in_ok-mark.ensures.on
+          c.in_ok-mark.ensures.done;
       sets = sets_mark c.args.page Erasing old new formed h same c.in_ok-mark.ensures.done;
       begun = tt;
       no_step = λ set. (refl, same set);
-      power = record { ok = goes_on_mark c.args.page Erasing old same c.in_ok-mark.ensures.on c.in_ok-mark.ensures.done; cut = tt; off = tt };
+      power = record {
+        ok =
+            goes_on_mark c.args.page Erasing old same c.in_ok-mark.ensures.on
+            c.in_ok-mark.ensures.done;
+        cut = tt;
+        off = tt;
+      };
     }

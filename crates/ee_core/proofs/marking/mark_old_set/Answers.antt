@@ -18,15 +18,24 @@ pages-preserved g c =
     let generation = c.args.layout.now.generation in
     let mid = g.F.Flash.device c.pages.flash in
     let new = g.F.Flash.device c.if-not-is_blank.flash in
-    let first : c.first_page-first.result ≡ first_page old.size (other side) = c.first_page-first.ensures ∙ ap (first_page old.size) c.other.ensures in
-    let pages : c.pages-2.result ≡ old.size.pages = c.pages-2.ensures.value ∙ ap (λ (size : Size). size.pages) c.shape.ensures in
+    let first : c.first_page-first.result ≡ first_page old.size (other side) =
+    c.first_page-first.ensures ∙ ap (first_page old.size) c.other.ensures in
+    let pages : c.pages-2.result ≡ old.size.pages =
+    c.pages-2.ensures.value ∙ ap (λ (size : Size). size.pages) c.shape.ensures in
     let step : MarksPage mid new side generation c.pages.page = elim c.if-not-is_blank.branch [
       | then-not-is_blank+in_ok-mark_old w ↦
           let left = w.in_ok-mark_old.ensures in
-          rw w.flash-is (marks_one mid _ side generation c.pages.page (sym c.is_blank.ensures ∙ w.if-not-is_blank.true) left.stays left.marks left.others left.marked left.sets (λ set. (left.no_step set).1) left.power.ok)
-      | else-not-is_blank w ↦ rw w.flash-is (marks_none mid side generation c.pages.page c.pages.invariant.stays.keeps.live (sym c.is_blank.ensures ∙ w.if-not-is_blank.false))
+          rw w.flash-is
+          (marks_one mid _ side generation c.pages.page
+          (sym c.is_blank.ensures ∙ w.if-not-is_blank.true) left.stays left.marks
+          left.others left.marked left.sets (λ set. (left.no_step set).1) left.power.ok)
+      | else-not-is_blank w ↦ rw w.flash-is
+          (marks_none mid side generation c.pages.page c.pages.invariant.stays.keeps.live
+          (sym c.is_blank.ensures ∙ w.if-not-is_blank.false))
     ] in
-    marked_next side generation old _ _ first pages mid c.pages.page (g.met.F.Flash.formed c.pages.flash) c.pages.auto.page c.pages-test.true c.pages.invariant new (g.met.F.Flash.formed c.if-not-is_blank.flash) step
+    marked_next side generation old _ _ first pages mid c.pages.page
+    (g.met.F.Flash.formed c.pages.flash) c.pages.auto.page c.pages-test.true c.pages.invariant
+    new (g.met.F.Flash.formed c.if-not-is_blank.flash) step
 
 pub is_blank-requires : goal.is_blank-requires
 is_blank-requires g c = search (rules, page_of_device, page_reached)
@@ -42,12 +51,18 @@ returns-in_err-mark_old g c =
     let mid = g.F.Flash.device c.pages.flash in
     let new = g.F.Flash.device c.mark_old.new.flash in
     let failed = c.from_residual.ensures.0 in
-    let first : c.first_page-first.result ≡ first_page old.size (other side) = c.first_page-first.ensures ∙ ap (first_page old.size) c.other.ensures in
-    let pages : c.pages-2.result ≡ old.size.pages = c.pages-2.ensures.value ∙ ap (λ (size : Size). size.pages) c.shape.ensures in
+    let first : c.first_page-first.result ≡ first_page old.size (other side) =
+    c.first_page-first.ensures ∙ ap (first_page old.size) c.other.ensures in
+    let pages : c.pages-2.result ≡ old.size.pages =
+    c.pages-2.ensures.value ∙ ap (λ (size : Size). size.pages) c.shape.ensures in
     let formed = g.met.F.Flash.formed c.pages.flash in
-    let written : is_blank (page_at mid c.pages.page) ≡ false = sym c.is_blank.ensures ∙ c.if-not-is_blank.true in
+    let written : is_blank (page_at mid c.pages.page) ≡ false =
+    sym c.is_blank.ensures ∙ c.if-not-is_blank.true in
     let left = c.mark_old.ensures in
-    let cut = marked_cut side generation old _ _ first pages mid c.pages.page formed c.pages.auto.page c.pages-test.true c.pages.invariant new (g.met.F.Flash.formed c.mark_old.new.flash) written left.stays left.others c.in_err-mark_old.ensures.begun in
+    let cut =
+    marked_cut side generation old _ _ first pages mid c.pages.page formed c.pages.auto.page
+    c.pages-test.true c.pages.invariant new (g.met.F.Flash.formed c.mark_old.new.flash)
+    written left.stays left.others c.in_err-mark_old.ensures.begun in
     record {
       stays = stays_both old mid new side generation c.pages.invariant.stays left.stays;
       marks = λ page mark was. left.marks page mark (c.pages.invariant.marks page mark was);
@@ -57,8 +72,12 @@ returns-in_err-mark_old g c =
       begun = always_on_err c.from_residual.result cut.0;
       live_pages_stay = always_on_err c.from_residual.result cut.1;
       no_step = λ marked.
-          let now = was_done side generation old _ _ first pages mid c.pages.page formed c.pages.auto.page c.pages-test.true c.pages.invariant marked in
-          absurd (not_ok (left.no_step (marked_from mid c.pages.page written now)).0 c.in_err-mark_old.was);
+          let now =
+          was_done side generation old _ _ first pages mid c.pages.page formed c.pages.auto.page
+          c.pages-test.true c.pages.invariant marked in
+          absurd
+          (not_ok (left.no_step (marked_from mid c.pages.page written now)).0
+          c.in_err-mark_old.was);
       power = ends_later _ failed c.pages.invariant.power c.in_err-mark_old.ensures.power;
     }
 

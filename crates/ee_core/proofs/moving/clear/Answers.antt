@@ -31,36 +31,58 @@ pages-preserved g c =
     let mid = g.F.Flash.device c.pages.flash in
     let page = c.pages.page in
     let so_far = c.pages.invariant in
-    let first : c.first_page-first.result ≡ first_page old.size (other side) = c.first_page-first.ensures ∙ ap (first_page old.size) c.other.ensures in
-    let pages : c.pages-2.result ≡ old.size.pages = c.pages-2.ensures.value ∙ ap (λ (size : Size). size.pages) c.shape.ensures in
+    let first : c.first_page-first.result ≡ first_page old.size (other side) =
+    c.first_page-first.ensures ∙ ap (first_page old.size) c.other.ensures in
+    let pages : c.pages-2.result ≡ old.size.pages =
+    c.pages-2.ensures.value ∙ ap (λ (size : Size). size.pages) c.shape.ensures in
     let formed = g.met.F.Flash.formed c.args.flash.now in
     elim c.if-not-is_blank.branch [
       | then-not-is_blank+in_ok-erase_other w ↦
           let new = g.F.Flash.device w.erase_other.new.flash in
           let left = w.in_ok-erase_other.ensures.erases in
-          let wear = written_wears page (page_at mid page) mid new (sym c.is_blank.ensures ∙ w.if-not-is_blank.true) left.wear in
-          rw w.flash-is (cleared_next side old _ _ formed first pages mid page c.pages.auto.page c.pages-test.true so_far new left.keeps (record { others = left.others; blank = left.blank; wear = wear; power = w.in_ok-erase_other.ensures.power.ok }))
+          let wear =
+          written_wears page (page_at mid page) mid new
+          (sym c.is_blank.ensures ∙ w.if-not-is_blank.true) left.wear in
+          rw w.flash-is
+          (cleared_next side old _ _ formed first pages mid page c.pages.auto.page
+          c.pages-test.true so_far new left.keeps
+          (record {
+            others = left.others;
+            blank = left.blank;
+            wear = wear;
+            power = w.in_ok-erase_other.ensures.power.ok;
+          }))
       | else-not-is_blank w ↦
           let keeps = keeps_side_same mid side so_far.keeps.formed in
-          rw w.flash-is (cleared_next side old _ _ formed first pages mid page c.pages.auto.page c.pages-test.true so_far mid keeps (blank_already mid page (sym c.is_blank.ensures ∙ w.if-not-is_blank.false)))
+          rw w.flash-is
+          (cleared_next side old _ _ formed first pages mid page c.pages.auto.page
+          c.pages-test.true so_far mid keeps
+          (blank_already mid page (sym c.is_blank.ensures ∙ w.if-not-is_blank.false)))
     ]
 
 pub is_blank-requires : goal.is_blank-requires
 is_blank-requires g c =
     let old = g.F.Flash.device c.args.flash.now in
     let side = c.args.layout.now.side in
-    let first : c.first_page-first.result ≡ first_page old.size (other side) = c.first_page-first.ensures ∙ ap (first_page old.size) c.other.ensures in
-    let pages : c.pages-2.result ≡ old.size.pages = c.pages-2.ensures.value ∙ ap (λ (size : Size). size.pages) c.shape.ensures in
-    page_of_device _ (other side) c.pages.page (page_reached (other side) old (g.F.Flash.device c.pages.flash) _ _ c.pages.page first pages c.pages.invariant.keeps.same_size c.pages.auto.page c.pages-test.true)
+    let first : c.first_page-first.result ≡ first_page old.size (other side) =
+    c.first_page-first.ensures ∙ ap (first_page old.size) c.other.ensures in
+    let pages : c.pages-2.result ≡ old.size.pages =
+    c.pages-2.ensures.value ∙ ap (λ (size : Size). size.pages) c.shape.ensures in
+    page_of_device _ (other side) c.pages.page
+    (page_reached (other side) old (g.F.Flash.device c.pages.flash) _ _ c.pages.page first pages
+    c.pages.invariant.keeps.same_size c.pages.auto.page c.pages-test.true)
 
 pub erase_other-requires : goal.erase_other-requires
 erase_other-requires g c =
     let old = g.F.Flash.device c.args.flash.now in
     let side = c.args.layout.now.side in
-    let first : c.first_page-first.result ≡ first_page old.size (other side) = c.first_page-first.ensures ∙ ap (first_page old.size) c.other.ensures in
-    let pages : c.pages-2.result ≡ old.size.pages = c.pages-2.ensures.value ∙ ap (λ (size : Size). size.pages) c.shape.ensures in
+    let first : c.first_page-first.result ≡ first_page old.size (other side) =
+    c.first_page-first.ensures ∙ ap (first_page old.size) c.other.ensures in
+    let pages : c.pages-2.result ≡ old.size.pages =
+    c.pages-2.ensures.value ∙ ap (λ (size : Size). size.pages) c.shape.ensures in
     record {
-      page = page_reached (other side) old (g.F.Flash.device c.pages.flash) _ _ c.pages.page first pages c.pages.invariant.keeps.same_size c.pages.auto.page c.pages-test.true;
+      page = page_reached (other side) old (g.F.Flash.device c.pages.flash) _ _ c.pages.page first
+          pages c.pages.invariant.keeps.same_size c.pages.auto.page c.pages-test.true;
       not_blank = sym c.is_blank.ensures ∙ c.if-not-is_blank.true;
     }
 
@@ -70,10 +92,18 @@ returns g c =
     let side = c.args.layout.now.side in
     let new = g.F.Flash.device c.pages.flash in
     let left = c.pages.invariant in
-    let first : c.first_page-first.result ≡ first_page old.size (other side) = c.first_page-first.ensures ∙ ap (first_page old.size) c.other.ensures in
-    let pages : c.pages-2.result ≡ old.size.pages = c.pages-2.ensures.value ∙ ap (λ (size : Size). size.pages) c.shape.ensures in
-    let all = all_cleared side old _ _ (g.met.F.Flash.formed c.args.flash.now) first pages new c.pages.page (g.met.F.Flash.formed c.pages.flash) (omega (arith, c.pages-test.false, c.pages.auto.page-end)) left in
-    record { clears = record { keeps = left.keeps; blank = all.0; wear = all.1 }; power = record { ok = left.goes; cut = tt; off = tt } }
+    let first : c.first_page-first.result ≡ first_page old.size (other side) =
+    c.first_page-first.ensures ∙ ap (first_page old.size) c.other.ensures in
+    let pages : c.pages-2.result ≡ old.size.pages =
+    c.pages-2.ensures.value ∙ ap (λ (size : Size). size.pages) c.shape.ensures in
+    let all =
+    all_cleared side old _ _ (g.met.F.Flash.formed c.args.flash.now) first pages new
+    c.pages.page (g.met.F.Flash.formed c.pages.flash)
+    (omega (arith, c.pages-test.false, c.pages.auto.page-end)) left in
+    record {
+      clears = record { keeps = left.keeps; blank = all.0; wear = all.1 };
+      power = record { ok = left.goes; cut = tt; off = tt };
+    }
 
 pub returns-in_err-erase_other : goal.returns-in_err-erase_other
 returns-in_err-erase_other g c =
@@ -82,14 +112,22 @@ returns-in_err-erase_other g c =
     let mid = g.F.Flash.device c.pages.flash in
     let new = g.F.Flash.device c.erase_other.new.flash in
     let page = c.pages.page in
-    let first : c.first_page-first.result ≡ first_page old.size (other side) = c.first_page-first.ensures ∙ ap (first_page old.size) c.other.ensures in
-    let pages : c.pages-2.result ≡ old.size.pages = c.pages-2.ensures.value ∙ ap (λ (size : Size). size.pages) c.shape.ensures in
-    let written : is_blank (page_at mid page) ≡ false = sym c.is_blank.ensures ∙ c.if-not-is_blank.true in
+    let first : c.first_page-first.result ≡ first_page old.size (other side) =
+    c.first_page-first.ensures ∙ ap (first_page old.size) c.other.ensures in
+    let pages : c.pages-2.result ≡ old.size.pages =
+    c.pages-2.ensures.value ∙ ap (λ (size : Size). size.pages) c.shape.ensures in
+    let written : is_blank (page_at mid page) ≡ false =
+    sym c.is_blank.ensures ∙ c.if-not-is_blank.true in
     let cut = c.in_err-erase_other.ensures.erases in
     record {
       clears = rw (err_from_is_err_and c.from_residual.result c.from_residual.ensures.1).1 (record {
         keeps = keeps_side_both old mid new side c.pages.invariant.keeps cut.keeps;
-        partly = λ on. cleared_cut side old _ _ (g.met.F.Flash.formed c.args.flash.now) first pages mid page c.pages.auto.page c.pages-test.true c.pages.invariant new written (cut.wear (c.pages.invariant.goes.same_power ∙ on)) cut.others cut.partly;
+        partly =
+            λ on. cleared_cut side old _ _ (g.met.F.Flash.formed c.args.flash.now) first pages mid
+            page c.pages.auto.page c.pages-test.true c.pages.invariant new written
+            (cut.wear (c.pages.invariant.goes.same_power ∙ on)) cut.others cut.partly;
       });
-      power = ends_later _ c.from_residual.ensures.0 c.pages.invariant.goes c.in_err-erase_other.ensures.power;
+      power =
+          ends_later _ c.from_residual.ensures.0 c.pages.invariant.goes
+          c.in_err-erase_other.ensures.power;
     }

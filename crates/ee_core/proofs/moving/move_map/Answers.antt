@@ -11,14 +11,19 @@ use Rattle.ee_core.specs.Puts.{changes_of_puts}
 use Rattle.ee_core.proofs.moving.move_map.Goals as goal
 
 pub open_set-requires : goal.open_set-requires
-open_set-requires g c = record { generation = c.requires.generation; blank = c.in_ok-clear.ensures.clears.blank }
+open_set-requires g c =
+    record { generation = c.requires.generation; blank = c.in_ok-clear.ensures.clears.blank }
 
 pub commit-requires : goal.commit-requires
 commit-requires g c =
     let fills = c.in_ok-filled.ensures.fills in
-    let before = keeps_side_both (g.F.Flash.device c.args.flash.now) _ _ c.args.layout.now.side c.in_ok-clear.ensures.clears.keeps c.in_ok-open_set.ensures.opens.keeps in
+    let before =
+    keeps_side_both (g.F.Flash.device c.args.flash.now) _ _ c.args.layout.now.side
+    c.in_ok-clear.ensures.clears.keeps c.in_ok-open_set.ensures.opens.keeps in
     record {
-      older = λ committed e. c.requires.older committed (ap committed_generation (sym (fills.keeps.same_set ∙ before.same_set)) ∙ e);
+      older =
+          λ committed e. c.requires.older committed
+          (ap committed_generation (sym (fills.keeps.same_set ∙ before.same_set)) ∙ e);
       generation = c.requires.generation;
       filling = (_, fills.filling);
     }
@@ -27,9 +32,13 @@ pub returns-in_err-clear : goal.returns-in_err-clear
 returns-in_err-clear g c =
     let cut = c.in_err-clear.ensures in
     record {
-      moves = rw (err_from_is_err_and c.from_residual.result c.from_residual.ensures.1).1 (record { left = λ on. inl (cut.clears.partly on); cut = inl cut.clears.keeps });
+      moves =
+          rw (err_from_is_err_and c.from_residual.result c.from_residual.ensures.1).1
+          (record { left = λ on. inl (cut.clears.partly on); cut = inl cut.clears.keeps });
       behind = IfOk-from_err _ _ c.from_residual.ensures.0;
-      power = ends_later _ c.from_residual.ensures.0 (goes_on_same (g.F.Flash.device c.args.flash.now)) cut.power;
+      power =
+          ends_later _ c.from_residual.ensures.0 (goes_on_same (g.F.Flash.device c.args.flash.now))
+          cut.power;
     }
 
 pub returns-in_err-open_set : goal.returns-in_err-open_set
@@ -39,7 +48,9 @@ returns-in_err-open_set g c =
     let failed = c.from_residual-in_err-open_set in
     record {
       moves = rw (err_from_is_err_and failed.result failed.ensures.1).1
-          (open_cut (g.F.Flash.device c.args.flash.now) (g.F.Flash.device c.clear.new.flash) (g.F.Flash.device c.open_set.new.flash) c.args.layout.now clears.clears _ _ cut.opens);
+          (open_cut (g.F.Flash.device c.args.flash.now) (g.F.Flash.device c.clear.new.flash)
+          (g.F.Flash.device c.open_set.new.flash) c.args.layout.now clears.clears _ _
+          cut.opens);
       behind = IfOk-from_err _ _ failed.ensures.0;
       power = ends_later _ failed.ensures.0 clears.power.ok cut.power;
     }
@@ -56,9 +67,14 @@ returns-in_err-filled g c =
     let failed = c.from_residual-in_err-filled in
     record {
       moves = rw (err_from_is_err_and failed.result failed.ensures.1).1
-          (fill_cut old opened layout (is_opened old cleared opened layout clears.clears opens.opens) (g.F.Flash.device c.fill_set.new.flash) (changes_of_puts c.args.puts.now c.args.forgets) cut.fills);
+          (fill_cut old opened layout
+          (is_opened old cleared opened layout clears.clears opens.opens)
+          (g.F.Flash.device c.fill_set.new.flash)
+          (changes_of_puts c.args.puts.now c.args.forgets) cut.fills);
       behind = IfOk-from_err _ _ failed.ensures.0;
-      power = ends_later _ failed.ensures.0 (goes_on_both old cleared opened clears.power.ok opens.power.ok) cut.power;
+      power =
+          ends_later _ failed.ensures.0
+          (goes_on_both old cleared opened clears.power.ok opens.power.ok) cut.power;
     }
 
 pub returns-in_err-commit : goal.returns-in_err-commit
@@ -73,12 +89,19 @@ returns-in_err-commit g c =
     let fills = c.in_ok-filled.ensures in
     let cut = c.in_err-commit.ensures in
     let failed = c.from_residual-in_err-commit in
-    let holds = is_filled old opened layout (is_opened old cleared opened layout clears.clears opens.opens) filled (changes_of_puts c.args.puts.now c.args.forgets) _ fills.fills fills.each_once in
+    let holds =
+    is_filled old opened layout (is_opened old cleared opened layout clears.clears opens.opens)
+    filled (changes_of_puts c.args.puts.now c.args.forgets) _ fills.fills fills.each_once in
     record {
       moves = rw (err_from_is_err_and failed.result failed.ensures.1).1
-          (commit_cut old filled (g.F.Flash.device c.commit.new.flash) layout _ _ _ holds cut.commits);
+          (commit_cut old filled (g.F.Flash.device c.commit.new.flash) layout _ _ _ holds
+          cut.commits);
       behind = IfOk-from_err _ _ failed.ensures.0;
-      power = ends_later _ failed.ensures.0 (goes_on_both old opened filled (goes_on_both old cleared opened clears.power.ok opens.power.ok) fills.power.ok) cut.power;
+      power =
+          ends_later _ failed.ensures.0
+          (goes_on_both old opened filled
+          (goes_on_both old cleared opened clears.power.ok opens.power.ok) fills.power.ok)
+          cut.power;
     }
 
 pub returns : goal.returns
@@ -93,11 +116,21 @@ returns g c =
     let opens = c.in_ok-open_set.ensures in
     let fills = c.in_ok-filled.ensures in
     let done = c.in_ok-commit.ensures in
-    let holds = is_filled old opened layout (is_opened old cleared opened layout clears.clears opens.opens) filled (changes_of_puts c.args.puts.now c.args.forgets) _ fills.fills fills.each_once in
+    let holds =
+    is_filled old opened layout (is_opened old cleared opened layout clears.clears opens.opens)
+    filled (changes_of_puts c.args.puts.now c.args.forgets) _ fills.fills fills.each_once in
     record {
       moves = is_moved old filled new layout _ _ _ holds done.commits;
       behind = rw done.power.ok.same_size fills.behind;
-      power = record { ok = goes_on_both old filled new (goes_on_both old opened filled (goes_on_both old cleared opened clears.power.ok opens.power.ok) fills.power.ok) done.power.ok; cut = tt; off = tt };
+      power = record {
+        ok =
+            goes_on_both old filled new
+            (goes_on_both old opened filled
+            (goes_on_both old cleared opened clears.power.ok opens.power.ok)
+            fills.power.ok) done.power.ok;
+        cut = tt;
+        off = tt;
+      };
     }
 
 pub fill_set-requires-clause-opened : goal.fill_set-requires-clause-opened
@@ -107,7 +140,9 @@ pub fill_set-requires-clause-first : goal.fill_set-requires-clause-first
 fill_set-requires-clause-first g c = c.requires.first
 
 pub fill_set-requires-clause-over : goal.fill_set-requires-clause-over
-fill_set-requires-clause-over g c = rw (c.in_ok-open_set.ensures.opens.keeps.same_slots ∙ c.in_ok-clear.ensures.clears.keeps.same_slots) c.requires.over
+fill_set-requires-clause-over g c =
+    rw (c.in_ok-open_set.ensures.opens.keeps.same_slots
+    ∙ c.in_ok-clear.ensures.clears.keeps.same_slots) c.requires.over
 
 pub fill_set-requires-clause-apart : goal.fill_set-requires-clause-apart
 fill_set-requires-clause-apart g c = c.requires.apart
@@ -117,6 +152,8 @@ fill_set-requires-clause-fits g c =
     let old = g.F.Flash.device c.args.flash.now in
     let opened = g.F.Flash.device c.open_set.new.flash in
     let side = c.args.layout.now.side in
-    let before = keeps_side_both old (g.F.Flash.device c.clear.new.flash) opened side c.in_ok-clear.ensures.clears.keeps c.in_ok-open_set.ensures.opens.keeps in
+    let before =
+    keeps_side_both old (g.F.Flash.device c.clear.new.flash) opened side
+    c.in_ok-clear.ensures.clears.keeps c.in_ok-open_set.ensures.opens.keeps in
     let same : map_in side opened ≡ map_in side old = fun_ext (side_map old opened side before) in
     rw (same, before.same_size) c.requires.fits

@@ -21,16 +21,22 @@ returns-in_err-mark g c =
     let layout = c.args.layout.now in
     let side = other_of layout.side in
     let formed = g.met.F.Flash.formed c.args.flash.now in
-    let page : c.first_page-first.result ≡ first_page old.size side = c.first_page-first.ensures ∙ ap (first_page old.size) c.other.ensures in
+    let page : c.first_page-first.result ≡ first_page old.size side =
+    c.first_page-first.ensures ∙ ap (first_page old.size) c.other.ensures in
     let cut = c.in_err-mark.ensures.cut in
-    let keeps = opening_keeps old new layout.side layout.generation formed c.requires.generation c.requires.blank _ page (inr cut) in
+    let keeps =
+    opening_keeps old new layout.side layout.generation formed c.requires.generation
+    c.requires.blank _ page (inr cut) in
     let sets : SetsPartly (first_page old.size side) (Receive (layout.generation + 1)) old new =
     mark_partly_at _ (first_page old.size side) (Receive (layout.generation + 1)) old new formed
-    (page_of_device old.size side (first_page old.size side) (first_in_set side old formed)) page (λ set. (c.mark.ensures.present set).1) cut in
+    (page_of_device old.size side (first_page old.size side) (first_in_set side old formed)) page
+    (λ set. (c.mark.ensures.present set).1) cut in
     record {
       opens = rw (err_from_is_err_and c.from_residual.result c.from_residual.ensures.1).1 (record {
         keeps = keeps;
-        begun = λ words. open_partly side old new (layout.generation + 1) words formed keeps.same_size (blank_drawn side old formed c.requires.blank) sets;
+        begun =
+            λ words. open_partly side old new (layout.generation + 1) words formed keeps.same_size
+            (blank_drawn side old formed c.requires.blank) sets;
         wear = program_keeps_wear _ _ _ old new (inr cut);
       });
       power = ends_in_step _ _ c.from_residual.ensures.0 (goes_on_same old) cut;
@@ -43,19 +49,31 @@ returns g c =
     let layout = c.args.layout.now in
     let side = other_of layout.side in
     let formed = g.met.F.Flash.formed c.args.flash.now in
-    let page : c.first_page-first.result ≡ first_page old.size side = c.first_page-first.ensures ∙ ap (first_page old.size) c.other.ensures in
-    let unmarked = opening_unmarked old old layout.side layout.generation formed c.requires.generation c.requires.blank _ page in
+    let page : c.first_page-first.result ≡ first_page old.size side =
+    c.first_page-first.ensures ∙ ap (first_page old.size) c.other.ensures in
+    let unmarked =
+    opening_unmarked old old layout.side layout.generation formed c.requires.generation
+    c.requires.blank _ page in
     let on = c.in_ok-mark.ensures.on unmarked in
     let done = c.in_ok-mark.ensures.done unmarked in
-    let keeps = opening_keeps old new layout.side layout.generation formed c.requires.generation c.requires.blank _ page (inl (record { was_on = on; done = done })) in
-    let opened = opening_done old new layout.side layout.generation formed c.requires.generation c.requires.blank _ page on done in
-    let sets = sets_mark_at _ (first_page old.size side) (Receive (layout.generation + 1)) old new formed
-    (page_of_device old.size side (first_page old.size side) (first_in_set side old formed)) page (λ set. (c.in_ok-mark.ensures.present set).1) c.in_ok-mark.ensures.done in
+    let keeps =
+    opening_keeps old new layout.side layout.generation formed c.requires.generation
+    c.requires.blank _ page (inl (record { was_on = on; done = done })) in
+    let opened =
+    opening_done old new layout.side layout.generation formed c.requires.generation
+    c.requires.blank _ page on done in
+    let sets =
+    sets_mark_at _ (first_page old.size side) (Receive (layout.generation + 1)) old new formed
+    (page_of_device old.size side (first_page old.size side) (first_in_set side old formed)) page
+    (λ set. (c.in_ok-mark.ensures.present set).1) c.in_ok-mark.ensures.done in
     record {
       opens = record {
         keeps = keeps;
-        opened = record { generation = c.requires.generation; filling = opened.0; nothing = opened.1 };
-        holds = opens_blank side old new (layout.generation + 1) formed keeps.same_size c.requires.blank sets;
+        opened =
+            record { generation = c.requires.generation; filling = opened.0; nothing = opened.1 };
+        holds =
+            opens_blank side old new (layout.generation + 1) formed keeps.same_size c.requires.blank
+            sets;
         wear = ap (λ device. device.wear) done;
       };
       power = record { ok = goes_on_programmed _ _ _ old on done; cut = tt; off = tt };

@@ -9,14 +9,18 @@ pub finish-requires : goal.finish-requires
 finish-requires g c =
     let mid = g.F.Flash.device c.move_map.new.flash in
     let moves = c.in_ok-filled.ensures.moves in
-    layout_moved (g.F.Flash.device c.args.flash.now) mid c.args.layout.now (changes_of_puts c.args.puts.now c.args.forgets) _ c.in_ok-filled.filled moves.moved c.other.ensures moves.each_once c.in_ok-filled.ensures.behind
+    layout_moved (g.F.Flash.device c.args.flash.now) mid c.args.layout.now
+    (changes_of_puts c.args.puts.now c.args.forgets) _ c.in_ok-filled.filled moves.moved
+    c.other.ensures moves.each_once c.in_ok-filled.ensures.behind
 
 pub returns-in_err-filled : goal.returns-in_err-filled
 returns-in_err-filled g c =
     let old = g.F.Flash.device c.args.flash.now in
     let cut = c.in_err-filled.ensures in
     record {
-      moves = rw (err_from_is_err_and c.from_residual.result c.from_residual.ensures.1).1 (map_cut old (g.F.Flash.device c.move_map.new.flash) c.args.layout.now _ _ cut.moves);
+      moves =
+          rw (err_from_is_err_and c.from_residual.result c.from_residual.ensures.1).1
+          (map_cut old (g.F.Flash.device c.move_map.new.flash) c.args.layout.now _ _ cut.moves);
       power = ends_later _ c.from_residual.ensures.0 (goes_on_same old) cut.power;
     }
 
@@ -26,8 +30,10 @@ returns-in_err-finish g c =
     let cut = c.in_err-finish.ensures in
     record {
       moves = rw (err_from_is_err_and failed.result failed.ensures.1).1
-          (mark_cut (g.F.Flash.device c.args.flash.now) (g.F.Flash.device c.move_map.new.flash) (g.F.Flash.device c.finish.new.flash) c.args.layout.now c.other.result _ _ _
-          (g.met.F.Flash.formed c.args.flash.now) c.in_ok-filled.ensures.moves c.other.ensures cut.stays cut.begun);
+          (mark_cut (g.F.Flash.device c.args.flash.now) (g.F.Flash.device c.move_map.new.flash)
+          (g.F.Flash.device c.finish.new.flash) c.args.layout.now c.other.result _ _ _
+          (g.met.F.Flash.formed c.args.flash.now) c.in_ok-filled.ensures.moves c.other.ensures
+          cut.stays cut.begun);
       power = ends_later _ failed.ensures.0 c.in_ok-filled.ensures.power.ok cut.power;
     }
 
@@ -39,8 +45,13 @@ returns g c =
     let layout = c.args.layout.now in
     let map = c.in_ok-filled.ensures in
     let done = c.in_ok-finish.ensures in
-    let found = layout_moved old mid layout (changes_of_puts c.args.puts.now c.args.forgets) _ c.in_ok-filled.filled map.moves.moved c.other.ensures map.moves.each_once map.behind in
+    let found =
+    layout_moved old mid layout (changes_of_puts c.args.puts.now c.args.forgets) _
+    c.in_ok-filled.filled map.moves.moved c.other.ensures map.moves.each_once map.behind in
     record {
-      moves = set_moved old mid new layout c.other.result _ _ _ (g.met.F.Flash.formed c.args.flash.now) map.moves c.other.ensures done.stays _ found done.shows done.finished;
-      power = record { ok = goes_on_both old mid new map.power.ok done.power.ok; cut = tt; off = tt };
+      moves =
+          set_moved old mid new layout c.other.result _ _ _ (g.met.F.Flash.formed c.args.flash.now)
+          map.moves c.other.ensures done.stays _ found done.shows done.finished;
+      power =
+          record { ok = goes_on_both old mid new map.power.ok done.power.ok; cut = tt; off = tt };
     }

@@ -11,14 +11,19 @@ pub finish-requires : goal.finish-requires
 finish-requires g c =
     let mid = g.F.Flash.device c.move_nothing.new.flash in
     let moves = c.in_ok-move_nothing.ensures.moves in
-    layout_emptied (g.F.Flash.device c.args.flash.now) mid c.args.layout.now each_forgotten _ _ moves.moved c.other.ensures moves.each_once (c.first_page.ensures ∙ ap (first_page mid.size) c.other-2.ensures)
+    layout_emptied (g.F.Flash.device c.args.flash.now) mid c.args.layout.now each_forgotten _ _
+    moves.moved c.other.ensures moves.each_once
+    (c.first_page.ensures ∙ ap (first_page mid.size) c.other-2.ensures)
 
 pub returns-in_err-move_nothing : goal.returns-in_err-move_nothing
 returns-in_err-move_nothing g c =
     let old = g.F.Flash.device c.args.flash.now in
     let cut = c.in_err-move_nothing.ensures in
     record {
-      moves = rw (err_from_is_err_and c.from_residual.result c.from_residual.ensures.1).1 (map_cut old (g.F.Flash.device c.move_nothing.new.flash) c.args.layout.now _ _ cut.moves);
+      moves =
+          rw (err_from_is_err_and c.from_residual.result c.from_residual.ensures.1).1
+          (map_cut old (g.F.Flash.device c.move_nothing.new.flash) c.args.layout.now _ _
+          cut.moves);
       power = ends_later _ c.from_residual.ensures.0 (goes_on_same old) cut.power;
     }
 
@@ -28,8 +33,10 @@ returns-in_err-finish g c =
     let cut = c.in_err-finish.ensures in
     record {
       moves = rw (err_from_is_err_and failed.result failed.ensures.1).1
-          (mark_cut (g.F.Flash.device c.args.flash.now) (g.F.Flash.device c.move_nothing.new.flash) (g.F.Flash.device c.finish.new.flash) c.args.layout.now c.other.result _ _ _
-          (g.met.F.Flash.formed c.args.flash.now) c.in_ok-move_nothing.ensures.moves c.other.ensures cut.stays cut.begun);
+          (mark_cut (g.F.Flash.device c.args.flash.now) (g.F.Flash.device c.move_nothing.new.flash)
+          (g.F.Flash.device c.finish.new.flash) c.args.layout.now c.other.result _ _ _
+          (g.met.F.Flash.formed c.args.flash.now) c.in_ok-move_nothing.ensures.moves c.other.ensures
+          cut.stays cut.begun);
       power = ends_later _ failed.ensures.0 c.in_ok-move_nothing.ensures.power.ok cut.power;
     }
 
@@ -41,8 +48,14 @@ returns g c =
     let layout = c.args.layout.now in
     let map = c.in_ok-move_nothing.ensures in
     let done = c.in_ok-finish.ensures in
-    let found = layout_emptied old mid layout each_forgotten _ _ map.moves.moved c.other.ensures map.moves.each_once (c.first_page.ensures ∙ ap (first_page mid.size) c.other-2.ensures) in
+    let found =
+    layout_emptied old mid layout each_forgotten _ _ map.moves.moved c.other.ensures
+    map.moves.each_once
+    (c.first_page.ensures ∙ ap (first_page mid.size) c.other-2.ensures) in
     record {
-      moves = set_moved old mid new layout c.other.result _ _ _ (g.met.F.Flash.formed c.args.flash.now) map.moves c.other.ensures done.stays _ found done.shows done.finished;
-      power = record { ok = goes_on_both old mid new map.power.ok done.power.ok; cut = tt; off = tt };
+      moves =
+          set_moved old mid new layout c.other.result _ _ _ (g.met.F.Flash.formed c.args.flash.now)
+          map.moves c.other.ensures done.stays _ found done.shows done.finished;
+      power =
+          record { ok = goes_on_both old mid new map.power.ok done.power.ok; cut = tt; off = tt };
     }

@@ -6,7 +6,10 @@ returns-in-Ok-clause-formatted g c = rw c.of.ensures c.in-Ok.ensures.writes.form
 pub returns-in-Err : goal.returns-in-Err
 returns-in-Err g c = record {
   formatted = tt;
-  cut = record { cut = c.in-Err.ensures.power.cut c.requires; words = c.in-Err.ensures.writes.words c.requires };
+  cut = record {
+    cut = c.in-Err.ensures.power.cut c.requires;
+    words = c.in-Err.ensures.writes.words c.requires;
+  };
 }
 
 pub of-requires-clause-store : goal.of-requires-clause-store

@@ -7,15 +7,19 @@ pub returns-in-Ok-finish-clause-opened : goal.returns-in-Ok-finish-clause-opened
 returns-in-Ok-finish-clause-opened g c =
     let old = g.F.Flash.device c.args.flash.now in
     let new = g.F.Flash.device c.finish.new.flash in
-    search (opens c.in-Ok.layout old new c.in-Ok.ensures.layout c.in-Ok-finish.ensures.stays c.in-Ok-finish.ensures.finished c.in-Ok-finish.ensures.shows
+    search (opens c.in-Ok.layout old new c.in-Ok.ensures.layout c.in-Ok-finish.ensures.stays
+    c.in-Ok-finish.ensures.finished c.in-Ok-finish.ensures.shows
     (λ marked. (c.finish.ensures.no_step marked).1) c.in-Ok-finish.ensures.power.ok)
 
 pub returns-in-Ok-finish-clause-layout : goal.returns-in-Ok-finish-clause-layout
-returns-in-Ok-finish-clause-layout g c = search (layout_stays c.in-Ok.layout (g.F.Flash.device c.args.flash.now) (g.F.Flash.device c.finish.new.flash) c.in-Ok.ensures.layout c.finish.ensures.stays)
+returns-in-Ok-finish-clause-layout g c = search (layout_stays c.in-Ok.layout
+    (g.F.Flash.device c.args.flash.now) (g.F.Flash.device c.finish.new.flash) c.in-Ok.ensures.layout
+    c.finish.ensures.stays)
 
 pub returns-in-Err-finish-clause-failed : goal.returns-in-Err-finish-clause-failed
 returns-in-Err-finish-clause-failed g c =
     let old = g.F.Flash.device c.args.flash.now in
     let new = g.F.Flash.device c.finish.new.flash in
     search (opening_cut c.in-Ok.layout old new c.in-Ok.ensures.layout c.in-Err-finish.ensures.stays
-    (λ marked. not_ok (c.finish.ensures.no_step marked).0 c.in-Err-finish.is) c.in-Err-finish.ensures.begun (c.in-Err-finish.ensures.power.cut c.requires))
+    (λ marked. not_ok (c.finish.ensures.no_step marked).0 c.in-Err-finish.is)
+    c.in-Err-finish.ensures.begun (c.in-Err-finish.ensures.power.cut c.requires))

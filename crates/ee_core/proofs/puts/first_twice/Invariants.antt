@@ -2,4 +2,7 @@ use Rattle.ee_core.proofs.Base.{◌≡◌, ◌<◌, ℕ, false, take, All, IsAdd
 use Rattle.ee_core.proofs.puts.first_twice.Given as goal
 
 abbrev pub invariant-entries : goal.invariant-entries
-invariant-entries l = record { none : (lower : ℕ) → lower < l.place → is_twice l.puts lower ≡ false; proper : All (λ put. IsAddress put.address) (take l.place l.puts) }
+invariant-entries l = record {
+  none : (lower : ℕ) → lower < l.place → is_twice l.puts lower ≡ false;
+  proper : All (λ put. IsAddress put.address) (take l.place l.puts);
+}

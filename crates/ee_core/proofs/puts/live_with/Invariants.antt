@@ -2,4 +2,8 @@ use Rattle.ee_core.proofs.Base.{◌≡◌, take, changed_by, live_in, map_in, pu
 use Rattle.ee_core.proofs.puts.live_with.Given as goal
 
 abbrev pub invariant-entries : goal.invariant-entries
-invariant-entries g l = l.count ≡ live_in (changed_by (puts_of (take l.put-index l.puts)) (map_in l.layout.side (g.F.Flash.device l.flash)))
+invariant-entries g l =
+    l.count
+    ≡ live_in
+    (changed_by (puts_of (take l.put-index l.puts))
+    (map_in l.layout.side (g.F.Flash.device l.flash)))

@@ -17,10 +17,15 @@ returns-in-Ok-clause-rescued g c =
     let ended = c.in-Ok.ensures in
     let done = ended.moves in
     let has = done.moved in
-    subst (λ (store : Device). IsRescued old record { bad_words = bad_words old; live = c.in-Ok.layout.fill } store) (sym c.of.ensures) (record {
+    subst
+    (λ (store : Device).
+    IsRescued old record { bad_words = bad_words old; live = c.in-Ok.layout.fill } store)
+    (sym c.of.ensures) (record {
       side = side;
       generation = generation;
-      rescues = rescues old side generation is c.named_generation-generation.ensures.generation c.named_generation-generation.ensures.proper c.if-generation.false;
+      rescues =
+          rescues old side generation is c.named_generation-generation.ensures.generation
+          c.named_generation-generation.ensures.proper c.if-generation.false;
       store = marked_store new (other side) (generation + 1) has.live done.marked;
       goes_on = ended.power.ok;
       state_is = rescued_state old new side generation has;
@@ -30,5 +35,6 @@ returns-in-Ok-clause-rescued g c =
       old_pages = done.old_pages;
       wear = done.wear;
       bad_is = refl;
-      values_are = values_moved old new side generation has is c.in-Ok.layout done.layout_is done.other_set;
+      values_are =
+          values_moved old new side generation has is c.in-Ok.layout done.layout_is done.other_set;
     })

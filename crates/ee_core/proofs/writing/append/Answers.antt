@@ -23,20 +23,39 @@ returns g c =
     let grown = takes.one_more ∙ ap (λ n. n + 1) (keeps.same_fill ∙ sym c.requires.layout.fill) in
     record {
       writes = record {
-        takes = taken_after old mid new layout.side layout.generation _ _ keeps (ap (map_after (map_change c.args.change)) (fun_ext keeps.same_map)) takes;
+        takes =
+            taken_after old mid new layout.side layout.generation _ _ keeps
+            (ap (map_after (map_change c.args.change)) (fun_ext keeps.same_map)) takes;
         spells = pushed.spells;
-        drawn = appends_word layout.side old mid new layout.fill (number_written c.args.change) keeps.same_size takes.same_size opened.drawn pushed.puts;
-        layout_is = record { live = takes.live; fill = sym grown; current = rw takes.same_size (simp unary_clauses (rw (sym keeps.same_size) at c.free_slot-page.ensures.page)) };
+        drawn =
+            appends_word layout.side old mid new layout.fill (number_written c.args.change)
+            keeps.same_size takes.same_size opened.drawn pushed.puts;
+        layout_is = record {
+          live = takes.live;
+          fill = sym grown;
+          current =
+              rw takes.same_size
+              (simp unary_clauses
+              (rw (sym keeps.same_size) at c.free_slot-page.ensures.page));
+        };
         same_set = refl;
-        marked = appended_marked layout.side layout.fill old mid new c.requires.layout.live.formed keeps.same_size takes.same_size grown opened.ready pushed.marks opened.other pushed.other c.requires.marked;
+        marked =
+            appended_marked layout.side layout.fill old mid new c.requires.layout.live.formed
+            keeps.same_size takes.same_size grown opened.ready pushed.marks opened.other
+            pushed.other c.requires.marked;
         other = pushed.other ∙ opened.other;
         wear = pushed.wear ∙ opened.stays.same_wear;
       };
-      power = record { ok = goes_on_both old mid new opened.power.ok push.power.ok; cut = tt; off = tt };
+      power = record {
+        ok = goes_on_both old mid new opened.power.ok push.power.ok;
+        cut = tt;
+        off = tt;
+      };
     }
 
 pub returns-in_err-open_page : goal.returns-in_err-open_page
-returns-in_err-open_page g c = search (rules, err_from_is_err_and, cut_marks, ends_later, goes_on_same)
+returns-in_err-open_page g c =
+    search (rules, err_from_is_err_and, cut_marks, ends_later, goes_on_same)
 
 pub returns-in_err-push : goal.returns-in_err-push
 returns-in_err-push g c =
@@ -51,9 +70,14 @@ returns-in_err-push g c =
     let failed = c.from_residual-in_err-push in
     record {
       writes = rw (err_from_is_err_and failed.result failed.ensures.1).1 (record {
-        cut = cut_after old mid new layout.side layout.generation (map_change c.args.change) keeps (fun_ext keeps.same_map) pushed.cut;
-        begun = cut_word layout.side old mid new layout.fill (number_written c.args.change) keeps.same_size (cut_size _ pushed.cut)
-            (page_in_range old layout.fill c.requires.free) (place_in_range old layout.fill c.requires.layout.live.formed) opened.drawn pushed.begun;
+        cut = cut_after old mid new layout.side layout.generation (map_change c.args.change) keeps
+            (fun_ext keeps.same_map) pushed.cut;
+        begun =
+            cut_word layout.side old mid new layout.fill (number_written c.args.change)
+            keeps.same_size (cut_size _ pushed.cut)
+            (page_in_range old layout.fill c.requires.free)
+            (place_in_range old layout.fill c.requires.layout.live.formed) opened.drawn
+            pushed.begun;
         other = pushed.other ∙ opened.other;
         wear = pushed.wear ∙ opened.stays.same_wear;
       });
@@ -64,4 +88,9 @@ pub push-requires : goal.push-requires
 push-requires g c = search (rules, layout_stays)
 
 pub overflow_add-layout : goal.overflow_add-layout
-overflow_add-layout g c = omega (arith, c.requires.free, few_slots (g.F.Flash.device c.args.flash.now) c.requires.layout.live.formed)
+overflow_add-layout g c =
+    omega (
+      arith,
+      c.requires.free,
+      few_slots (g.F.Flash.device c.args.flash.now) c.requires.layout.live.formed,
+    )

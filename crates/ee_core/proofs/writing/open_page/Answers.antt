@@ -10,33 +10,48 @@ use Rattle.ee_core.proofs.Making.{always_on_err}
 use Rattle.ee_core.proofs.writing.open_page.Goals as goal
 
 pub returns-then-page-layout : goal.returns-then-page-layout
-returns-then-page-layout g c = search (rules, stays_in, ready_already, same_stays, marks_drawn, goes_on_same)
+returns-then-page-layout g c =
+    search (rules, stays_in, ready_already, same_stays, marks_drawn, goes_on_same)
 
 pub mark_live-requires-2-clause-behind : goal.mark_live-requires-2-clause-behind
 mark_live-requires-2-clause-behind g c =
-    let turned = turns (g.F.Flash.device c.args.flash.now) c.args.layout.now c.requires.layout c.requires.free (g.F.Flash.device c.args.flash.now).size.words refl c.args.page c.requires.page c.if-page-layout.false in
-    next_behind (g.F.Flash.device c.args.flash.now) c.args.layout.now c.requires.layout c.requires.free _ refl turned.0 turned.1 _ c.mark_live.ensures.stays
+    let turned =
+    turns (g.F.Flash.device c.args.flash.now) c.args.layout.now c.requires.layout
+    c.requires.free (g.F.Flash.device c.args.flash.now).size.words refl c.args.page
+    c.requires.page c.if-page-layout.false in
+    next_behind (g.F.Flash.device c.args.flash.now) c.args.layout.now c.requires.layout
+    c.requires.free _ refl turned.0 turned.1 _ c.mark_live.ensures.stays
 
 pub returns-in_err-mark_live : goal.returns-in_err-mark_live
 returns-in_err-mark_live g c =
     let old = g.F.Flash.device c.args.flash.now in
     let new = g.F.Flash.device c.mark_live.new.flash in
     let layout = c.args.layout.now in
-    let turned = turns (g.F.Flash.device c.args.flash.now) c.args.layout.now c.requires.layout c.requires.free (g.F.Flash.device c.args.flash.now).size.words refl c.args.page c.requires.page c.if-page-layout.false in
+    let turned =
+    turns (g.F.Flash.device c.args.flash.now) c.args.layout.now c.requires.layout
+    c.requires.free (g.F.Flash.device c.args.flash.now).size.words refl c.args.page
+    c.requires.page c.if-page-layout.false in
     let k = page_of_slot old.size (layout.fill - 1) in
-    let next : page_of_slot old.size layout.fill ≡ k + 1 = further old layout c.requires.layout c.requires.free _ refl turned.0 turned.1 in
+    let next : page_of_slot old.size layout.fill ≡ k + 1 =
+    further old layout c.requires.layout c.requires.free _ refl turned.0 turned.1 in
     let last = last_is old layout c.requires.layout c.requires.free _ refl in
     let here : layout.current ≡ first_page old.size layout.side + k = c.requires.layout.current in
     let first = c.mark_live.ensures in
     let failed = c.from_residual.ensures.0 in
     record {
       stays = first.stays;
-      other = first_other old layout c.requires.layout c.requires.free _ refl _ first.stays first.others;
+      other =
+          first_other old layout c.requires.layout c.requires.free _ refl _ first.stays
+          first.others;
       ready = never_on_ok _ _ failed;
       drawn = never_on_ok _ _ failed;
       begun = always_on_err _
-          (subst (λ n. IsDrawnPartly layout.side new (picture_of layout.side old) (marked_to n (picture_of layout.side old))) (sym next)
-          (opens_partly layout.side old new k c.requires.layout.live.formed first.stays.keeps.same_size (omega (arith, next, page_in_range old layout.fill c.requires.free))
+          (subst
+          (λ n. IsDrawnPartly layout.side new (picture_of layout.side old)
+          (marked_to n (picture_of layout.side old))) (sym next)
+          (opens_partly layout.side old new k c.requires.layout.live.formed
+          first.stays.keeps.same_size
+          (omega (arith, next, page_in_range old layout.fill c.requires.free))
           (λ page below. c.requires.marked.live.valid page (subst (λ n. page < n) last below))
           (subst (λ n. SetsPartly n Valid old new) here c.in_err-mark_live.ensures.begun)));
       power = ends_later _ failed (goes_on_same old) c.in_err-mark_live.ensures.power;
@@ -48,29 +63,43 @@ returns-in_err-mark_live-2 g c =
     let mid = g.F.Flash.device c.mark_live.new.flash in
     let new = g.F.Flash.device c.mark_live-2.new.flash in
     let layout = c.args.layout.now in
-    let turned = turns (g.F.Flash.device c.args.flash.now) c.args.layout.now c.requires.layout c.requires.free (g.F.Flash.device c.args.flash.now).size.words refl c.args.page c.requires.page c.if-page-layout.false in
+    let turned =
+    turns (g.F.Flash.device c.args.flash.now) c.args.layout.now c.requires.layout
+    c.requires.free (g.F.Flash.device c.args.flash.now).size.words refl c.args.page
+    c.requires.page c.if-page-layout.false in
     let k = page_of_slot old.size (layout.fill - 1) in
-    let next : page_of_slot old.size layout.fill ≡ k + 1 = further old layout c.requires.layout c.requires.free _ refl turned.0 turned.1 in
+    let next : page_of_slot old.size layout.fill ≡ k + 1 =
+    further old layout c.requires.layout c.requires.free _ refl turned.0 turned.1 in
     let last = last_is old layout c.requires.layout c.requires.free _ refl in
     let here : layout.current ≡ first_page old.size layout.side + k = c.requires.layout.current in
-    let there : layout.current + 1 ≡ first_page old.size layout.side + (k + 1) = omega (arith, here) in
+    let there : layout.current + 1 ≡ first_page old.size layout.side + (k + 1) =
+    omega (arith, here) in
     let first = c.mark_live.ensures in
     let second = c.mark_live-2.ensures in
-    let same = first_other old layout c.requires.layout c.requires.free _ refl _ first.stays first.others in
+    let same =
+    first_other old layout c.requires.layout c.requires.free _ refl _ first.stays
+    first.others in
     let failed = c.from_residual-in_err-mark_live-2.ensures.0 in
     record {
       stays = stays_both _ _ _ _ _ first.stays second.stays;
-      other = second_other old layout c.requires.layout c.requires.free _ refl turned.0 turned.1 _ _ second.stays.keeps.live.formed first.stays second.stays.keeps.same_size same second.others;
+      other =
+          second_other old layout c.requires.layout c.requires.free _ refl turned.0 turned.1 _ _
+          second.stays.keeps.live.formed first.stays second.stays.keeps.same_size same
+          second.others;
       ready = never_on_ok _ _ failed;
       drawn = never_on_ok _ _ failed;
       begun = always_on_err _
-          (subst (λ n. IsDrawnPartly layout.side new (picture_of layout.side old) (marked_to n (picture_of layout.side old))) (sym next)
-          (opens_partly_then layout.side old mid new k c.requires.layout.live.formed first.stays.keeps.live.formed first.stays.keeps.same_size second.stays.keeps.same_size
+          (subst
+          (λ n. IsDrawnPartly layout.side new (picture_of layout.side old)
+          (marked_to n (picture_of layout.side old))) (sym next)
+          (opens_partly_then layout.side old mid new k c.requires.layout.live.formed
+          first.stays.keeps.live.formed first.stays.keeps.same_size second.stays.keeps.same_size
           (omega (arith, next, page_in_range old layout.fill c.requires.free))
           (λ page below. c.requires.marked.live.valid page (subst (λ n. page < n) last below))
           (subst (λ n. SetsMark n Valid old mid) here c.in_ok-mark_live.ensures.sets)
           (subst (λ n. SetsPartly n Active mid new) there c.in_err-mark_live-2.ensures.begun)));
-      power = ends_later _ failed c.in_ok-mark_live.ensures.power.ok c.in_err-mark_live-2.ensures.power;
+      power =
+          ends_later _ failed c.in_ok-mark_live.ensures.power.ok c.in_err-mark_live-2.ensures.power;
     }
 
 pub returns : goal.returns
@@ -79,38 +108,69 @@ returns g c =
     let mid = g.F.Flash.device c.mark_live.new.flash in
     let new = g.F.Flash.device c.mark_live-2.new.flash in
     let layout = c.args.layout.now in
-    let turned = turns (g.F.Flash.device c.args.flash.now) c.args.layout.now c.requires.layout c.requires.free (g.F.Flash.device c.args.flash.now).size.words refl c.args.page c.requires.page c.if-page-layout.false in
+    let turned =
+    turns (g.F.Flash.device c.args.flash.now) c.args.layout.now c.requires.layout
+    c.requires.free (g.F.Flash.device c.args.flash.now).size.words refl c.args.page
+    c.requires.page c.if-page-layout.false in
     let k = page_of_slot old.size (layout.fill - 1) in
-    let next : page_of_slot old.size layout.fill ≡ k + 1 = further old layout c.requires.layout c.requires.free _ refl turned.0 turned.1 in
+    let next : page_of_slot old.size layout.fill ≡ k + 1 =
+    further old layout c.requires.layout c.requires.free _ refl turned.0 turned.1 in
     let last = last_is old layout c.requires.layout c.requires.free _ refl in
     let here : layout.current ≡ first_page old.size layout.side + k = c.requires.layout.current in
-    let there : layout.current + 1 ≡ first_page old.size layout.side + (k + 1) = omega (arith, here) in
+    let there : layout.current + 1 ≡ first_page old.size layout.side + (k + 1) =
+    omega (arith, here) in
     let first = c.mark_live.ensures in
     let second = c.mark_live-2.ensures in
-    let same = first_other old layout c.requires.layout c.requires.free _ refl _ first.stays first.others in
+    let same =
+    first_other old layout c.requires.layout c.requires.free _ refl _ first.stays
+    first.others in
     record {
       stays = stays_both _ _ _ _ _ first.stays second.stays;
-      other = second_other old layout c.requires.layout c.requires.free _ refl turned.0 turned.1 _ _ second.stays.keeps.live.formed first.stays second.stays.keeps.same_size same second.others;
-      ready = ready_now old layout c.requires.layout c.requires.free _ refl turned.0 turned.1 mid new (second.stays.keeps.same_size ∙ first.stays.keeps.same_size) c.requires.marked.live
-          first.marks second.marks c.in_ok-mark_live.ensures.marked c.in_ok-mark_live-2.ensures.marked;
-      drawn = subst (λ n. IsDrawn layout.side new (marked_to n (picture_of layout.side old))) (sym next)
-          (opens_next layout.side old mid new k c.requires.layout.live.formed first.stays.keeps.live.formed first.stays.keeps.same_size second.stays.keeps.same_size
+      other =
+          second_other old layout c.requires.layout c.requires.free _ refl turned.0 turned.1 _ _
+          second.stays.keeps.live.formed first.stays second.stays.keeps.same_size same
+          second.others;
+      ready =
+          ready_now old layout c.requires.layout c.requires.free _ refl turned.0 turned.1 mid new
+          (second.stays.keeps.same_size ∙ first.stays.keeps.same_size) c.requires.marked.live
+          first.marks second.marks c.in_ok-mark_live.ensures.marked
+          c.in_ok-mark_live-2.ensures.marked;
+      drawn =
+          subst (λ n. IsDrawn layout.side new (marked_to n (picture_of layout.side old))) (sym next)
+          (opens_next layout.side old mid new k c.requires.layout.live.formed
+          first.stays.keeps.live.formed first.stays.keeps.same_size second.stays.keeps.same_size
           (omega (arith, next, page_in_range old layout.fill c.requires.free))
           (λ page below. c.requires.marked.live.valid page (subst (λ n. page < n) last below))
           (subst (λ n. SetsMark n Valid old mid) here c.in_ok-mark_live.ensures.sets)
           (subst (λ n. SetsMark n Active mid new) there c.in_ok-mark_live-2.ensures.sets));
       begun = tt;
-      power = record { ok = goes_on_both old mid new c.in_ok-mark_live.ensures.power.ok c.in_ok-mark_live-2.ensures.power.ok; cut = tt; off = tt };
+      power = record {
+        ok =
+            goes_on_both old mid new c.in_ok-mark_live.ensures.power.ok
+            c.in_ok-mark_live-2.ensures.power.ok;
+        cut = tt;
+        off = tt;
+      };
     }
 
 pub mark_live-requires-clause-behind : goal.mark_live-requires-clause-behind
 mark_live-requires-clause-behind g c = search (rules, last_behind)
 
 pub mark_live-requires-2-clause-from : goal.mark_live-requires-2-clause-from
-mark_live-requires-2-clause-from g c = omega (arith, c.requires.layout.current, ap (λ (size : Size). first_page size c.args.layout.now.side) c.mark_live.ensures.stays.keeps.same_size)
+mark_live-requires-2-clause-from g c =
+    omega (
+      arith,
+      c.requires.layout.current,
+      ap (λ (size : Size). first_page size c.args.layout.now.side)
+          c.mark_live.ensures.stays.keeps.same_size,
+    )
 
 pub mark_live-requires-2-clause-layout : goal.mark_live-requires-2-clause-layout
 mark_live-requires-2-clause-layout g c = search (rules, layout_stays)
 
 pub overflow_add-layout : goal.overflow_add-layout
-overflow_add-layout g c = omega (arith, current_below c.args.layout.now (g.F.Flash.device c.args.flash.now) c.requires.layout)
+overflow_add-layout g c =
+    omega (
+      arith,
+      current_below c.args.layout.now (g.F.Flash.device c.args.flash.now) c.requires.layout,
+    )

@@ -14,7 +14,9 @@ pub program-requires-clause-erased : goal.program-requires-clause-erased
 program-requires-clause-erased g c =
     let layout = c.args.layout.now in
     let found = c.requires.layout in
-    rw (c.requires.page, c.requires.place) (slot_erased layout.side layout.generation layout.fill (g.F.Flash.device c.args.flash.now) found.live found.fill c.requires.free)
+    rw (c.requires.page, c.requires.place)
+    (slot_erased layout.side layout.generation layout.fill (g.F.Flash.device c.args.flash.now)
+    found.live found.fill c.requires.free)
 
 pub returns-in_err-program : goal.returns-in_err-program
 returns-in_err-program g c =
@@ -23,7 +25,9 @@ returns-in_err-program g c =
     let cut = rw (c.requires.page, c.requires.place, word.number) at c.in_err-program.ensures.cut in
     record {
       pushes = rw (err_from_is_err_and c.from_residual.result c.from_residual.ensures.1).1
-          (pushed_partly old (g.F.Flash.device c.program.new.self) c.args.layout.now c.requires.layout c.requires.free c.args.change (rw word.number at word.spells) (rw word.number at word.below_all_ones) cut);
+          (pushed_partly old (g.F.Flash.device c.program.new.self) c.args.layout.now
+          c.requires.layout c.requires.free c.args.change (rw word.number at word.spells)
+          (rw word.number at word.below_all_ones) cut);
       power = ends_in_step _ _ c.from_residual.ensures.0 (goes_on_same old) cut;
     }
 
@@ -32,8 +36,12 @@ returns g c =
     let old = g.F.Flash.device c.args.flash.now in
     let word = c.word.ensures in
     let on = c.in_ok-program.ensures.on in
-    let done = rw (c.requires.page, c.requires.place, word.number) at c.in_ok-program.ensures.done in
+    let done =
+    rw (c.requires.page, c.requires.place, word.number) at c.in_ok-program.ensures.done in
     record {
-      pushes = pushed old (g.F.Flash.device c.program.new.self) c.args.layout.now c.requires.layout c.requires.free c.args.change (rw word.number at word.spells) (rw word.number at word.below_all_ones) on done;
+      pushes =
+          pushed old (g.F.Flash.device c.program.new.self) c.args.layout.now c.requires.layout
+          c.requires.free c.args.change (rw word.number at word.spells)
+          (rw word.number at word.below_all_ones) on done;
       power = record { ok = goes_on_programmed _ _ _ old on done; cut = tt; off = tt };
     }

@@ -7,9 +7,12 @@ use Rattle.ee_dump.proofs.reading.read_dump.Goals as goal
 pub returns-clause-read : goal.returns-clause-read
 returns-clause-read g c =
     let wear : c.in_ok-wear.wear.items ≡ replicate (page_count c.args.shape) 0 = search rules in
-    read_device c.args.form c.args.shape c.args.dump.now c.in_ok-cells.cells c.in_ok-wear.wear.items (memory_of c.in-Ok.flash) c.in_ok-cells.ensures.read wear c.in-Ok.ensures.device
+    read_device c.args.form c.args.shape c.args.dump.now c.in_ok-cells.cells c.in_ok-wear.wear.items
+    (memory_of c.in-Ok.flash) c.in_ok-cells.ensures.read wear c.in-Ok.ensures.device
 
 pub unreachable-requires : goal.unreachable-requires
 unreachable-requires g c =
     let wear : c.in_ok-wear.wear.items ≡ replicate (page_count c.args.shape) 0 = search rules in
-    c.in-Err.ensures.fault (have_lengths c.args.form c.args.shape c.args.dump.now c.in_ok-cells.cells c.in_ok-wear.wear.items c.in_ok-cells.ensures.read wear)
+    c.in-Err.ensures.fault
+    (have_lengths c.args.form c.args.shape c.args.dump.now c.in_ok-cells.cells
+    c.in_ok-wear.wear.items c.in_ok-cells.ensures.read wear)

@@ -4,5 +4,7 @@ use Rattle.ee_dump.proofs.reading.read_words.Goals as goal
 
 pub loop-bytes-preserved : goal.loop-bytes-preserved
 loop-bytes-preserved g c =
-    one_read_more c.args.dump.now c.as_chunks.result.0.now c.loop-bytes.bytes-index c.loop-bytes.cells c.push.new.self c.word_of.result
-    c.as_chunks.ensures.front c.loop-bytes.invariant c.loop-bytes-test.true (search rules) c.word_of.ensures.whole c.word_of.ensures.below_all_ones (search rules)
+    one_read_more c.args.dump.now c.as_chunks.result.0.now c.loop-bytes.bytes-index
+    c.loop-bytes.cells c.push.new.self c.word_of.result
+    c.as_chunks.ensures.front c.loop-bytes.invariant c.loop-bytes-test.true (search rules)
+    c.word_of.ensures.whole c.word_of.ensures.below_all_ones (search rules)

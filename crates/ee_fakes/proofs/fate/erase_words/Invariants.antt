@@ -5,5 +5,7 @@ use Rattle.ee_fakes.proofs.fate.erase_words.Given as goal
 
 abbrev pub invariant-loop-at : goal.invariant-loop-at
 invariant-loop-at l =
-    ((k : ℕ) → k < l.at → get_or l.words k Erased ≡ word_of_fate (get_or l.list k l.rest) (get_or l.fn.words k Erased) Erased)
+    ((k : ℕ) → k < l.at
+    → get_or l.words k Erased
+    ≡ word_of_fate (get_or l.list k l.rest) (get_or l.fn.words k Erased) Erased)
     × ((k : ℕ) → l.at ≤ k → get_or l.words k Erased ≡ get_or l.fn.words k Erased)

@@ -9,10 +9,18 @@ regrouped a b c d = simp append_assoc
 
 -- the parts, one behind another
 parts : (fault : Fault) (words line : List ℕ) → AreLineWords fault words
-    → line ≡ codes "ee: " ++ (beside_text (before fault) ++ (words ++ (beside_text (behind fault) ++ codes "\n"))) → line ≡ fault_text fault
+    → line
+    ≡ codes "ee: "
+    ++ (beside_text (before fault) ++ (words ++ (beside_text (behind fault) ++ codes "\n")))
+    → line ≡ fault_text fault
 unfolding AreLineWords
 parts fault words line are is =
-    is ∙ ap (λ l. codes "ee: " ++ l) (regrouped (beside_text (before fault)) words (beside_text (behind fault)) (codes "\n") ∙ ap (λ l. l ++ codes "\n") are)
+    is
+    ∙ ap (λ l. codes "ee: " ++ l)
+    (regrouped (beside_text (before fault)) words (beside_text (behind fault)) (codes "\n")
+    ∙ ap (λ l. l ++ codes "\n") are)
 
 pub returns : goal.returns
-returns g c = parts c.args.fault.now c.words-words.result.now _ c.words-words.ensures (search rules fits 100 parts 0)
+returns g c =
+    parts c.args.fault.now c.words-words.result.now _ c.words-words.ensures
+    (search rules fits 100 parts 0)

@@ -7,7 +7,9 @@ returns-in_err-number-clause-only c = search (rules, cut_behind_wear)
 
 pub slice_bounds-result-count : goal.slice_bounds-result-count
 slice_bounds-result-count c =
-    let front = field_at_front c.min.result c.args.text.now c.next_field.result.0.now c.next_field.result.1 c.next_field.ensures.last c.next_field.ensures.more in
+    let front =
+    field_at_front c.min.result c.args.text.now c.next_field.result.0.now c.next_field.result.1
+    c.next_field.ensures.last c.next_field.ensures.more in
     let long = ap length front.text_is in
     omega (arith, length-append c.next_field.result.0.now front.behind)
 

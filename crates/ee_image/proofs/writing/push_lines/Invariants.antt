@@ -7,4 +7,7 @@ use Rattle.ee_image.proofs.writing.push_lines.Given as goal
 abbrev pub invariant-loop-page : goal.invariant-loop-page
 invariant-loop-page g l =
     let device = g.F.Flash.device l.flash in
-    l.out.items ≡ l.fn.out.items ++ (line_of (size_text device.size) ++ page_lines (take l.page device.image) (take l.page device.wear))
+    l.out.items
+    ≡ l.fn.out.items
+    ++ (line_of (size_text device.size)
+    ++ page_lines (take l.page device.image) (take l.page device.wear))

@@ -7,4 +7,5 @@ use Rattle.ee_image.proofs.writing.push_page.Given as goal
 abbrev pub invariant-loop-at : goal.invariant-loop-at
 invariant-loop-at g l =
     let device = g.F.Flash.device l.flash in
-    l.out.items ≡ l.fn.out.items ++ page_text (wear_at device l.page) (take l.at (page_at device l.page))
+    l.out.items
+    ≡ l.fn.out.items ++ page_text (wear_at device l.page) (take l.at (page_at device l.page))

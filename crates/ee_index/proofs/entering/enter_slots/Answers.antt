@@ -16,12 +16,19 @@ pub loop-number-preserved : goal.loop-number-preserved
 loop-number-preserved g c =
     let device = g.F.Flash.device c.args.flash.now in
     let slots = slots_of (set_of c.args.layout.now.side device) in
-    let said : c.read_slot.result ≡ slot_of (get_or slots c.loop-number.number Erased) = c.read_slot.ensures.exact ∙ ap slot_of c.slot_word.ensures in
-    let entering = λ (address : ℕ). c.in_ok-enter.ensures address ∙ ap (λ slot. index_with_slot slot c.loop-number.number (slot_for (g.L.Listing.list c.loop-number.list)) address) said in
+    let said : c.read_slot.result ≡ slot_of (get_or slots c.loop-number.number Erased) =
+    c.read_slot.ensures.exact ∙ ap slot_of c.slot_word.ensures in
+    let entering =
+    λ (address : ℕ). c.in_ok-enter.ensures address
+    ∙ ap
+    (λ slot. index_with_slot slot c.loop-number.number
+    (slot_for (g.L.Listing.list c.loop-number.list)) address) said in
     search (enters slots c.loop-number.number _ _
-    (slot_listed device _ c.requires.layout c.loop-number.number c.loop-number-test.true) entering c.loop-number.invariant)
+    (slot_listed device _ c.requires.layout c.loop-number.number c.loop-number-test.true) entering
+    c.loop-number.invariant)
 
 pub returns : goal.returns
 returns g c =
-    let full : c.loop-number.number ≡ c.args.layout.now.fill = omega (arith, c.loop-number-test.false, c.loop-number.auto.number-end) in
+    let full : c.loop-number.number ≡ c.args.layout.now.fill =
+    omega (arith, c.loop-number-test.false, c.loop-number.auto.number-end) in
     indexes_all _ _ _ c.loop-number.number c.requires.layout full c.loop-number.invariant

@@ -4,4 +4,6 @@ use Rattle.ee_index.proofs.Indexing.{IndexesTo}
 use Rattle.ee_index.proofs.entering.enter_slots.Given as goal
 
 abbrev pub invariant-loop-number : goal.invariant-loop-number
-invariant-loop-number g l = IndexesTo (slots_of (set_of l.layout.side (g.F.Flash.device l.flash))) l.number (slot_for (g.L.Listing.list l.list))
+invariant-loop-number g l =
+    IndexesTo (slots_of (set_of l.layout.side (g.F.Flash.device l.flash))) l.number
+    (slot_for (g.L.Listing.list l.list))

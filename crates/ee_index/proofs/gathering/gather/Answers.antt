@@ -27,9 +27,13 @@ slots-preserved g c =
     let slots = slots_of (set_of c.args.layout.now.side device) in
     let count = c.slots.number - 1 in
     let low : count < fill = omega (arith, c.slots-test.true, c.slots.auto.number) in
-    let said : c.read_slot-said.result ≡ slot_of (get_or slots count Erased) = c.read_slot-said.ensures.exact ∙ ap slot_of c.slot_word.ensures in
-    gathers fill count low slots _ _ _ (omega (arith, c.slots-test.true)) (slot_listed device _ c.requires count low)
-    (c.in_ok-push_said.ensures ∙ ap (λ slot. c.slots.entries.items ++ entries_said slot count fill) said) c.slots.invariant
+    let said : c.read_slot-said.result ≡ slot_of (get_or slots count Erased) =
+    c.read_slot-said.ensures.exact ∙ ap slot_of c.slot_word.ensures in
+    gathers fill count low slots _ _ _ (omega (arith, c.slots-test.true))
+    (slot_listed device _ c.requires count low)
+    (c.in_ok-push_said.ensures
+    ∙ ap (λ slot. c.slots.entries.items ++ entries_said slot count fill) said)
+    c.slots.invariant
 
 pub returns : goal.returns
 returns g c =

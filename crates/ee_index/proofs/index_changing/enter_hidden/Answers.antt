@@ -10,7 +10,9 @@ entries-preserved g c =
     let next = (g.L.Listing.list c.enter_new.new.list) in
     record {
       shown = λ address. c.enter_new.ensures.shown address ∙ c.entries.invariant.shown address;
-      there = entered_more c.args.fill _ _ _ c.entries-test.true c.put-item.is old now next c.entries.invariant.there c.in_ok-enter_new.ensures.there;
+      there =
+          entered_more c.args.fill _ _ _ c.entries-test.true c.put-item.is old now next
+          c.entries.invariant.there c.in_ok-enter_new.ensures.there;
     }
 
 pub returns-in_err-enter_new-clause-new : goal.returns-in_err-enter_new-clause-new

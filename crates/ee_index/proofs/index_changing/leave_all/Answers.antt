@@ -4,6 +4,7 @@ use Rattle.ee_index.proofs.index_changing.leave_all.Goals as goal
 
 pub entries-preserved : goal.entries-preserved
 entries-preserved g c = record {
-  left = left_more _ _ _ c.entries-test.true c.put-item.is _ _ _ c.entries.invariant.left c.leave.ensures.left;
+  left = left_more _ _ _ c.entries-test.true c.put-item.is _ _ _ c.entries.invariant.left
+      c.leave.ensures.left;
   fewer = omega (arith, c.entries.invariant.fewer, c.leave.ensures.fewer);
 }

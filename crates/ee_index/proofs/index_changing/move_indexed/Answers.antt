@@ -9,8 +9,13 @@ pub move_changes-requires-clause-over : goal.move_changes-requires-clause-over
 move_changes-requires-clause-over g c =
     let old = g.F.Flash.device c.args.flash.now in
     let slots = slots_of (set_of c.args.layout.now.side old) in
-    let over = gone_over old old c.args.layout.now c.args.layout.now _ _ _ c.requires.apart c.requires.room in
-    let left : IsLeft slots (is_filled slots) c.new-cursor.result.after c.new-cursor.result.entries.now = rw (c.new-cursor.ensures.entries, c.new-cursor.ensures.first) (left_first slots _ _ c.new-cursor.ensures.ordered over.proper over.indexes) in
+    let over =
+    gone_over old old c.args.layout.now c.args.layout.now _ _ _ c.requires.apart
+    c.requires.room in
+    let left : IsLeft slots (is_filled slots) c.new-cursor.result.after
+    c.new-cursor.result.entries.now =
+    rw (c.new-cursor.ensures.entries, c.new-cursor.ensures.first)
+    (left_first slots _ _ c.new-cursor.ensures.ordered over.proper over.indexes) in
     record { fill_is = c.new-cursor.ensures.fill ∙ c.requires.layout.fill; left = left }
 
 pub follow-requires : goal.follow-requires

@@ -10,8 +10,10 @@ use Rattle.ee_index.proofs.reading.batch_indexed.Given as goal
 
 abbrev pub invariant-batch : goal.invariant-batch
 invariant-batch g l = record {
-  reaches : ReachesTo (map_in l.layout.side (g.F.Flash.device l.flash)) l.fn.after l.behind l.found.items;
-  left : IsLeft (slots_of (set_of l.layout.side (g.F.Flash.device l.flash))) (λ number. true) l.behind l.entries;
+  reaches : ReachesTo (map_in l.layout.side (g.F.Flash.device l.flash)) l.fn.after l.behind
+      l.found.items;
+  left : IsLeft (slots_of (set_of l.layout.side (g.F.Flash.device l.flash))) (λ number. true)
+      l.behind l.entries;
   proper : All (λ found. IsAddress found.0) l.found.items;
 }
 

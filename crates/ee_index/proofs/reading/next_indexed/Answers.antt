@@ -9,7 +9,11 @@ value_in-requires g c =
     let device = g.F.Flash.device c.args.flash.now in
     let slots = slots_of (set_of c.args.layout.now.side device) in
     let here = stands slots _ c.requires.index _ _ c.in-Some.ensures.1 in
-    omega (arith, here.listed, length-slots c.args.layout.now.side device c.requires.layout.live.formed)
+    omega (
+      arith,
+      here.listed,
+      length-slots c.args.layout.now.side device c.requires.layout.live.formed,
+    )
 
 pub returns-clause-next : goal.returns-clause-next
 returns-clause-next g c =

@@ -10,4 +10,8 @@ returns c =
     let settle = c.settle in
     let old = mirror_of c.args.words.now c.args.flags.now c.args.wears.now in
     let new = mirror_of settle.new.words settle.new.flags settle.new.wears in
-    settled (size_of c.args.pages c.args.page_words) c.in-Some.shape c.args.request c.in-Some-proper.request old new _ drafted.result.listed.now drafted.result.count settle.result drafted.result.answer (search rules) (search rules) drafted.ensures.drafts (search rules) (search rules) (search rules) settle.ensures.told settle.ensures.refused settle.ensures.played settle.ensures.count
+    settled (size_of c.args.pages c.args.page_words) c.in-Some.shape c.args.request
+    c.in-Some-proper.request old new _ drafted.result.listed.now drafted.result.count
+    settle.result drafted.result.answer (search rules) (search rules) drafted.ensures.drafts
+    (search rules) (search rules) (search rules) settle.ensures.told settle.ensures.refused
+    settle.ensures.played settle.ensures.count

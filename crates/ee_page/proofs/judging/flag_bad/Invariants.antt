@@ -4,4 +4,5 @@ use Rattle.ee_page.proofs.judging.flag_bad.Given as goal
 
 -- the words so far have their flags
 abbrev pub invariant-loop-place : goal.invariant-loop-place
-invariant-loop-place g l = (k : ℕ) → k < l.place → get_or l.bad k 0 ≡ bad_flag (g.F.Flash.device l.flash) l.set.side k
+invariant-loop-place g l =
+    (k : ℕ) → k < l.place → get_or l.bad k 0 ≡ bad_flag (g.F.Flash.device l.flash) l.set.side k

@@ -8,4 +8,6 @@ use Rattle.ee_page.proofs.playing.play.Given as goal
 abbrev pub invariant-listed : goal.invariant-listed
 invariant-listed l =
     IsMirror l.shape l.words l.flags l.wears
-    × (mirrored_device l.shape l.words l.flags l.wears ≡ all_completed (steps_of l.taken l.listed) (mirrored_device l.shape l.fn.words l.fn.flags l.fn.wears))
+    × (mirrored_device l.shape l.words l.flags l.wears
+    ≡ all_completed (steps_of l.taken l.listed)
+    (mirrored_device l.shape l.fn.words l.fn.flags l.fn.wears))

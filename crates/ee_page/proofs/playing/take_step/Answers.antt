@@ -8,4 +8,7 @@ pub returns-else-step-eq18446744073709551615-clause-done :
     goal.returns-else-step-eq18446744073709551615-clause-done
 returns-else-step-eq18446744073709551615-clause-done c =
     c.program.ensures.done c.args.wears.now
-    ∙ ap (λ (step : Step). device_after step (mirrored_device c.args.shape c.args.words.now c.args.flags.now c.args.wears.now)) (sym (is_program c.args.step c.if-step-eq18446744073709551615.false))
+    ∙ ap
+    (λ (step : Step). device_after step
+    (mirrored_device c.args.shape c.args.words.now c.args.flags.now c.args.wears.now))
+    (sym (is_program c.args.step c.if-step-eq18446744073709551615.false))

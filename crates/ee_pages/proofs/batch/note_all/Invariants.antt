@@ -6,6 +6,8 @@ use Rattle.ee_pages.proofs.batch.note_all.Given as goal
 
 abbrev pub invariant-loop-number : goal.invariant-loop-number
 invariant-loop-number l = record {
-  named : l.nearest.named ≡ take BATCH (with_each_named l.above (take l.number-index (map Held l.numbers)) l.fn.nearest.named);
+  named : l.nearest.named
+      ≡ take BATCH
+      (with_each_named l.above (take l.number-index (map Held l.numbers)) l.fn.nearest.named);
   places : HasPlaces BATCH l.above l.span l.nearest.named;
 }

@@ -18,15 +18,23 @@ loop-place-preserved c =
     let few : place < length old = omega (arith, c.loop-place-test.true, c.requires) in
     elim c.if-gives_value.branch [
       | then-gives_value w ↦ rw (w.numbers-is, w.kept-is) (record {
-        living = one_lives old now place kept few so_far.living so_far.rest so_far.as_long so_far.few number refl c.gives_value.result c.gives_value.ensures w.if-gives_value.true;
-        rest = rest_stays old now place kept few so_far.living so_far.rest so_far.as_long so_far.few number refl;
+        living =
+            one_lives old now place kept few so_far.living so_far.rest so_far.as_long so_far.few
+            number refl c.gives_value.result c.gives_value.ensures w.if-gives_value.true;
+        rest = rest_stays old now place kept few so_far.living so_far.rest so_far.as_long so_far.few
+            number refl;
         as_long = omega (arith, length-set now kept number, so_far.as_long);
         few = omega (arith, so_far.few);
         within = omega (arith, c.loop-place-test.true);
-        proper = λ all. All-set IsOfAddress now kept number (proper_number old now place kept few so_far.living so_far.rest so_far.as_long so_far.few number refl (so_far.proper all)) (so_far.proper all);
+        proper =
+            λ all. All-set IsOfAddress now kept number
+            (proper_number old now place kept few so_far.living so_far.rest so_far.as_long
+            so_far.few number refl (so_far.proper all)) (so_far.proper all);
       })
       | else-gives_value w ↦ rw (w.numbers-is, w.kept-is) (record {
-        living = one_dies old now place kept few so_far.living so_far.rest so_far.as_long so_far.few number refl c.gives_value.result c.gives_value.ensures w.if-gives_value.false;
+        living =
+            one_dies old now place kept few so_far.living so_far.rest so_far.as_long so_far.few
+            number refl c.gives_value.result c.gives_value.ensures w.if-gives_value.false;
         rest = drop_more_same now old place so_far.rest;
         as_long = so_far.as_long;
         few = omega (arith, so_far.few);

@@ -5,7 +5,8 @@ use Rattle.ee_pages.proofs.batch_items.keep.Given as goal
 
 abbrev pub invariant-loop-place : goal.invariant-loop-place
 invariant-loop-place l = record {
-  living : map item_by (take l.kept l.numbers) ≡ live_values (map named_by (take l.place l.fn.numbers));
+  living : map item_by (take l.kept l.numbers)
+      ≡ live_values (map named_by (take l.place l.fn.numbers));
   rest : drop l.place l.numbers ≡ drop l.place l.fn.numbers;
   as_long : length l.numbers ≡ length l.fn.numbers;
   few : l.kept ≤ l.place;

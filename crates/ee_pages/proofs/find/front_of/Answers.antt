@@ -17,25 +17,48 @@ loop-page-preserved g c =
     let so_far = c.loop-page.invariant in
     let written = front (slots_of (set_of c.args.side device)) in
     let here = c.in-Ok.ensures in
-    let same : c.words-slots.result - 4 ≡ device.size.words - 4 = ap (λ n. n - 4) (c.words-slots.ensures.value ∙ ap (λ (size : Size). size.words) c.shape-shape.ensures) in
+    let same : c.words-slots.result - 4 ≡ device.size.words - 4 =
+    ap (λ n. n - 4)
+    (c.words-slots.ensures.value
+    ∙ ap (λ (size : Size). size.words) c.shape-shape.ensures) in
     record {
-      most = most_then device.size c.loop-page.used c.in-Ok.here page (c.words-slots.result - 4) written same so_far.most so_far.reaches so_far.stopped here.within here.used here.front here.none;
-      reaches = reach_then device.size c.loop-page.used c.in-Ok.here page (c.words-slots.result - 4) written same so_far.most so_far.reaches so_far.stopped here.within here.used here.front here.none;
-      stopped = stopped_then device.size c.loop-page.used c.in-Ok.here page (c.words-slots.result - 4) written same so_far.most so_far.reaches so_far.stopped here.within here.used here.front here.none;
+      most = most_then device.size c.loop-page.used c.in-Ok.here page (c.words-slots.result - 4)
+          written same so_far.most so_far.reaches so_far.stopped here.within here.used here.front
+          here.none;
+      reaches =
+          reach_then device.size c.loop-page.used c.in-Ok.here page (c.words-slots.result - 4)
+          written same so_far.most so_far.reaches so_far.stopped here.within here.used
+          here.front here.none;
+      stopped =
+          stopped_then device.size c.loop-page.used c.in-Ok.here page (c.words-slots.result - 4)
+          written same so_far.most so_far.reaches so_far.stopped here.within here.used
+          here.front here.none;
       allowed = λ k j h within. elim (cases_lt k page) [
         | inl less ↦ so_far.allowed k j less within
         | inr more ↦
             let e : page ≡ k = omega (arith, h, more) in
-            subst (λ n. is_allowed_at device.size c.args.generation (set_of c.args.side device) n j ≡ true) e (here.allowed j within)
+            subst
+            (λ n. is_allowed_at device.size c.args.generation (set_of c.args.side device) n j
+            ≡ true) e (here.allowed j within)
       ];
       last = elim c.if-here-gt0.branch [
-        | then-here-gt0 w ↦ w.last-is ∙ last_then device.size c.loop-page.used c.in-Ok.here page (c.words-slots.result - 4) written same so_far.most so_far.reaches so_far.stopped here.within here.used here.front here.none w.if-here-gt0.true
+        | then-here-gt0 w ↦ w.last-is
+            ∙ last_then device.size c.loop-page.used c.in-Ok.here page (c.words-slots.result - 4)
+            written same so_far.most so_far.reaches so_far.stopped here.within here.used
+            here.front here.none w.if-here-gt0.true
         | else-here-gt0 w ↦
-            let e : c.loop-page.used - 1 ≡ c.loop-page.used + c.in-Ok.here - 1 = omega (arith, w.if-here-gt0.false) in
+            let e : c.loop-page.used - 1 ≡ c.loop-page.used + c.in-Ok.here - 1 =
+            omega (arith, w.if-here-gt0.false) in
             w.last-is ∙ so_far.last ∙ ap (page_of_slot device.size) e
       ];
       within = elim c.if-here-gt0.branch [
-        | then-here-gt0 w ↦ rw w.last-is (omega (arith, c.loop-page-test.true, c.pages-page-end.ensures.value, ap (λ (size : Size). size.pages) c.shape-shape.ensures))
+        | then-here-gt0 w ↦ rw w.last-is
+            (omega (
+              arith,
+              c.loop-page-test.true,
+              c.pages-page-end.ensures.value,
+              ap (λ (size : Size). size.pages) c.shape-shape.ensures,
+            ))
         | else-here-gt0 w ↦ rw w.last-is so_far.within
       ];
     }
@@ -46,8 +69,16 @@ returns-clause-front g c =
     let slots = slots_of (set_of c.args.side device) in
     let so_far = c.loop-page.invariant in
     let count = length-slots c.args.side device (g.met.F.Flash.formed c.args.flash.now) in
-    let end : c.loop-page.page ≡ device.size.pages = omega (arith, c.loop-page-test.false, c.loop-page.auto.page-end, c.pages-page-end.ensures.value, ap (λ (size : Size). size.pages) c.shape-shape.ensures) in
-    let rows : c.loop-page.page * (device.size.words - 4) ≡ slot_count device.size = ap (λ n. n * (device.size.words - 4)) end in
+    let end : c.loop-page.page ≡ device.size.pages =
+    omega (
+      arith,
+      c.loop-page-test.false,
+      c.loop-page.auto.page-end,
+      c.pages-page-end.ensures.value,
+      ap (λ (size : Size). size.pages) c.shape-shape.ensures,
+    ) in
+    let rows : c.loop-page.page * (device.size.words - 4) ≡ slot_count device.size =
+    ap (λ n. n * (device.size.words - 4)) end in
     let most = prefix_len-le-length is_written slots in
     elim (cases_lt c.loop-page.used (c.loop-page.page * (device.size.words - 4))) [
       | inl less ↦ omega (arith, so_far.stopped less)

@@ -7,8 +7,12 @@ abbrev pub invariant-loop-page : goal.invariant-loop-page
 invariant-loop-page g l = record {
   most : l.used ≤ l.page * ((g.F.Flash.device l.flash).size.words - 4);
   reaches : l.used ≤ front (slots_of (set_of l.side (g.F.Flash.device l.flash)));
-  stopped : l.used < l.page * ((g.F.Flash.device l.flash).size.words - 4) → front (slots_of (set_of l.side (g.F.Flash.device l.flash))) ≡ l.used;
-  allowed : (k j : ℕ) → k < l.page → j < (g.F.Flash.device l.flash).size.words → is_allowed_at (g.F.Flash.device l.flash).size l.generation (set_of l.side (g.F.Flash.device l.flash)) k j ≡ true;
+  stopped : l.used < l.page * ((g.F.Flash.device l.flash).size.words - 4)
+      → front (slots_of (set_of l.side (g.F.Flash.device l.flash))) ≡ l.used;
+  allowed : (k j : ℕ) → k < l.page → j < (g.F.Flash.device l.flash).size.words
+      → is_allowed_at (g.F.Flash.device l.flash).size l.generation
+      (set_of l.side (g.F.Flash.device l.flash)) k j
+      ≡ true;
   last : l.last ≡ page_of_slot (g.F.Flash.device l.flash).size (l.used - 1);
   within : l.last < (g.F.Flash.device l.flash).size.pages;
 }

@@ -5,4 +5,5 @@ use Rattle.ee_pages.specs.Legal.{is_element}
 use Rattle.ee_pages.proofs.find.slots_in.Given as goal
 
 abbrev pub invariant-loop-place : goal.invariant-loop-place
-invariant-loop-place l = (k : ℕ) → k < l.place → is_element (slot_of (Held (get_or l.numbers k 0))) ≡ true
+invariant-loop-place l =
+    (k : ℕ) → k < l.place → is_element (slot_of (Held (get_or l.numbers k 0))) ≡ true

@@ -8,40 +8,76 @@ returns-then-written-words-clause-foreign g c =
     let device = g.F.Flash.device c.args.flash.now in
     let from = c.in_ok-from.ensures in
     let blank = c.blank_to-written.ensures in
-    let short : c.blank_to-written.result < device.size.words = omega (arith, c.if-written-words.true, c.words.ensures.value, ap (λ (size : Size). size.words) c.shape.ensures) in
-    none_allowed device c.args.side c.args.page (c.first_page.result + c.args.page) (g.met.F.Flash.formed c.args.flash.now) c.requires.page_in_range (ap (λ n. n + c.args.page) c.first_page.ensures)
-    c.args.full c.requires.before c.requires.behind c.args.generation c.in_ok-from.from c.blank_to-written.result from.used from.none from.within blank.from blank.before short (blank.end short)
+    let short : c.blank_to-written.result < device.size.words =
+    omega (
+      arith,
+      c.if-written-words.true,
+      c.words.ensures.value,
+      ap (λ (size : Size). size.words) c.shape.ensures,
+    ) in
+    none_allowed device c.args.side c.args.page (c.first_page.result + c.args.page)
+    (g.met.F.Flash.formed c.args.flash.now) c.requires.page_in_range
+    (ap (λ n. n + c.args.page) c.first_page.ensures)
+    c.args.full c.requires.before c.requires.behind c.args.generation c.in_ok-from.from
+    c.blank_to-written.result from.used from.none from.within blank.from blank.before short
+    (blank.end short)
 
 pub returns-then-written-words-clause-before : goal.returns-then-written-words-clause-before
 returns-then-written-words-clause-before g c =
     let device = g.F.Flash.device c.args.flash.now in
     let from = c.in_ok-from.ensures in
     let blank = c.blank_to-written.ensures in
-    all_allowed device c.args.side c.args.page (c.first_page.result + c.args.page) (g.met.F.Flash.formed c.args.flash.now) c.requires.page_in_range (ap (λ n. n + c.args.page) c.first_page.ensures)
-    c.args.full c.requires.before c.requires.behind c.args.generation c.in_ok-from.from c.blank_to-written.result from.used from.none from.within blank.from blank.before
+    all_allowed device c.args.side c.args.page (c.first_page.result + c.args.page)
+    (g.met.F.Flash.formed c.args.flash.now) c.requires.page_in_range
+    (ap (λ n. n + c.args.page) c.first_page.ensures)
+    c.args.full c.requires.before c.requires.behind c.args.generation c.in_ok-from.from
+    c.blank_to-written.result from.used from.none from.within blank.from blank.before
 
 pub returns-clause-used : goal.returns-clause-used
 returns-clause-used g c = λ is.
     let device = g.F.Flash.device c.args.flash.now in
     let from = c.in_ok-from.ensures in
     let blank = c.blank_to-written.ensures in
-    rw c.saturating_sub.ensures (used_reach device c.args.side c.args.page (c.first_page.result + c.args.page) (g.met.F.Flash.formed c.args.flash.now) c.requires.page_in_range (ap (λ n. n + c.args.page) c.first_page.ensures)
-    c.args.full c.requires.before c.requires.behind c.args.generation c.in_ok-from.from c.blank_to-written.result from.used from.none from.within blank.from blank.before is)
+    rw c.saturating_sub.ensures (used_reach device c.args.side c.args.page
+    (c.first_page.result + c.args.page) (g.met.F.Flash.formed c.args.flash.now)
+    c.requires.page_in_range (ap (λ n. n + c.args.page) c.first_page.ensures)
+    c.args.full c.requires.before c.requires.behind c.args.generation c.in_ok-from.from
+    c.blank_to-written.result from.used from.none from.within blank.from blank.before is)
 
 pub returns-clause-front : goal.returns-clause-front
 returns-clause-front g c = λ is few.
     let device = g.F.Flash.device c.args.flash.now in
     let from = c.in_ok-from.ensures in
     let blank = c.blank_to-written.ensures in
-    let long : device.size.words ≤ c.blank_to-written.result = omega (arith, c.if-written-words.false, c.words.ensures.value, ap (λ (size : Size). size.words) c.shape.ensures) in
-    rw c.saturating_sub.ensures (used_stop device c.args.side c.args.page (c.first_page.result + c.args.page) (g.met.F.Flash.formed c.args.flash.now) c.requires.page_in_range (ap (λ n. n + c.args.page) c.first_page.ensures)
-    c.args.full c.requires.before c.requires.behind c.args.generation c.in_ok-from.from c.blank_to-written.result from.used from.none from.within blank.from blank.before is (omega (arith, few, c.saturating_sub.ensures)) long)
+    let long : device.size.words ≤ c.blank_to-written.result =
+    omega (
+      arith,
+      c.if-written-words.false,
+      c.words.ensures.value,
+      ap (λ (size : Size). size.words) c.shape.ensures,
+    ) in
+    rw c.saturating_sub.ensures (used_stop device c.args.side c.args.page
+    (c.first_page.result + c.args.page) (g.met.F.Flash.formed c.args.flash.now)
+    c.requires.page_in_range (ap (λ n. n + c.args.page) c.first_page.ensures)
+    c.args.full c.requires.before c.requires.behind c.args.generation c.in_ok-from.from
+    c.blank_to-written.result from.used from.none from.within blank.from blank.before is
+    (omega (arith, few, c.saturating_sub.ensures)) long)
 
 pub returns-clause-allowed : goal.returns-clause-allowed
 returns-clause-allowed g c = λ j h.
     let device = g.F.Flash.device c.args.flash.now in
     let from = c.in_ok-from.ensures in
     let blank = c.blank_to-written.ensures in
-    let long : device.size.words ≤ c.blank_to-written.result = omega (arith, c.if-written-words.false, c.words.ensures.value, ap (λ (size : Size). size.words) c.shape.ensures) in
-    all_allowed device c.args.side c.args.page (c.first_page.result + c.args.page) (g.met.F.Flash.formed c.args.flash.now) c.requires.page_in_range (ap (λ n. n + c.args.page) c.first_page.ensures)
-    c.args.full c.requires.before c.requires.behind c.args.generation c.in_ok-from.from c.blank_to-written.result from.used from.none from.within blank.from blank.before j (omega (arith, h, long))
+    let long : device.size.words ≤ c.blank_to-written.result =
+    omega (
+      arith,
+      c.if-written-words.false,
+      c.words.ensures.value,
+      ap (λ (size : Size). size.words) c.shape.ensures,
+    ) in
+    all_allowed device c.args.side c.args.page (c.first_page.result + c.args.page)
+    (g.met.F.Flash.formed c.args.flash.now) c.requires.page_in_range
+    (ap (λ n. n + c.args.page) c.first_page.ensures)
+    c.args.full c.requires.before c.requires.behind c.args.generation c.in_ok-from.from
+    c.blank_to-written.result from.used from.none from.within blank.from blank.before j
+    (omega (arith, h, long))

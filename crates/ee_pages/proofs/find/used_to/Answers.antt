@@ -9,8 +9,11 @@ returns-then-not-is_torn-clause-before g c =
     let device = g.F.Flash.device c.args.flash.now in
     let run = c.run_from-run.ensures in
     let slots = c.slots_in-slots.ensures in
-    let words : c.words-words.result ≡ device.size.words = c.words-words.ensures.value ∙ ap (λ (size : Size). size.words) c.shape.ensures in
-    slots_on device c.args.page c.runs.at c.run_from-run.result.now (g.met.F.Flash.formed c.args.flash.now) c.requires (omega (arith, run.within, words)) run.numbers
+    let words : c.words-words.result ≡ device.size.words =
+    c.words-words.ensures.value ∙ ap (λ (size : Size). size.words) c.shape.ensures in
+    slots_on device c.args.page c.runs.at c.run_from-run.result.now
+    (g.met.F.Flash.formed c.args.flash.now) c.requires (omega (arith, run.within, words))
+    run.numbers
     4 c.slots_in-slots.result c.runs.invariant.before slots.within slots.before
 
 pub returns-then-not-is_torn-clause-end : goal.returns-then-not-is_torn-clause-end
@@ -18,24 +21,36 @@ returns-then-not-is_torn-clause-end g c = λ h.
     let device = g.F.Flash.device c.args.flash.now in
     let run = c.run_from-run.ensures in
     let slots = c.slots_in-slots.ensures in
-    let words : c.words-words.result ≡ device.size.words = c.words-words.ensures.value ∙ ap (λ (size : Size). size.words) c.shape.ensures in
-    let inside : c.slots_in-slots.result < length c.run_from-run.result.now = omega (arith, c.if-not-all.true, slots.within) in
-    slots_end device c.args.page c.runs.at c.run_from-run.result.now (g.met.F.Flash.formed c.args.flash.now) c.requires (omega (arith, run.within, words)) run.numbers
-    c.slots_in-slots.result inside (slots.end inside) (sym (c.is_torn.ensures ∙ ap is_torn c.word.ensures.value) ∙ c.if-not-is_torn.true)
+    let words : c.words-words.result ≡ device.size.words =
+    c.words-words.ensures.value ∙ ap (λ (size : Size). size.words) c.shape.ensures in
+    let inside : c.slots_in-slots.result < length c.run_from-run.result.now =
+    omega (arith, c.if-not-all.true, slots.within) in
+    slots_end device c.args.page c.runs.at c.run_from-run.result.now
+    (g.met.F.Flash.formed c.args.flash.now) c.requires (omega (arith, run.within, words))
+    run.numbers
+    c.slots_in-slots.result inside (slots.end inside)
+    (sym (c.is_torn.ensures ∙ ap is_torn c.word.ensures.value) ∙ c.if-not-is_torn.true)
 
 pub runs-preserved-then-not-all : goal.runs-preserved-then-not-all
 runs-preserved-then-not-all g c =
     let device = g.F.Flash.device c.args.flash.now in
     let run = c.run_from-run.ensures in
     let slots = c.slots_in-slots.ensures in
-    let words : c.words-words.result ≡ device.size.words = c.words-words.ensures.value ∙ ap (λ (size : Size). size.words) c.shape.ensures in
-    let inside : c.slots_in-slots.result < length c.run_from-run.result.now = omega (arith, c.if-not-all.true, slots.within) in
-    let before = slots_on device c.args.page c.runs.at c.run_from-run.result.now (g.met.F.Flash.formed c.args.flash.now) c.requires (omega (arith, run.within, words)) run.numbers
+    let words : c.words-words.result ≡ device.size.words =
+    c.words-words.ensures.value ∙ ap (λ (size : Size). size.words) c.shape.ensures in
+    let inside : c.slots_in-slots.result < length c.run_from-run.result.now =
+    omega (arith, c.if-not-all.true, slots.within) in
+    let before =
+    slots_on device c.args.page c.runs.at c.run_from-run.result.now
+    (g.met.F.Flash.formed c.args.flash.now) c.requires (omega (arith, run.within, words))
+    run.numbers
     4 c.slots_in-slots.result c.runs.invariant.before slots.within slots.before in
     record {
       from = omega (arith, c.runs.invariant.from);
       within = omega (arith, inside, run.within, words);
-      before = torn_on device c.args.page 4 (c.runs.at + c.slots_in-slots.result) before (sym (c.is_torn.ensures ∙ ap is_torn c.word.ensures.value) ∙ c.if-not-is_torn.false);
+      before =
+          torn_on device c.args.page 4 (c.runs.at + c.slots_in-slots.result) before
+          (sym (c.is_torn.ensures ∙ ap is_torn c.word.ensures.value) ∙ c.if-not-is_torn.false);
     }
 
 pub runs-preserved : goal.runs-preserved
@@ -43,10 +58,14 @@ runs-preserved g c =
     let device = g.F.Flash.device c.args.flash.now in
     let run = c.run_from-run.ensures in
     let slots = c.slots_in-slots.ensures in
-    let words : c.words-words.result ≡ device.size.words = c.words-words.ensures.value ∙ ap (λ (size : Size). size.words) c.shape.ensures in
+    let words : c.words-words.result ≡ device.size.words =
+    c.words-words.ensures.value ∙ ap (λ (size : Size). size.words) c.shape.ensures in
     record {
       from = omega (arith, c.runs.invariant.from);
       within = omega (arith, slots.within, run.within, words);
-      before = slots_on device c.args.page c.runs.at c.run_from-run.result.now (g.met.F.Flash.formed c.args.flash.now) c.requires (omega (arith, run.within, words)) run.numbers
+      before =
+          slots_on device c.args.page c.runs.at c.run_from-run.result.now
+          (g.met.F.Flash.formed c.args.flash.now) c.requires (omega (arith, run.within, words))
+          run.numbers
           4 c.slots_in-slots.result c.runs.invariant.before slots.within slots.before;
     }

@@ -7,7 +7,8 @@ abbrev pub invariant-runs : goal.invariant-runs
 invariant-runs g l = record {
   from : 4 ≤ l.at;
   within : l.at ≤ (g.F.Flash.device l.flash).size.words;
-  before : (j : ℕ) → 4 ≤ j → j < l.at → holds_slot (word_at (g.F.Flash.device l.flash) l.page j) ≡ true;
+  before : (j : ℕ) → 4 ≤ j → j < l.at
+      → holds_slot (word_at (g.F.Flash.device l.flash) l.page j) ≡ true;
 }
 
 abbrev pub decreases-runs : goal.decreases-runs

@@ -8,4 +8,5 @@ returns g c =
     let device = g.F.Flash.device c.args.flash.now in
     let set = c.args.set.now in
     c.is_bad.ensures
-    ∙ bad_by _ device.size (set_of set.side device) set.generation set.written c.args.page c.args.at _ c.shape.ensures c.requires.set.generation c.requires.set.written c.set_word-word.ensures
+    ∙ bad_by _ device.size (set_of set.side device) set.generation set.written c.args.page c.args.at
+    _ c.shape.ensures c.requires.set.generation c.requires.set.written c.set_word-word.ensures

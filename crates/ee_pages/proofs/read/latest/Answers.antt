@@ -17,9 +17,15 @@ returns-in-Some g c =
     let slots = slots_of (set_of c.args.layout.now.side device) in
     let page = c.loop-page.page - 1 in
     let before = page * (device.size.words - 4) in
-    let same : page * (c.words-slots.result - 4) ≡ before = ap (λ n. page * (n - 4)) (c.words-slots.ensures.value ∙ ap (λ size. size.words) c.shape.ensures) in
-    let said : latest_in (take (c.loop-page.left - before) (drop before slots)) c.args.address ≡ Some c.in-Some.said = search (rules, same, c.said_in_page.ensures) in
-    let row = latest_in-row before c.loop-page.left slots c.args.address c.loop-page.invariant.from c.loop-page.invariant.silent in
+    let same : page * (c.words-slots.result - 4) ≡ before =
+    ap (λ n. page * (n - 4))
+    (c.words-slots.ensures.value ∙ ap (λ size. size.words) c.shape.ensures) in
+    let said : latest_in (take (c.loop-page.left - before) (drop before slots)) c.args.address
+    ≡ Some c.in-Some.said =
+    search (rules, same, c.said_in_page.ensures) in
+    let row =
+    latest_in-row before c.loop-page.left slots c.args.address c.loop-page.invariant.from
+    c.loop-page.invariant.silent in
     ap value_said (sym (latest_in-drop before slots c.args.address c.in-Some.said (row ∙ said)))
 
 pub loop-page-preserved : goal.loop-page-preserved
@@ -28,8 +34,15 @@ loop-page-preserved g c =
     let slots = slots_of (set_of c.args.layout.now.side device) in
     let page = c.loop-page.page - 1 in
     let before = page * (device.size.words - 4) in
-    let same : page * (c.words-slots.result - 4) ≡ before = ap (λ n. page * (n - 4)) (c.words-slots.ensures.value ∙ ap (λ size. size.words) c.shape.ensures) in
-    let said : latest_in (take (c.loop-page.left - before) (drop before slots)) c.args.address ≡ None = search (rules, same, c.said_in_page.ensures) in
-    let row = latest_in-row before c.loop-page.left slots c.args.address c.loop-page.invariant.from c.loop-page.invariant.silent in
-    let lower : (page - 1) * (device.size.words - 4) ≤ before = mul-le-mul_right (device.size.words - 4) (omega arith) in
+    let same : page * (c.words-slots.result - 4) ≡ before =
+    ap (λ n. page * (n - 4))
+    (c.words-slots.ensures.value ∙ ap (λ size. size.words) c.shape.ensures) in
+    let said : latest_in (take (c.loop-page.left - before) (drop before slots)) c.args.address
+    ≡ None =
+    search (rules, same, c.said_in_page.ensures) in
+    let row =
+    latest_in-row before c.loop-page.left slots c.args.address c.loop-page.invariant.from
+    c.loop-page.invariant.silent in
+    let lower : (page - 1) * (device.size.words - 4) ≤ before =
+    mul-le-mul_right (device.size.words - 4) (omega arith) in
     record { from = rw same lower; to = omega (arith, same); silent = rw same (row ∙ said) }

@@ -7,7 +7,9 @@ use Rattle.ee_pages.proofs.read.live_count.Given as goal
 abbrev pub invariant-live : goal.invariant-live
 invariant-live g l = record {
   few : l.count ≤ above_of l.after;
-  count : l.count ≡ live_to (meaning (slots_of (set_of l.layout.side (g.F.Flash.device l.flash)))) (above_of l.after);
+  count : l.count
+      ≡ live_to (meaning (slots_of (set_of l.layout.side (g.F.Flash.device l.flash))))
+      (above_of l.after);
 }
 
 abbrev pub decreases-live : goal.decreases-live

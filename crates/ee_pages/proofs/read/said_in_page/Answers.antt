@@ -10,8 +10,12 @@ use Rattle.ee_pages.proofs.Slots.{row_within}
 use Rattle.ee_pages.proofs.read.said_in_page.Goals as goal
 
 -- what a number says of the address that it ends in
-said_of : (number address : ℕ) (said : Option (Option ℕ)) → IsAddress address → number % 2 ^ 16 ≡ address → (IsAddress (number % 2 ^ 16) → said ≡ says (Held number) (number % 2 ^ 16)) → says (Held number) address ≡ said
-said_of number address said proper ends is = sym (is (subst IsAddress (sym ends) proper) ∙ ap (says (Held number)) ends)
+said_of : (number address : ℕ) (said : Option (Option ℕ)) → IsAddress address
+    → number % 2 ^ 16 ≡ address
+    → (IsAddress (number % 2 ^ 16) → said ≡ says (Held number) (number % 2 ^ 16))
+    → says (Held number) address ≡ said
+said_of number address said proper ends is =
+    sym (is (subst IsAddress (sym ends) proper) ∙ ap (says (Held number)) ends)
 
 pub returns-in-Some : goal.returns-in-Some
 returns-in-Some g c =
@@ -28,19 +32,36 @@ returns-in-Some g c =
     let count = c.min-count.result in
     let from = c.runs.left - count in
     let few : count ≤ c.runs.left = omega (arith, c.min-count.ensures) in
-    let all : length (take count c.runs.room) ≡ count = length-take-le count c.runs.room (omega (arith, c.min-count.ensures, c.min-count.array_long)) in
-    let run = whole_run device c.args.side c.args.page here formed c.requires.page_in_range at from count (length (take count c.runs.room)) numbers (omega (arith, few, c.runs.invariant.within, c.requires.used_in_range)) all c.run-run.ensures in
+    let all : length (take count c.runs.room) ≡ count =
+    length-take-le count c.runs.room
+    (omega (arith, c.min-count.ensures, c.min-count.array_long)) in
+    let run =
+    whole_run device c.args.side c.args.page here formed c.requires.page_in_range at from count
+    (length (take count c.runs.room)) numbers
+    (omega (arith, few, c.runs.invariant.within, c.requires.used_in_range)) all
+    c.run-run.ensures in
     let end : from + length numbers ≡ c.runs.left = omega (arith, few, run.0) in
     let low : from + length numbers ≤ c.args.used = omega (arith, end, c.runs.invariant.within) in
-    let silent = run_silent device c.args.side c.args.page here formed c.requires.page_in_range at from ends c.args.used c.args.address numbers low c.requires.used_in_range run.1
-    found.within found.behind (subst (λ n. latest_in (drop n row) c.args.address ≡ None) (sym end) c.runs.invariant.silent) in
+    let silent =
+    run_silent device c.args.side c.args.page here formed c.requires.page_in_range at from ends
+    c.args.used c.args.address numbers low c.requires.used_in_range run.1
+    found.within found.behind
+    (subst (λ n. latest_in (drop n row) c.args.address ≡ None) (sym end)
+    c.runs.invariant.silent) in
     let place : ends - 1 < length numbers = omega (arith, c.if-ends-gt0.true, found.within) in
     let last : from + ends - 1 ≡ from + (ends - 1) = omega (arith, c.if-ends-gt0.true) in
-    let within = row_within c.args.side device c.args.page c.args.used formed c.requires.page_in_range c.requires.used_in_range in
+    let within =
+    row_within c.args.side device c.args.page c.args.used formed c.requires.page_in_range
+    c.requires.used_in_range in
     let says_it = ap (λ n. says (get_or slots (before + n) Erased) c.args.address) last
-    ∙ slot_says device c.args.side c.args.page here formed c.requires.page_in_range at from c.args.address (ends - 1) numbers (omega (arith, low, c.requires.used_in_range)) run.1 place
-    ∙ said_of (get_or numbers (ends - 1) 0) c.args.address c.said.result (found.proper c.if-ends-gt0.true) (found.ends c.if-ends-gt0.true) c.said.ensures in
-    sym (newest before c.args.used slots c.args.address within (from + ends) c.in-Some.said (omega (arith, c.if-ends-gt0.true)) (omega (arith, low, found.within)) silent (says_it ∙ c.in-Some.is))
+    ∙ slot_says device c.args.side c.args.page here formed c.requires.page_in_range at from
+    c.args.address (ends - 1) numbers (omega (arith, low, c.requires.used_in_range)) run.1 place
+    ∙ said_of (get_or numbers (ends - 1) 0) c.args.address c.said.result
+    (found.proper c.if-ends-gt0.true) (found.ends c.if-ends-gt0.true) c.said.ensures in
+    sym
+    (newest before c.args.used slots c.args.address within (from + ends) c.in-Some.said
+    (omega (arith, c.if-ends-gt0.true)) (omega (arith, low, found.within)) silent
+    (says_it ∙ c.in-Some.is))
 
 pub runs-preserved-then-ends-gt0 : goal.runs-preserved-then-ends-gt0
 runs-preserved-then-ends-gt0 g c =
@@ -57,22 +78,38 @@ runs-preserved-then-ends-gt0 g c =
     let count = c.min-count.result in
     let from = c.runs.left - count in
     let few : count ≤ c.runs.left = omega (arith, c.min-count.ensures) in
-    let all : length (take count c.runs.room) ≡ count = length-take-le count c.runs.room (omega (arith, c.min-count.ensures, c.min-count.array_long)) in
-    let run = whole_run device c.args.side c.args.page here formed c.requires.page_in_range at from count (length (take count c.runs.room)) numbers (omega (arith, few, c.runs.invariant.within, c.requires.used_in_range)) all c.run-run.ensures in
+    let all : length (take count c.runs.room) ≡ count =
+    length-take-le count c.runs.room
+    (omega (arith, c.min-count.ensures, c.min-count.array_long)) in
+    let run =
+    whole_run device c.args.side c.args.page here formed c.requires.page_in_range at from count
+    (length (take count c.runs.room)) numbers
+    (omega (arith, few, c.runs.invariant.within, c.requires.used_in_range)) all
+    c.run-run.ensures in
     let end : from + length numbers ≡ c.runs.left = omega (arith, few, run.0) in
     let low : from + length numbers ≤ c.args.used = omega (arith, end, c.runs.invariant.within) in
-    let silent = run_silent device c.args.side c.args.page here formed c.requires.page_in_range at from ends c.args.used c.args.address numbers low c.requires.used_in_range run.1
-    found.within found.behind (subst (λ n. latest_in (drop n row) c.args.address ≡ None) (sym end) c.runs.invariant.silent) in
+    let silent =
+    run_silent device c.args.side c.args.page here formed c.requires.page_in_range at from ends
+    c.args.used c.args.address numbers low c.requires.used_in_range run.1
+    found.within found.behind
+    (subst (λ n. latest_in (drop n row) c.args.address ≡ None) (sym end)
+    c.runs.invariant.silent) in
     let place : ends - 1 < length numbers = omega (arith, c.if-ends-gt0.true, found.within) in
     let last : from + ends - 1 ≡ from + (ends - 1) = omega (arith, c.if-ends-gt0.true) in
-    let within = row_within c.args.side device c.args.page c.args.used formed c.requires.page_in_range c.requires.used_in_range in
+    let within =
+    row_within c.args.side device c.args.page c.args.used formed c.requires.page_in_range
+    c.requires.used_in_range in
     let says_it = ap (λ n. says (get_or slots (before + n) Erased) c.args.address) last
-    ∙ slot_says device c.args.side c.args.page here formed c.requires.page_in_range at from c.args.address (ends - 1) numbers (omega (arith, low, c.requires.used_in_range)) run.1 place
-    ∙ said_of (get_or numbers (ends - 1) 0) c.args.address c.said.result (found.proper c.if-ends-gt0.true) (found.ends c.if-ends-gt0.true) c.said.ensures in
+    ∙ slot_says device c.args.side c.args.page here formed c.requires.page_in_range at from
+    c.args.address (ends - 1) numbers (omega (arith, low, c.requires.used_in_range)) run.1 place
+    ∙ said_of (get_or numbers (ends - 1) 0) c.args.address c.said.result
+    (found.proper c.if-ends-gt0.true) (found.ends c.if-ends-gt0.true) c.said.ensures in
     record {
       within = omega (arith, low, place);
       silent = subst (λ n. latest_in (drop n row) c.args.address ≡ None) last
-          (one_lower before c.args.used slots c.args.address within (from + ends) (omega (arith, c.if-ends-gt0.true)) (omega (arith, low, found.within)) silent ∙ says_it ∙ c.in_default.is);
+          (one_lower before c.args.used slots c.args.address within (from + ends)
+          (omega (arith, c.if-ends-gt0.true)) (omega (arith, low, found.within)) silent
+          ∙ says_it ∙ c.in_default.is);
     }
 
 pub runs-preserved : goal.runs-preserved
@@ -90,11 +127,24 @@ runs-preserved g c =
     let count = c.min-count.result in
     let from = c.runs.left - count in
     let few : count ≤ c.runs.left = omega (arith, c.min-count.ensures) in
-    let all : length (take count c.runs.room) ≡ count = length-take-le count c.runs.room (omega (arith, c.min-count.ensures, c.min-count.array_long)) in
-    let run = whole_run device c.args.side c.args.page here formed c.requires.page_in_range at from count (length (take count c.runs.room)) numbers (omega (arith, few, c.runs.invariant.within, c.requires.used_in_range)) all c.run-run.ensures in
+    let all : length (take count c.runs.room) ≡ count =
+    length-take-le count c.runs.room
+    (omega (arith, c.min-count.ensures, c.min-count.array_long)) in
+    let run =
+    whole_run device c.args.side c.args.page here formed c.requires.page_in_range at from count
+    (length (take count c.runs.room)) numbers
+    (omega (arith, few, c.runs.invariant.within, c.requires.used_in_range)) all
+    c.run-run.ensures in
     let end : from + length numbers ≡ c.runs.left = omega (arith, few, run.0) in
     let low : from + length numbers ≤ c.args.used = omega (arith, end, c.runs.invariant.within) in
-    let silent = run_silent device c.args.side c.args.page here formed c.requires.page_in_range at from ends c.args.used c.args.address numbers low c.requires.used_in_range run.1
-    found.within found.behind (subst (λ n. latest_in (drop n row) c.args.address ≡ None) (sym end) c.runs.invariant.silent) in
+    let silent =
+    run_silent device c.args.side c.args.page here formed c.requires.page_in_range at from ends
+    c.args.used c.args.address numbers low c.requires.used_in_range run.1
+    found.within found.behind
+    (subst (λ n. latest_in (drop n row) c.args.address ≡ None) (sym end)
+    c.runs.invariant.silent) in
     let none : from + ends ≡ from = omega (arith, c.if-ends-gt0.false) in
-    record { within = omega (arith, low); silent = subst (λ n. latest_in (drop n row) c.args.address ≡ None) none silent }
+    record {
+      within = omega (arith, low);
+      silent = subst (λ n. latest_in (drop n row) c.args.address ≡ None) none silent;
+    }

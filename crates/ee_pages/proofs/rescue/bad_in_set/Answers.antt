@@ -9,5 +9,8 @@ loop-page-init g c = record { bad = sym (bad_in_pages-zero _ _); within = omega 
 pub loop-page-preserved : goal.loop-page-preserved
 loop-page-preserved g c =
     let device = g.F.Flash.device c.args.flash.now in
-    let more = pages_more device.size (set_of c.args.side device) c.loop-page.page c.loop-page.bad c.bad_in_page-bad.result c.bad_in_page-bad.ensures.bad c.bad_in_page-bad.ensures.within c.loop-page.invariant.bad c.loop-page.invariant.within in
+    let more =
+    pages_more device.size (set_of c.args.side device) c.loop-page.page c.loop-page.bad
+    c.bad_in_page-bad.result c.bad_in_page-bad.ensures.bad c.bad_in_page-bad.ensures.within
+    c.loop-page.invariant.bad c.loop-page.invariant.within in
     record { bad = more.0; within = more.1 }

@@ -7,4 +7,8 @@ use Rattle.ee_pages.proofs.rescue.front_in_page.Given as goal
 abbrev pub invariant-loop-slot : goal.invariant-loop-slot
 invariant-loop-slot g l =
     let device = g.F.Flash.device l.flash in
-    (k : ℕ) → k < l.slot → is_written (get_or (slots_of (set_of l.side device)) (l.page * (device.size.words - 4) + k) Erased) ≡ true
+    (k : ℕ) → k < l.slot
+    → is_written
+    (get_or (slots_of (set_of l.side device)) (l.page * (device.size.words - 4) + k)
+    Erased)
+    ≡ true

@@ -8,4 +8,14 @@ pub returns : goal.returns
 returns g c =
     let device = g.F.Flash.device c.args.flash.now in
     let formed = g.met.F.Flash.formed c.args.flash.now in
-    sym (none_left (set_of c.args.side device) (λ k h. c.loop-page.invariant k (omega (arith, h, length-set_of c.args.side device formed, c.loop-page-test.false, c.pages-page-end.ensures.value, ap (λ size. size.pages) c.shape.ensures))))
+    sym
+    (none_left (set_of c.args.side device)
+    (λ k h. c.loop-page.invariant k
+    (omega (
+      arith,
+      h,
+      length-set_of c.args.side device formed,
+      c.loop-page-test.false,
+      c.pages-page-end.ensures.value,
+      ap (λ size. size.pages) c.shape.ensures,
+    ))))

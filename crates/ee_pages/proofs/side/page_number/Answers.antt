@@ -11,8 +11,14 @@ returns g c = λ address.
     let here = c.first_page.result + c.args.page in
     let formed = g.met.F.Flash.formed c.args.flash.now in
     let at = ap (λ n. n + c.args.page) c.first_page.ensures in
-    let run = whole_run device c.args.side c.args.page here formed c.requires.page_in_range at c.args.slot 1 1 c.run-run.result.now (omega (arith, c.requires.slot_in_range)) (omega arith) c.run-run.ensures in
+    let run =
+    whole_run device c.args.side c.args.page here formed c.requires.page_in_range at c.args.slot
+    1 1 c.run-run.result.now (omega (arith, c.requires.slot_in_range)) (omega arith)
+    c.run-run.ensures in
     let one : 0 < length c.run-run.result.now = omega (arith, run.0) in
-    let place : c.args.page * (device.size.words - 4) + c.args.slot ≡ c.args.page * (device.size.words - 4) + (c.args.slot + 0) = omega arith in
+    let place : c.args.page * (device.size.words - 4) + c.args.slot
+    ≡ c.args.page * (device.size.words - 4) + (c.args.slot + 0) =
+    omega arith in
     ap (λ n. says (get_or (slots_of (set_of c.args.side device)) n Erased) address) place
-    ∙ slot_says device c.args.side c.args.page here formed c.requires.page_in_range at c.args.slot address 0 c.run-run.result.now (omega (arith, run.0, c.requires.slot_in_range)) run.1 one
+    ∙ slot_says device c.args.side c.args.page here formed c.requires.page_in_range at c.args.slot
+    address 0 c.run-run.result.now (omega (arith, run.0, c.requires.slot_in_range)) run.1 one

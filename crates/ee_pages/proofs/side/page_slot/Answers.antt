@@ -8,6 +8,9 @@ returns g c =
     let device = g.F.Flash.device c.args.flash.now in
     let formed = g.met.F.Flash.formed c.args.flash.now in
     let in_range : c.args.page < length (set_of c.args.side device) =
-    subst (λ n. c.args.page < n) (sym (length-set_of c.args.side device formed)) c.requires.page_in_range in
-    let at = get_or-slots_of device.size.words (set_of c.args.side device) c.args.page c.args.slot (pages-set_of c.args.side device formed) in_range c.requires.slot_in_range in
+    subst (λ n. c.args.page < n) (sym (length-set_of c.args.side device formed))
+    c.requires.page_in_range in
+    let at =
+    get_or-slots_of device.size.words (set_of c.args.side device) c.args.page c.args.slot
+    (pages-set_of c.args.side device formed) in_range c.requires.slot_in_range in
     c.set_word.ensures ∙ sym at

@@ -8,4 +8,6 @@ returns g c = search (rules, split_by)
 pub page_number-requires-clause-page_in_range : goal.page_number-requires-clause-page_in_range
 page_number-requires-clause-page_in_range g c =
     let device = g.F.Flash.device c.args.flash.now in
-    subst (λ n. c.args.slot / (n - 4) < device.size.pages) (sym (c.words-slots.ensures.value ∙ ap (λ size. size.words) c.shape.ensures)) (page_in_range device c.args.slot c.requires)
+    subst (λ n. c.args.slot / (n - 4) < device.size.pages)
+    (sym (c.words-slots.ensures.value ∙ ap (λ size. size.words) c.shape.ensures))
+    (page_in_range device c.args.slot c.requires)

@@ -4,7 +4,8 @@ use Rattle.ee_pairs.specs.Pairs.{AreHigh}
 use Rattle.ee_pairs.proofs.low_pair.first_low_in.Given as goal
 
 abbrev pub invariant-stretches : goal.invariant-stretches
-invariant-stretches g l = AreHigh (numbers_at (g.N.Nor.nor l.nor) l.page) 0 l.from × (l.from ≤ l.words)
+invariant-stretches g l =
+    AreHigh (numbers_at (g.N.Nor.nor l.nor) l.page) 0 l.from × (l.from ≤ l.words)
 
 abbrev pub decreases-stretches : goal.decreases-stretches
 decreases-stretches g l = l.words - l.from

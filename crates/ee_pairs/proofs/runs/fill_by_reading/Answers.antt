@@ -4,5 +4,7 @@ use Rattle.ee_pairs.proofs.PairRuns.{same_run_of_pairs}
 use Rattle.ee_pairs.proofs.runs.fill_by_reading.Goals as goal
 
 pub returns : goal.returns
-returns g c = same_run_of_pairs (numbers_at (g.N.Nor.nor c.args.nor.now) c.args.page) c.loop-word.room c.args.at _
+returns g c =
+    same_run_of_pairs (numbers_at (g.N.Nor.nor c.args.nor.now) c.args.page) c.loop-word.room
+    c.args.at _
     (omega arith) (λ k h. c.loop-word.invariant k (omega arith))

@@ -13,8 +13,11 @@ is_blank-requires g c = search (rules, wiped_size)
 pub returns-in_err-erase-clause-cut : goal.returns-in_err-erase-clause-cut
 returns-in_err-erase-clause-cut g c =
     let count = ap (λ (size : Size). size.pages) c.shape.ensures in
-    let left = wipe_left c.pages.page (g.N.Nor.nor c.args.nor.now) (g.N.Nor.nor c.pages.nor) (g.N.Nor.nor c.erase.new.self) c.requires c.pages.invariant
-    (omega (arith, count, c.pages-page-end.ensures.value, c.pages-test.true)) (search rules) c.in_err-erase.ensures.cut in
+    let left =
+    wipe_left c.pages.page (g.N.Nor.nor c.args.nor.now) (g.N.Nor.nor c.pages.nor)
+    (g.N.Nor.nor c.erase.new.self) c.requires c.pages.invariant
+    (omega (arith, count, c.pages-page-end.ensures.value, c.pages-test.true)) (search rules)
+    c.in_err-erase.ensures.cut in
     search rules
 
 pub pages-preserved : goal.pages-preserved
@@ -22,6 +25,8 @@ pages-preserved g c =
     let old = g.N.Nor.nor c.args.nor.now in
     let mid = g.N.Nor.nor c.pages.nor in
     elim c.if-not-is_blank.branch [
-      | then-not-is_blank+in_ok-erase w ↦ wiped_erased c.pages.page old mid (g.N.Nor.nor c.if-not-is_blank.nor) c.pages.invariant (search rules) (search rules)
-      | else-not-is_blank w ↦ rw w.nor-is (wiped_blank c.pages.page old mid c.pages.invariant (search rules))
+      | then-not-is_blank+in_ok-erase w ↦ wiped_erased c.pages.page old mid
+          (g.N.Nor.nor c.if-not-is_blank.nor) c.pages.invariant (search rules) (search rules)
+      | else-not-is_blank w ↦ rw w.nor-is
+          (wiped_blank c.pages.page old mid c.pages.invariant (search rules))
     ]

@@ -7,17 +7,27 @@ use Rattle.ee_part.proofs.dump.import_image.Goals as goal
 
 pub returns-in-Err-clause-names : goal.returns-in-Err-clause-names
 returns-in-Err-clause-names g c = λ cause some applies.
-    one_import_fault c.args.form c.args.shape c.args.dump.now cause c.import_fault.result some applies
-    (record { cause = c.in-Err.fault; applies = c.in-Err.ensures.fault; fault_is = c.import_fault.ensures })
+    one_import_fault c.args.form c.args.shape c.args.dump.now cause c.import_fault.result some
+    applies
+    (record {
+      cause = c.in-Err.fault;
+      applies = c.in-Err.ensures.fault;
+      fault_is = c.import_fault.ensures;
+    })
 
 pub returns-in_err-text_of-clause-fault : goal.returns-in_err-text_of-clause-fault
 returns-in_err-text_of-clause-fault g c =
     let p = err_from_is_err_and c.from_residual.result c.from_residual.ensures.1 in
-    rw p.1 (rw p.2 (import_memory c.args.form c.args.shape c.args.dump.now (device_of c.in-Ok.flash) (formed_of c.in-Ok.flash) c.in-Ok.ensures.read))
+    rw p.1
+    (rw p.2
+    (import_memory c.args.form c.args.shape c.args.dump.now (device_of c.in-Ok.flash)
+    (formed_of c.in-Ok.flash) c.in-Ok.ensures.read))
 
 pub returns-clause-imported : goal.returns-clause-imported
-returns-clause-imported g c = record { device = device_of c.in-Ok.flash; made = c.in-Ok.ensures.read; spelled = search rules }
+returns-clause-imported g c =
+    record { device = device_of c.in-Ok.flash; made = c.in-Ok.ensures.read; spelled = search rules }
 
 pub returns-clause-names : goal.returns-clause-names
 returns-clause-names g c = λ cause some applies.
-    imported_good c.args.form c.args.shape c.args.dump.now c.in_ok-text_of.field-0.items cause (returns-clause-imported g c) some applies
+    imported_good c.args.form c.args.shape c.args.dump.now c.in_ok-text_of.field-0.items cause
+    (returns-clause-imported g c) some applies

@@ -7,8 +7,13 @@ use Rattle.ee_part.proofs.inspecting.inspect_text.Goals as goal
 
 pub returns-in_err-findings-clause-fault : goal.returns-in_err-findings-clause-fault
 returns-in_err-findings-clause-fault g c =
-    let p = err_from_is_err_and c.from_residual-in_err-findings.result c.from_residual-in_err-findings.ensures.1 in
-    rw p.1 (rw p.2 (no_memory_for Image c.args.image.now (device_of c.in_ok-flash.flash) c.in_ok-flash.ensures.read))
+    let p =
+    err_from_is_err_and c.from_residual-in_err-findings.result
+    c.from_residual-in_err-findings.ensures.1 in
+    rw p.1
+    (rw p.2
+    (no_memory_for Image c.args.image.now (device_of c.in_ok-flash.flash)
+    c.in_ok-flash.ensures.read))
 
 pub returns-clause-inspected : goal.returns-clause-inspected
 returns-clause-inspected g c = search rules

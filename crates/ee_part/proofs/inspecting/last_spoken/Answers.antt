@@ -5,7 +5,9 @@ use Rattle.ee_part.proofs.Inspections.{last_in_fill, slot_in_range, spoken_more}
 use Rattle.ee_part.proofs.inspecting.last_spoken.Goals as goal
 
 pub slot_word-requires : goal.slot_word-requires
-slot_word-requires g c = slot_in_range (g.F.Flash.device c.args.flash.now) c.args.layout.now c.requires c.slots.slot c.slots-test.true
+slot_word-requires g c =
+    slot_in_range (g.F.Flash.device c.args.flash.now) c.args.layout.now c.requires c.slots.slot
+    c.slots-test.true
 
 pub slots-preserved : goal.slots-preserved
 slots-preserved g c =
@@ -13,8 +15,13 @@ slots-preserved g c =
     let slots = live_slots device c.args.layout.now in
     let long = length-slots c.args.layout.now.side device c.requires.live.formed in
     let within : c.slots.slot < length slots =
-    omega (arith, long, slot_in_range device c.args.layout.now c.requires c.slots.slot c.slots-test.true) in
-    spoken_more slots c.slots.slot c.slot_word.result c.slots.spoken.items c.note_address.new.spoken.items within c.slot_word.ensures
+    omega (
+      arith,
+      long,
+      slot_in_range device c.args.layout.now c.requires c.slots.slot c.slots-test.true,
+    ) in
+    spoken_more slots c.slots.slot c.slot_word.result c.slots.spoken.items
+    c.note_address.new.spoken.items within c.slot_word.ensures
     c.note_address.ensures.long c.note_address.ensures.each c.slots.invariant
 
 pub returns : goal.returns

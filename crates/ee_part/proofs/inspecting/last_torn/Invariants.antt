@@ -5,4 +5,5 @@ use Rattle.ee_part.proofs.inspecting.last_torn.Given as goal
 
 -- the last torn one of the slots so far
 abbrev pub invariant-slots : goal.invariant-slots
-invariant-slots g l = l.last ≡ up_to_last is_torn (take l.slot (live_slots (g.F.Flash.device l.flash) l.layout))
+invariant-slots g l =
+    l.last ≡ up_to_last is_torn (take l.slot (live_slots (g.F.Flash.device l.flash) l.layout))

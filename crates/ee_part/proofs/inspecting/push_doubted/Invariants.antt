@@ -5,4 +5,8 @@ use Rattle.ee_part.proofs.inspecting.push_doubted.Given as goal
 
 -- the lines of the addresses so far are written
 abbrev pub invariant-addresses : goal.invariant-addresses
-invariant-addresses g l = l.out.items ≡ l.fn.out.items ++ each_below l.address (λ address. doubt_line (is_before (get_or l.spoken address 0) l.torn) address)
+invariant-addresses g l =
+    l.out.items
+    ≡ l.fn.out.items
+    ++ each_below l.address
+    (λ address. doubt_line (is_before (get_or l.spoken address 0) l.torn) address)

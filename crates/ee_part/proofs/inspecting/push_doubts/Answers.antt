@@ -7,5 +7,8 @@ use Rattle.ee_part.proofs.inspecting.push_doubts.Goals as goal
 pub returns : goal.returns
 returns g c =
     let slots = live_slots (g.F.Flash.device c.args.flash.now) c.args.layout.now in
-    let told = ap (λ l. c.args.out.now.items ++ l) (told_doubts slots c.args.spoken.now c.last_torn.result c.last_torn.ensures c.requires.spoken) in
+    let told =
+    ap (λ l. c.args.out.now.items ++ l)
+    (told_doubts slots c.args.spoken.now c.last_torn.result c.last_torn.ensures
+    c.requires.spoken) in
     on_ok_weaker c.push_doubted.result (λ here. here ∙ told) c.push_doubted.ensures

@@ -6,5 +6,6 @@ pages-init g c = told_none _ c.args.out.now.items
 
 pub pages-preserved : goal.pages-preserved
 pages-preserved g c =
-    told_more c.pages.page _ c.args.out.now.items c.pages.out.items c.push_torn_in.new.out.items c.pages.invariant
+    told_more c.pages.page _ c.args.out.now.items c.pages.out.items c.push_torn_in.new.out.items
+    c.pages.invariant
     c.in_ok-push_torn_in.ensures

@@ -7,4 +7,7 @@ use Rattle.ee_part.proofs.inspecting.push_torn.Given as goal
 abbrev pub invariant-pages : goal.invariant-pages
 invariant-pages g l =
     let device = g.F.Flash.device l.flash in
-    l.out.items ≡ l.fn.out.items ++ each_below l.page (λ page. each_below device.size.words (torn_line device l.live page))
+    l.out.items
+    ≡ l.fn.out.items
+    ++ each_below l.page
+    (λ page. each_below device.size.words (torn_line device l.live page))

@@ -5,4 +5,6 @@ use Rattle.ee_part.proofs.inspecting.push_torn_in.Given as goal
 
 -- the lines of the places so far are written
 abbrev pub invariant-places : goal.invariant-places
-invariant-places g l = l.out.items ≡ l.fn.out.items ++ each_below l.at (torn_line (g.F.Flash.device l.flash) l.live l.page)
+invariant-places g l =
+    l.out.items
+    ≡ l.fn.out.items ++ each_below l.at (torn_line (g.F.Flash.device l.flash) l.live l.page)

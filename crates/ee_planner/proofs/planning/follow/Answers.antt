@@ -11,6 +11,9 @@ loop-change-preserved g c =
     let l = c.loop-change in
     record {
       counted = omega (arith, l.invariant.counted);
-      so_far = made_more c.args.start.now c.args.trace.now l.change-index (l.number + 1) c.change-item.result l.store c.make.new.self (omega (arith, l.invariant.counted))
-          c.loop-change-test.true l.invariant.so_far c.change-item.is c.in_ok-make.ensures.made c.in_ok-make.ensures.fits;
+      so_far =
+          made_more c.args.start.now c.args.trace.now l.change-index (l.number + 1)
+          c.change-item.result l.store c.make.new.self (omega (arith, l.invariant.counted))
+          c.loop-change-test.true l.invariant.so_far c.change-item.is c.in_ok-make.ensures.made
+          c.in_ok-make.ensures.fits;
     }

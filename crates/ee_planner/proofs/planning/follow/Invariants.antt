@@ -4,4 +4,7 @@ use Rattle.ee_planner.proofs.planning.follow.Given as goal
 
 -- so many changes are made, and the store stands as it does after them
 abbrev pub invariant-loop-change : goal.invariant-loop-change
-invariant-loop-change g l = record { counted : l.number ≡ l.change-index; so_far : HasMade l.fn.start l.fn.trace l.change-index l.store }
+invariant-loop-change g l = record {
+  counted : l.number ≡ l.change-index;
+  so_far : HasMade l.fn.start l.fn.trace l.change-index l.store;
+}

@@ -16,10 +16,13 @@ pub returns-clause-walked : goal.returns-clause-walked
 returns-clause-walked g c =
     let step = c.saturating_sub-step.result + 1 in
     let left : c.if-more-left.times ≤ (c.args.total - c.args.walk.place) / step =
-    elim c.if-more-left.branch [ then-more-left w ↦ omega arith | else-more-left w ↦ omega arith ] in
+    elim c.if-more-left.branch
+    [ then-more-left w ↦ omega arith | else-more-left w ↦ omega arith ] in
     let more : c.if-more-left.times ≤ c.flat.result / step + 1 =
-    elim c.if-more-left.branch [ then-more-left w ↦ omega arith | else-more-left w ↦ omega arith ] in
-    stepped (count_after c.args.counts.now) c.args.slots c.args.total c.flat.result step c.if-more-left.times c.args.walk _ c.requires.walked
+    elim c.if-more-left.branch
+    [ then-more-left w ↦ omega arith | else-more-left w ↦ omega arith ] in
+    stepped (count_after c.args.counts.now) c.args.slots c.args.total c.flat.result step
+    c.if-more-left.times c.args.walk _ c.requires.walked
     (search rules) c.flat.ensures more left (search rules) (search rules)
 
 pub returns-clause-last : goal.returns-clause-last

@@ -10,7 +10,15 @@ use Rattle.ee_replay.proofs.replaying.left_by.Goals as goal
 
 pub returns-clause-run : goal.returns-clause-run
 returns-clause-run g c = λ old script traced start proper stays.
-    let at = c.into_store-store.ensures ∙ ap (λ (memory : Memory). memory.device) c.settle_to_count.ensures in
-    let there = subst (λ (device : Device). IsTraced old script (open_point device) c.args.server.notes c.args.lines.items) (sym at) traced in
-    is_run_on old (device_of c.flash.result.now) _ script _ _ (c.in_ok-report.ensures old script there start proper stays)
-    (store_sound _ (subst IsStore c.store.view_is c.store.invariant.store)) c.flash.ensures c.in_ok-image.ensures
+    let at =
+    c.into_store-store.ensures
+    ∙ ap (λ (memory : Memory). memory.device) c.settle_to_count.ensures in
+    let there =
+    subst
+    (λ (device : Device).
+    IsTraced old script (open_point device) c.args.server.notes c.args.lines.items)
+    (sym at) traced in
+    is_run_on old (device_of c.flash.result.now) _ script _ _
+    (c.in_ok-report.ensures old script there start proper stays)
+    (store_sound _ (subst IsStore c.store.view_is c.store.invariant.store)) c.flash.ensures
+    c.in_ok-image.ensures

@@ -11,11 +11,18 @@ use Rattle.ee_replay.proofs.replaying.run_on.Goals as goal
 pub returns-clause-run : goal.returns-clause-run
 returns-clause-run g c =
     let same = c.in_ok-desk.ensures.same in
-    let traced = is_traced (λ server. with_notes (stand_of server.desk) server.notes) c.args.desk.device _ _ _ _ c.in_ok-server.ensures.answered
-    (c.new-server.ensures.point ∙ ap serving_on same) (c.new-server.ensures.notes ∙ ap (λ (device : Device). no_notes (state_of device).fill) same) in
+    let traced =
+    is_traced (λ server. with_notes (stand_of server.desk) server.notes) c.args.desk.device _ _
+    _ _ c.in_ok-server.ensures.answered
+    (c.new-server.ensures.point ∙ ap serving_on same)
+    (c.new-server.ensures.notes
+    ∙ ap (λ (device : Device). no_notes (state_of device).fill) same) in
     let proper = subst IsProper c.start.view_is c.start.invariant.proper in
-    IfOk-weaker c.left_by.result _ _ (λ replayed made. made _ _ traced c.in_ok-desk.ensures.start proper c.requires) c.left_by.ensures.run
+    IfOk-weaker c.left_by.result _ _
+    (λ replayed made. made _ _ traced c.in_ok-desk.ensures.start proper c.requires)
+    c.left_by.ensures.run
 
 -- memory ran out
 pub returns-clause-fault : goal.returns-clause-fault
-returns-clause-fault g c = IfErr-weaker c.left_by.result _ _ (λ fault none. rw none tt) c.left_by.ensures.fault
+returns-clause-fault g c =
+    IfErr-weaker c.left_by.result _ _ (λ fault none. rw none tt) c.left_by.ensures.fault

@@ -18,15 +18,24 @@ returns-in_err-desk-clause-fault g c =
 pub returns-clause-fault : goal.returns-clause-fault
 returns-clause-fault g c =
     let all = c.in_ok-server.ensures.answered in
-    IfErr-weaker c.left_by.result _ _ (λ fault none. out_of_memory _ _ all.text fault all.given none) c.left_by.ensures.fault
+    IfErr-weaker c.left_by.result _ _
+    (λ fault none. out_of_memory _ _ all.text fault all.given none) c.left_by.ensures.fault
 
 pub returns-clause-run : goal.returns-clause-run
 returns-clause-run g c =
     let all = c.in_ok-server.ensures.answered in
     let same = c.in_ok-desk.ensures.same in
-    let traced = is_traced (λ server. with_notes (stand_of server.desk) server.notes) c.args.desk.device _ _ _ _ all.answered
-    (c.new-server.ensures.point ∙ ap serving_on same) (c.new-server.ensures.notes ∙ ap (λ (device : Device). no_notes (state_of device).fill) same) in
+    let traced =
+    is_traced (λ server. with_notes (stand_of server.desk) server.notes) c.args.desk.device _ _
+    _ _ all.answered
+    (c.new-server.ensures.point ∙ ap serving_on same)
+    (c.new-server.ensures.notes
+    ∙ ap (λ (device : Device). no_notes (state_of device).fill) same) in
     let proper = subst IsProper c.start.view_is c.start.invariant.proper in
     IfOk-weaker c.left_by.result _ _
-    (λ replayed made. (all.text, record { given = all.given; ended = all.ended }, made _ _ traced c.in_ok-desk.ensures.start proper c.requires))
+    (λ replayed made. (
+      all.text,
+      record { given = all.given; ended = all.ended },
+      made _ _ traced c.in_ok-desk.ensures.start proper c.requires,
+    ))
     c.left_by.ensures.run

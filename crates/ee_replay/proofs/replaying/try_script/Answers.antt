@@ -8,10 +8,16 @@ use Rattle.ee_replay.proofs.replaying.try_script.Goals as goal
 pub returns-clause-tried : goal.returns-clause-tried
 returns-clause-tried g c =
     let new = c.in_ok-new.ensures in
-    IfOk-weaker c.run_on.result _ _ (λ tried run. search (rules, is_tried, new, run)) c.run_on.ensures.run
+    IfOk-weaker c.run_on.result _ _ (λ tried run. search (rules, is_tried, new, run))
+    c.run_on.ensures.run
 
 pub returns-clause-bad : goal.returns-clause-bad
 returns-clause-bad g c = λ n bad.
-    MatchResult-from_both c.run_on.result (λ tried. ⊥) (λ fault. (fault ≡ Script n) ⊎ (fault ≡ Memory))
-    (IfOk-weaker c.run_on.result _ _ (λ tried run. run_is_good _ _ c.args.script.now _ _ (Script n) run.run (script_is_some n) bad) c.run_on.ensures.run)
-    (IfErr-weaker c.run_on.result _ _ (λ fault met. one_run_fault c.args.script.now (Script n) fault (script_is_some n) bad met) c.run_on.ensures.fault)
+    MatchResult-from_both c.run_on.result (λ tried. ⊥)
+    (λ fault. (fault ≡ Script n) ⊎ (fault ≡ Memory))
+    (IfOk-weaker c.run_on.result _ _
+    (λ tried run. run_is_good _ _ c.args.script.now _ _ (Script n) run.run (script_is_some n) bad)
+    c.run_on.ensures.run)
+    (IfErr-weaker c.run_on.result _ _
+    (λ fault met. one_run_fault c.args.script.now (Script n) fault (script_is_some n) bad met)
+    c.run_on.ensures.fault)

@@ -5,4 +5,6 @@ use Rattle.ee_script.proofs.parse.read_command.Goals as goal
 
 pub returns-in_default-clause-only : goal.returns-in_default-clause-only
 returns-in_default-clause-only c = λ command proper spelled.
-    let same = c.leading_command.ensures.only command [] proper tt (spelled ∙ sym (append-nil _)) in grind (arith, common_steps, same)
+    let same =
+    c.leading_command.ensures.only command [] proper tt (spelled ∙ sym (append-nil _)) in grind
+    (arith, common_steps, same)

@@ -12,8 +12,11 @@ returns-then-has g c =
       refl,
       (
         record { name = c.args.name.now; numbers = c.in-Some-checked.numbers },
-        entry_is c.args.name.now (view c.args.value.now) c.in-Some.fields c.in-Some-checked.numbers named c.in-Some.ensures.found c.in-Some-checked.ensures.found c.in-Some-checked.ensures.proper,
-        taken_found c.args.earlier.now c.in-Some-checked.numbers.address (sym c.has.ensures ∙ c.if-has.true),
+        entry_is c.args.name.now (view c.args.value.now) c.in-Some.fields c.in-Some-checked.numbers
+            named c.in-Some.ensures.found c.in-Some-checked.ensures.found
+            c.in-Some-checked.ensures.proper,
+        taken_found c.args.earlier.now c.in-Some-checked.numbers.address
+            (sym c.has.ensures ∙ c.if-has.true),
       ),
     )
 
@@ -21,5 +24,12 @@ pub returns : goal.returns
 returns g c = grind (arith, common_steps, entry_made, entry_is, none_taken)
 
 pub returns-in_default-checked : goal.returns-in_default-checked
-returns-in_default-checked g c =
-    (refl, (sym c.is_proper_name.ensures ∙ c.if-not-is_proper_name.false, c.in-Some.fields, c.in-Some.ensures.found, c.in_default-checked.ensures.none))
+returns-in_default-checked g c = (
+  refl,
+  (
+    sym c.is_proper_name.ensures ∙ c.if-not-is_proper_name.false,
+    c.in-Some.fields,
+    c.in-Some.ensures.found,
+    c.in_default-checked.ensures.none,
+  ),
+)

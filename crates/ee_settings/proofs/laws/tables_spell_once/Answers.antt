@@ -5,7 +5,8 @@ use Rattle.ee_settings.specs.Setting.{Setting}
 use Rattle.ee_settings.proofs.Once.{entries_once}
 use Rattle.ee_settings.proofs.laws.tables_spell_once.Goals as goal
 
-one_schema : (members : Members) (one other : List Setting) → GivesSchema members (Ok one) → GivesSchema members (Ok other) → one ≡ other
+one_schema : (members : Members) (one other : List Setting) → GivesSchema members (Ok one)
+    → GivesSchema members (Ok other) → one ≡ other
 one_schema members one other h k = entries_once (entries_of members) one other h.0.each k.0.each
 
 pub returns : goal.returns

@@ -3,7 +3,9 @@ use Rattle.ee_settings.proofs.Trees.{entries_counted, whole_found}
 use Rattle.ee_settings.proofs.numbers.fields_in.Goals as goal
 
 pub returns-then-len-ne4-clause-none : goal.returns-then-len-ne4-clause-none
-returns-then-len-ne4-clause-none c = λ fields h. c.if-len-ne4.true (c.len.ensures.len ∙ sym (entries_counted c.args.table.now.entries) ∙ h.four)
+returns-then-len-ne4-clause-none c =
+    λ fields h.
+    c.if-len-ne4.true (c.len.ensures.len ∙ sym (entries_counted c.args.table.now.entries) ∙ h.four)
 
 pub returns-clause-found : goal.returns-clause-found
 returns-clause-found c = record {

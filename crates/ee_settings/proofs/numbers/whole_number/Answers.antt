@@ -4,11 +4,13 @@ use Rattle.ee_settings.proofs.numbers.whole_number.Goals as goal
 
 pub returns : goal.returns
 returns c =
-    let found = table_get c.get.result c.args.key.now c.args.table.now.entries c.get.ensures.value in
+    let found =
+    table_get c.get.result c.args.key.now c.args.table.now.entries c.get.ensures.value in
     c.as_integer.ensures ∙ rw (← rw c.in_ok-get.was at found)
 
 pub returns-in_err-get : goal.returns-in_err-get
 returns-in_err-get c =
-    let found = table_get c.get.result c.args.key.now c.args.table.now.entries c.get.ensures.value in
+    let found =
+    table_get c.get.result c.args.key.now c.args.table.now.entries c.get.ensures.value in
     let none : c.from_residual.result ≡ None = search rules in
     none ∙ rw (← rw c.in_err-get.was at found)

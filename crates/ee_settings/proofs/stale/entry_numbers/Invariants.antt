@@ -4,4 +4,5 @@ use Rattle.ee_settings.proofs.stale.entry_numbers.Given as goal
 
 -- the entries so far
 abbrev pub invariant-loop-stale : goal.invariant-loop-stale
-invariant-loop-stale g l = l.entries.items ≡ map (λ (one : Stale). one.entry) (take l.stale-index l.values)
+invariant-loop-stale g l =
+    l.entries.items ≡ map (λ (one : Stale). one.entry) (take l.stale-index l.values)

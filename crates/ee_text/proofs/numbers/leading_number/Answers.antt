@@ -10,24 +10,31 @@ returns-in_err-value-clause-only c = λ n behind small ends e.
 
 pub returns-then-not-is_plain-clause-only : goal.returns-then-not-is_plain-clause-only
 returns-then-not-is_plain-clause-only c = λ n behind small ends e.
-    let one = one_number c.args.text.now behind c.in_ok-value.count c.in_ok-value.value n c.in_ok-value.ensures.found.0 c.in_ok-value.ensures.found.1 (omega arith) ends e in
+    let one =
+    one_number c.args.text.now behind c.in_ok-value.count c.in_ok-value.value n
+    c.in_ok-value.ensures.found.0 c.in_ok-value.ensures.found.1 (omega arith) ends e in
     absurd (not_spelled _ n (omega arith) c.if-not-is_plain.ensures.not_plain one.2)
 
 pub returns-then-value-from-clause-only : goal.returns-then-value-from-clause-only
 returns-then-value-from-clause-only c = λ n behind small ends e.
-    let one = one_number c.args.text.now behind c.in_ok-value.count c.in_ok-value.value n c.in_ok-value.ensures.found.0 c.in_ok-value.ensures.found.1 (omega arith) ends e in
+    let one =
+    one_number c.args.text.now behind c.in_ok-value.count c.in_ok-value.value n
+    c.in_ok-value.ensures.found.0 c.in_ok-value.ensures.found.1 (omega arith) ends e in
     absurd (search (arith, one.0))
 
 pub returns-clause-found : goal.returns-clause-found
 returns-clause-found c =
     let rest = rest_is c.args.text.now c.in_ok-value.count in (
       search arith,
-      spelled c.args.text.now c.in_ok-value.count c.in_ok-value.value c.in_ok-value.ensures.found.0 (omega arith) c.if-not-is_plain.ensures.plain.0 c.if-not-is_plain.ensures.plain.1
+      spelled c.args.text.now c.in_ok-value.count c.in_ok-value.value c.in_ok-value.ensures.found.0
+          (omega arith) c.if-not-is_plain.ensures.plain.0 c.if-not-is_plain.ensures.plain.1
           ∙ ap (λ l. decimal c.in_ok-value.value ++ l) (sym rest),
       subst StartsWithNoDigit (sym rest) c.in_ok-value.ensures.found.1,
     )
 
 pub returns-clause-only : goal.returns-clause-only
 returns-clause-only c = λ n behind small ends e.
-    let one = one_number c.args.text.now behind c.in_ok-value.count c.in_ok-value.value n c.in_ok-value.ensures.found.0 c.in_ok-value.ensures.found.1 (omega arith) ends e in
+    let one =
+    one_number c.args.text.now behind c.in_ok-value.count c.in_ok-value.value n
+    c.in_ok-value.ensures.found.0 c.in_ok-value.ensures.found.1 (omega arith) ends e in
     (one.0, rest_is c.args.text.now c.in_ok-value.count ∙ one.1)

@@ -16,8 +16,10 @@ pub returns-then-is_last-clause-writes : goal.returns-then-is_last-clause-writes
 returns-then-is_last-clause-writes g c = (
   c.requires.on,
   c.in_default.ensures.once,
-  some_place (capacity c.args.self.now) (state_of c.args.self.now) c.args.puts.now c.requires.several c.if-is_full_for_all.ensures,
-  no_generation (capacity c.args.self.now) (state_of c.args.self.now) c.args.puts.now c.requires.several c.if-is_last.ensures,
+  some_place (capacity c.args.self.now) (state_of c.args.self.now) c.args.puts.now
+      c.requires.several c.if-is_full_for_all.ensures,
+  no_generation (capacity c.args.self.now) (state_of c.args.self.now) c.args.puts.now
+      c.requires.several c.if-is_last.ensures,
   refl,
 )
 

@@ -11,9 +11,13 @@ pub returns : goal.returns
 returns g c =
     let flash = c.args.self.now in
     let cells = flash.cells.items in
-    let image : pages_of flash.shape (set cells (c.page_start-start.result + c.args.at) c.args.word) ≡ _ =
-    ap (λ place. pages_of flash.shape (set cells place c.args.word)) (ap (λ (start : ℕ). start + c.args.at) c.page_start-start.ensures.value)
-    ∙ pages_of-set flash.shape cells c.args.page c.args.at c.args.word (sym flash.cells.ok.0 ∙ flash.cells_length) c.requires.page_in_range c.requires.place_in_range in
+    let image : pages_of flash.shape (set cells (c.page_start-start.result + c.args.at) c.args.word)
+    ≡ _ =
+    ap (λ place. pages_of flash.shape (set cells place c.args.word))
+    (ap (λ (start : ℕ). start + c.args.at) c.page_start-start.ensures.value)
+    ∙ pages_of-set flash.shape cells c.args.page c.args.at c.args.word
+    (sym flash.cells.ok.0 ∙ flash.cells_length) c.requires.page_in_range
+    c.requires.place_in_range in
     ap (λ (pages : List (List Word)). let old : Listed = state_of_list flash in
     let device : Device = device_of_list flash in
     let now : Listed = record old { device = record device { image = pages } } in now) image
@@ -27,4 +31,5 @@ index_mut-requires g c = omega (arith, c.args.self.now.cells.ok.0)
 pub invariant_of-self-clause-below_all_ones : goal.invariant_of-self-clause-below_all_ones
 invariant_of-self-clause-below_all_ones g c =
     let flash = c.args.self.now in
-    All-set IsBelowAllOnes flash.cells.items (c.page_start-start.result + c.args.at) c.args.word c.requires.below_all_ones flash.below_all_ones
+    All-set IsBelowAllOnes flash.cells.items (c.page_start-start.result + c.args.at) c.args.word
+    c.requires.below_all_ones flash.below_all_ones

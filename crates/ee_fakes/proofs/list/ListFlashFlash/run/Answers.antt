@@ -12,6 +12,7 @@ returns g c =
     let formed = IsFormed-listed flash.shape flash.cells.items flash.wear.items flash.cuts flash.on
     flash.within_limits (sym flash.cells.ok.0 ∙ flash.cells_length) flash.below_all_ones
     (sym flash.wear.ok.0 ∙ flash.wear_length) flash.wear_fits flash.cuts_fit in
-    same_run device c.args.page c.args.at c.loop-behind.room formed c.requires.page_in_range (omega arith)
+    same_run device c.args.page c.args.at c.loop-behind.room formed c.requires.page_in_range
+    (omega arith)
     (λ k h. c.loop-behind.invariant k (omega arith))
     ∙ ap (λ (count : ℕ). run_of device c.args.page c.args.at count) c.loop-behind.auto.room

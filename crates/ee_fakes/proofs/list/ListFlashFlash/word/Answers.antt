@@ -8,7 +8,11 @@ pub returns-clause-value : goal.returns-clause-value
 returns-clause-value g c =
     let flash = c.args.self.now in
     let cells = flash.cells.items in
-    let within : (c.page_start.result + c.args.at) < length cells = omega (arith, flash.cells.ok.0) in
+    let within : (c.page_start.result + c.args.at) < length cells =
+    omega (arith, flash.cells.ok.0) in
     get_or_read cells (c.page_start.result + c.args.at) _ within c.index.ensures Erased
-    ∙ ap (λ place. get_or cells place Erased) (ap (λ (start : ℕ). start + c.args.at) c.page_start.ensures.value)
-    ∙ sym (get_or-pages_of flash.shape cells c.args.page c.args.at c.requires.page_in_range c.requires.place_in_range)
+    ∙ ap (λ place. get_or cells place Erased)
+    (ap (λ (start : ℕ). start + c.args.at) c.page_start.ensures.value)
+    ∙ sym
+    (get_or-pages_of flash.shape cells c.args.page c.args.at c.requires.page_in_range
+    c.requires.place_in_range)

@@ -16,23 +16,34 @@ pub invariant_of-self-clause-page_lengths : goal.invariant_of-self-clause-page_l
 invariant_of-self-clause-page_lengths g c =
     let flash = c.args.self.now in
     let found = c.index_mut.result.now in
-    let count = length_found flash.pages.items (number_count flash.shape) c.args.page found (omega (arith, flash.image_length)) c.index_mut.ensures.value flash.page_lengths in
-    let is : c.fill.new.self.items ≡ replicate (number_count flash.shape) all_ones = c.fill.ensures.items (λ y e. e) ∙ ap (λ (count : ℕ). replicate count all_ones) (found.ok.0 ∙ count) in
-    lengths-set flash.pages.items (number_count flash.shape) c.args.page _ (ap length is ∙ length-replicate (number_count flash.shape) all_ones) flash.page_lengths
+    let count =
+    length_found flash.pages.items (number_count flash.shape) c.args.page found
+    (omega (arith, flash.image_length)) c.index_mut.ensures.value flash.page_lengths in
+    let is : c.fill.new.self.items ≡ replicate (number_count flash.shape) all_ones =
+    c.fill.ensures.items (λ y e. e)
+    ∙ ap (λ (count : ℕ). replicate count all_ones) (found.ok.0 ∙ count) in
+    lengths-set flash.pages.items (number_count flash.shape) c.args.page _
+    (ap length is ∙ length-replicate (number_count flash.shape) all_ones) flash.page_lengths
 
 pub invariant_of-self-clause-numbers_fit : goal.invariant_of-self-clause-numbers_fit
 invariant_of-self-clause-numbers_fit g c =
     let flash = c.args.self.now in
     let found = c.index_mut.result.now in
-    fits-set flash.pages.items c.args.page _ (rw (c.fill.ensures.items (λ y e. e)) (All-replicate IsNorNumber (vec_len found) all_ones (omega arith))) flash.numbers_fit
+    fits-set flash.pages.items c.args.page _
+    (rw (c.fill.ensures.items (λ y e. e))
+    (All-replicate IsNorNumber (vec_len found) all_ones (omega arith))) flash.numbers_fit
 
 pub returns : goal.returns
 returns g c =
     let flash = c.args.self.now in
     let found = c.index_mut.result.now in
     let image = map (λ page. page.items) flash.pages.items in
-    let count = length_found flash.pages.items (number_count flash.shape) c.args.page found (omega (arith, flash.image_length)) c.index_mut.ensures.value flash.page_lengths in
-    let is : c.fill.new.self.items ≡ replicate (number_count flash.shape) all_ones = c.fill.ensures.items (λ y e. e) ∙ ap (λ (count : ℕ). replicate count all_ones) (found.ok.0 ∙ count) in
+    let count =
+    length_found flash.pages.items (number_count flash.shape) c.args.page found
+    (omega (arith, flash.image_length)) c.index_mut.ensures.value flash.page_lengths in
+    let is : c.fill.new.self.items ≡ replicate (number_count flash.shape) all_ones =
+    c.fill.ensures.items (λ y e. e)
+    ∙ ap (λ (count : ℕ). replicate count all_ones) (found.ok.0 ∙ count) in
     ap (λ (image : List (List ℕ)). let old : NorDevice = nor_of_list flash in
     let now : NorDevice = record old { image = image } in now)
     (numbers_of-set flash.pages.items c.args.page _ ∙ ap (set image c.args.page) is)

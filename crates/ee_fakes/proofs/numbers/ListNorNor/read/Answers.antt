@@ -7,5 +7,7 @@ pub index-requires-2 : goal.index-requires-2
 index-requires-2 g c =
     let flash = c.args.self.now in
     let found = c.index.result.now in
-    let count = length_found flash.pages.items (number_count flash.shape) c.args.page found (omega (arith, flash.image_length)) c.index.ensures flash.page_lengths in
+    let count =
+    length_found flash.pages.items (number_count flash.shape) c.args.page found
+    (omega (arith, flash.image_length)) c.index.ensures flash.page_lengths in
     omega (arith, found.ok.0, count)

@@ -7,5 +7,8 @@ use Rattle.ee_flash.proofs.cells.Cells.tear.Given as goal
 abbrev pub invariant-loop-place : goal.invariant-loop-place
 invariant-loop-place g l =
     (length l.self ≡ length l.fn.self)
-    × ((k : ℕ) → k < l.place - l.start → get_or l.self (l.start + k) Erased ≡ left_at l.tear k (get_or l.fn.self (l.start + k) Erased))
-    × ((place : ℕ) → (place < l.start) ⊎ (l.place ≤ place) → get_or l.self place Erased ≡ get_or l.fn.self place Erased)
+    × ((k : ℕ) → k < l.place - l.start
+    → get_or l.self (l.start + k) Erased
+    ≡ left_at l.tear k (get_or l.fn.self (l.start + k) Erased))
+    × ((place : ℕ) → (place < l.start) ⊎ (l.place ≤ place)
+    → get_or l.self place Erased ≡ get_or l.fn.self place Erased)

@@ -9,9 +9,11 @@ use Rattle.ee_flash.proofs.memory.MemFlash.blank.Goals as goal
 pub returns : goal.returns
 returns g c =
     let size = c.args.shape in
-    let cells : c.in_ok-cells.cells ≡ replicate (page_count size * size.words) Erased = search rules in
+    let cells : c.in_ok-cells.cells ≡ replicate (page_count size * size.words) Erased =
+    search rules in
     let wear : c.in_ok-wear.wear.items ≡ replicate (page_count size) 0 = search rules in
-    let image : pages_of size c.in_ok-cells.cells ≡ _ = ap (pages_of size) cells ∙ pages_of-replicate size Erased in
+    let image : pages_of size c.in_ok-cells.cells ≡ _ =
+    ap (pages_of size) cells ∙ pages_of-replicate size Erased in
     cc
 
 pub invariant_of-result : goal.invariant_of-result

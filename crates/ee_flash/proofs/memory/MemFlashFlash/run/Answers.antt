@@ -5,5 +5,6 @@ use Rattle.ee_flash.proofs.memory.MemFlashFlash.run.Goals as goal
 pub returns : goal.returns
 returns g c =
     let flash = c.args.self.now in
-    same_run_of flash.shape flash.cells c.args.page c.args.at (length c.args.room.now) _ _ c.requires.page_in_range c.requires.places_in_range
+    same_run_of flash.shape flash.cells c.args.page c.args.at (length c.args.room.now) _ _
+    c.requires.page_in_range c.requires.places_in_range
     (ap (λ (start : ℕ). start + c.args.at) c.page_start.ensures.value) c.numbers.ensures

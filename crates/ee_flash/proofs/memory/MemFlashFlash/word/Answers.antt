@@ -7,5 +7,8 @@ pub returns-clause-value : goal.returns-clause-value
 returns-clause-value g c =
     let flash = c.args.self.now in
     c.word.ensures.value
-    ∙ ap (λ place. get_or flash.cells place Erased) (ap (λ (start : ℕ). start + c.args.at) c.page_start.ensures.value)
-    ∙ sym (get_or-pages_of flash.shape flash.cells c.args.page c.args.at c.requires.page_in_range c.requires.place_in_range)
+    ∙ ap (λ place. get_or flash.cells place Erased)
+    (ap (λ (start : ℕ). start + c.args.at) c.page_start.ensures.value)
+    ∙ sym
+    (get_or-pages_of flash.shape flash.cells c.args.page c.args.at c.requires.page_in_range
+    c.requires.place_in_range)

@@ -11,6 +11,7 @@ returns-clause-fits g c = λ on kept.
     let slots = slots_of (set_of c.args.layout.now.side old) in
     let index = slot_for c.args.self.now.list in
     let ready = ready_for slots _ index _ c.requires.layout.fill
-    (kept_ready _ _ (λ address. IsReadyFor slots (Put address 0) (fill_of slots) index) _ kept c.requires.ready) in
+    (kept_ready _ _ (λ address. IsReadyFor slots (Put address 0) (fill_of slots) index) _ kept
+    c.requires.ready) in
     index_appended old _ _ _ _ _ c.requires.layout c.requires.free ready
     c.in_ok-append_change.ensures.written _ c.leave_forgotten.ensures

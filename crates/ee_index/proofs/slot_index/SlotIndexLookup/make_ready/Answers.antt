@@ -7,7 +7,10 @@ use Rattle.ee_index.proofs.slot_index.SlotIndexLookup.make_ready.Goals as goal
 
 pub returns-clause-ready : goal.returns-clause-ready
 returns-clause-ready g c =
-    subst (λ fill. IsReadyFor (slots_of (set_of c.args.layout.now.side (g.F.Flash.device c.args.flash.now))) (Put c.args.put.address 0) fill (slot_for c.insert.new.self)) c.requires.layout.fill
+    subst
+    (λ fill. IsReadyFor
+    (slots_of (set_of c.args.layout.now.side (g.F.Flash.device c.args.flash.now)))
+    (Put c.args.put.address 0) fill (slot_for c.insert.new.self)) c.requires.layout.fill
     (slot_for c.args.self.now.index, c.requires.fits, c.in-Ok.ensures.entered)
 
 pub insert-requires : goal.insert-requires

@@ -11,8 +11,13 @@ returns-clause-ended g c =
       within = draft.within;
       taken = draft.taken;
       image = refl;
-      whole = drafted_whole g.K.Lent.start (steps_of draft.count draft.listed.now) draft.wear.items draft.cuts draft.on draft.fresh draft.whole;
+      whole =
+          drafted_whole g.K.Lent.start (steps_of draft.count draft.listed.now) draft.wear.items
+          draft.cuts draft.on draft.fresh draft.whole;
       zeros = draft.zeros;
-      further = λ once. wears_once_more (all_completed (steps_of draft.count draft.listed.now) g.K.Lent.start) draft.wear.items (draft.further once);
+      further =
+          λ once. wears_once_more
+          (all_completed (steps_of draft.count draft.listed.now) g.K.Lent.start)
+          draft.wear.items (draft.further once);
       full = draft.full;
     }

@@ -17,7 +17,10 @@ invariant_of-result g c =
     let is_start = c.requires.start in
     let none = none_listed c.args.listed.now in
     let wear = c.wear_of.ensures in
-    let fresh = fresh_device c.args.shape c.args.words.now c.args.flags.now c.args.wears.now mirror (λ i. let fits = c.type_inv.words i in omega arith) (λ i. let fits = c.type_inv.wears i in omega arith) in
+    let fresh =
+    fresh_device c.args.shape c.args.words.now c.args.flags.now c.args.wears.now mirror
+    (λ i. let fits = c.type_inv.words i in omega arith)
+    (λ i. let fits = c.type_inv.wears i in omega arith) in
     record {
       fresh = subst IsFresh (sym is_start) fresh;
       same_size = ap (λ (device : Device). device.size) is_start;
@@ -28,18 +31,27 @@ invariant_of-result g c =
       within = omega arith;
       taken = subst (λ (steps : List Step). CanTakeAll steps g.K.Lent.start) (sym none) tt;
       wear_length = ap length wear ∙ mirror.wears_length;
-      wear_fits = subst (λ (counts : List ℕ). All (λ count. count ≤ all_ones) counts) (sym wear) fresh.formed.wear_fits;
+      wear_fits =
+          subst (λ (counts : List ℕ). All (λ count. count ≤ all_ones) counts) (sym wear)
+          fresh.formed.wear_fits;
       cuts_fit = omega arith;
       zeros = All-nil IsZeroIfErase;
       full = λ cut. absurd (cut refl);
       further = λ once. absurd (let never : 0 ≡ 1 = once in omega arith);
-      whole = λ _. (wear ∙ sym (ap (λ (device : Device). device.wear) is_start) ∙ sym (ap (λ (steps : List Step). (all_completed steps g.K.Lent.start).wear) none), refl);
+      whole =
+          λ _. (
+            wear ∙ sym (ap (λ (device : Device). device.wear) is_start)
+                ∙ sym
+                (ap (λ (steps : List Step). (all_completed steps g.K.Lent.start).wear) none),
+            refl,
+          );
     }
 
 pub returns : goal.returns
 returns g c =
     let is_start = c.requires.start in
     let none = none_listed c.args.listed.now in
-    ap (λ (steps : List Step). drafted_device g.K.Lent.start steps c.wear_of.result.items 0 true) none
+    ap (λ (steps : List Step). drafted_device g.K.Lent.start steps c.wear_of.result.items 0 true)
+    none
     ∙ ap (λ (counts : List ℕ). drafted_device g.K.Lent.start [] counts 0 true) c.wear_of.ensures
     ∙ rw is_start refl

@@ -8,5 +8,7 @@ use Rattle.ee_page.proofs.draft.DraftFlashFlash.run.Given as goal
 abbrev pub invariant-loop-behind : goal.invariant-loop-behind
 invariant-loop-behind g l =
     let draft = l.fn.self in
-    let device = drafted_device g.K.Lent.start (steps_of draft.count draft.listed.now) draft.wear.items draft.cuts draft.on in
+    let device =
+    drafted_device g.K.Lent.start (steps_of draft.count draft.listed.now) draft.wear.items
+    draft.cuts draft.on in
     (k : ℕ) → k < l.behind → get_or l.room k 0 ≡ number_of (word_at device l.fn.page (l.fn.at + k))

@@ -6,4 +6,5 @@ use Rattle.ee_page.proofs.draft.DraftFlashFlash.word.Given as goal
 
 -- the word after as many of the steps
 abbrev pub invariant-listed : goal.invariant-listed
-invariant-listed g l = l.word ≡ word_at (all_completed (steps_of l.taken l.self.listed.now) g.K.Lent.start) l.page l.at
+invariant-listed g l =
+    l.word ≡ word_at (all_completed (steps_of l.taken l.self.listed.now) g.K.Lent.start) l.page l.at

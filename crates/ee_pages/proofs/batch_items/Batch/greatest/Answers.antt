@@ -10,4 +10,5 @@ returns-clause-full c = λ above h.
     let few : i.len ≤ length i.numbers = omega (arith, c.self.invariant.0, c.self.invariant.1) in
     let same = ap (λ (b : Batch). b.named) c.self.view_is in
     let full : i.len ≡ BATCH = omega (arith, length_named i.len i.numbers few, ap length same, h) in
-    c.address_in.ensures ∙ last_number i.len i.numbers few BATCH above full (omega arith) ∙ ap (last_named above) same
+    c.address_in.ensures ∙ last_number i.len i.numbers few BATCH above full (omega arith)
+    ∙ ap (last_named above) same

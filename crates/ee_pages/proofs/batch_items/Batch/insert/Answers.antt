@@ -13,5 +13,7 @@ returns c =
     let few : i.len ≤ length i.numbers = omega (arith, c.self.invariant.0, c.self.invariant.1) in
     let long = length_named i.len i.numbers few in
     let same = ap (λ (b : Batch). length b.named) c.self.view_is in
-    rw (sym (ap (λ (b : Batch). b.named) c.self.view_is)) (put_among BATCH i.len c.args.place c.one_more-end.result c.args.number i.numbers _
-    (omega (arith, long, same, c.requires.within)) few c.self.invariant.0 c.one_more-end.ensures.room c.one_more-end.ensures.full c.put_in.ensures.put)
+    rw (sym (ap (λ (b : Batch). b.named) c.self.view_is)) (put_among BATCH i.len c.args.place
+    c.one_more-end.result c.args.number i.numbers _
+    (omega (arith, long, same, c.requires.within)) few c.self.invariant.0
+    c.one_more-end.ensures.room c.one_more-end.ensures.full c.put_in.ensures.put)

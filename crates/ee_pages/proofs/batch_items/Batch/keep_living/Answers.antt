@@ -8,4 +8,5 @@ pub returns-clause-proper : goal.returns-clause-proper
 returns-clause-proper c =
     let kept = c.keep-self-inside.new.numbers in
     let count = c.keep-self-inside.result in
-    proper_items (take count kept) (All-take IsOfAddress count kept (c.keep-self-inside.ensures.proper c.self.invariant.2))
+    proper_items (take count kept)
+    (All-take IsOfAddress count kept (c.keep-self-inside.ensures.proper c.self.invariant.2))

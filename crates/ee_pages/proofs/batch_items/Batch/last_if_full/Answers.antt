@@ -5,7 +5,8 @@ use Rattle.ee_pages.specs.declared.batch_items.TheConstants.{BATCH}
 use Rattle.ee_pages.proofs.BatchLists.{last_number, length_named}
 use Rattle.ee_pages.proofs.batch_items.Batch.last_if_full.Goals as goal
 
-some_is : (found : Option ℕ) (number last : ℕ) → IfSome found (λ address. address ≡ number) → number ≡ last → IfSome found (λ address. address ≡ last)
+some_is : (found : Option ℕ) (number last : ℕ) → IfSome found (λ address. address ≡ number)
+    → number ≡ last → IfSome found (λ address. address ≡ last)
 some_is None number last is same = tt
 some_is (Some address) number last is same = is ∙ same
 
@@ -18,5 +19,7 @@ returns-clause-last c = λ above.
     let few : i.len ≤ length i.numbers = omega (arith, c.self.invariant.0, c.self.invariant.1) in
     let same = ap (λ (b : Batch). b.named) c.self.view_is in
     let full : i.len ≡ BATCH = omega (arith, c.self.invariant.0, c.if-self-lt-BATCH.false) in
-    some_is c.new.result c.address_in.result (last_named above c.args.self.now.named) c.new.ensures.number
-    (c.address_in.ensures ∙ last_number i.len i.numbers few BATCH above full (omega arith) ∙ ap (last_named above) same)
+    some_is c.new.result c.address_in.result (last_named above c.args.self.now.named)
+    c.new.ensures.number
+    (c.address_in.ensures ∙ last_number i.len i.numbers few BATCH above full (omega arith)
+    ∙ ap (last_named above) same)

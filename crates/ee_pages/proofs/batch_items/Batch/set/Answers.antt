@@ -7,4 +7,5 @@ pub returns : goal.returns
 returns c =
     let i = c.self.inside in
     let few : i.len ≤ length i.numbers = omega (arith, c.self.invariant.0, c.self.invariant.1) in
-    rw (sym (ap (λ (b : Batch). b.named) c.self.view_is)) (set_anew i.len i.numbers few c.args.place c.args.number)
+    rw (sym (ap (λ (b : Batch). b.named) c.self.view_is))
+    (set_anew i.len i.numbers few c.args.place c.args.number)

@@ -9,9 +9,15 @@ pub invariant_of-self : goal.invariant_of-self
 invariant_of-self g c = search (rules, safe_erased)
 
 pub returns-clause-done : goal.returns-clause-done
-returns-clause-done g c = on_ok_weaker c.erase.result (λ done. ap paired_device done ∙ paired_device-erased (g.N.Nor.nor c.args.self.now.nor) c.args.page) c.erase.ensures.done
+returns-clause-done g c =
+    on_ok_weaker c.erase.result
+    (λ done. ap paired_device done
+    ∙ paired_device-erased (g.N.Nor.nor c.args.self.now.nor) c.args.page)
+    c.erase.ensures.done
 
 pub returns-clause-cut : goal.returns-clause-cut
 returns-clause-cut g c =
     let formed = g.met.N.Nor.formed in
-    on_err_weaker c.erase.result (erase_left _ _ c.args.page (formed c.args.self.now.nor) (formed c.erase.new.self) c.requires c.args.self.now.safe) c.erase.ensures.cut
+    on_err_weaker c.erase.result
+    (erase_left _ _ c.args.page (formed c.args.self.now.nor) (formed c.erase.new.self)
+    c.requires c.args.self.now.safe) c.erase.ensures.cut

@@ -11,7 +11,9 @@ keep-requires g c =
     let short = subst IsUnfinished (ap (λ p. p.unfinished) c.self.view_is) c.self.invariant in
     record {
       before = short.one_line;
-      none = no_line_at_end (c.args.self.unfinished ++ c.args.piece.now) (Lacks-append 10 c.args.self.unfinished c.args.piece.now short.one_line c.in_default.ensures.none);
+      none = no_line_at_end (c.args.self.unfinished ++ c.args.piece.now)
+          (Lacks-append 10 c.args.self.unfinished c.args.piece.now short.one_line
+          c.in_default.ensures.none);
     }
 
 pub returns-in_err-end_line : goal.returns-in_err-end_line

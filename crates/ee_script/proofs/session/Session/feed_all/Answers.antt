@@ -13,8 +13,11 @@ pub returns-in_err-session-in-Ok-clause-fault : goal.returns-in_err-session-in-O
 returns-in_err-session-in-Ok-clause-fault g c =
     let p = err_from_is_err_and c.from_residual.result c.from_residual.ensures.1 in
     rw p.1 (rw p.2
-    (stops_at_fault g.S.Serve.serves c.args.self c.reading.session _ _ _ (c.reading.counter * 4096) (take c.in-Ok.count c.read.new.buf) c.in_err-session-in-Ok.field-0.0
-    c.reading.invariant c.in-Ok.ensures.bytes.0 (omega (arith, length-take c.in-Ok.count c.read.new.buf)) (search (rules, c.in_err-session-in-Ok.ensures))))
+    (stops_at_fault g.S.Serve.serves c.args.self c.reading.session _ _ _ (c.reading.counter * 4096)
+    (take c.in-Ok.count c.read.new.buf) c.in_err-session-in-Ok.field-0.0
+    c.reading.invariant c.in-Ok.ensures.bytes.0
+    (omega (arith, length-take c.in-Ok.count c.read.new.buf))
+    (search (rules, c.in_err-session-in-Ok.ensures))))
 
 pub reading-preserved : goal.reading-preserved
 reading-preserved g c = search (rules, taken_more, length-take, taken_kept)
@@ -23,10 +26,14 @@ pub returns-clause-fault : goal.returns-clause-fault
 returns-clause-fault g c = (
   c.reading.session,
   elim c.reading-test.branch [
-    | else-reading-test w ↦ rw w.reader-is (takes g.S.Serve.serves c.args.self c.reading.session _ _ (c.reading.counter * 4096) (omega arith) c.reading.invariant)
+    | else-reading-test w ↦ rw w.reader-is
+        (takes g.S.Serve.serves c.args.self c.reading.session _ _ (c.reading.counter * 4096)
+        (omega arith) c.reading.invariant)
     | then-reading-test+in-Err+then-ne w ↦ rw w.reader-is
-        (takes g.S.Serve.serves c.args.self c.reading.session _ _ (c.reading.counter * 4096) (omega arith)
-        (taken_kept g.S.Serve.serves c.args.self c.reading.session _ _ _ (c.reading.counter * 4096) (c.reading.counter * 4096) c.reading.invariant w.in-Err.ensures.bytes (omega arith)))
+        (takes g.S.Serve.serves c.args.self c.reading.session _ _ (c.reading.counter * 4096)
+        (omega arith)
+        (taken_kept g.S.Serve.serves c.args.self c.reading.session _ _ _ (c.reading.counter * 4096)
+        (c.reading.counter * 4096) c.reading.invariant w.in-Err.ensures.bytes (omega arith)))
   ],
   subst IsUnfinished (ap (λ p. p.unfinished) c.session.view_is) c.session.invariant,
 )

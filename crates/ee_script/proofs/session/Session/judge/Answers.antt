@@ -14,5 +14,7 @@ pub returns : goal.returns
 returns g c =
     let judged = c.lines.invariant.judged in
     MatchResult-weaker c.keep.result c.keep.ensures
-    (λ done. judged_all g.S.Serve.serves c.args.self.now c.lines.self c.keep.new.self c.args.text.now c.lines.rest.now judged)
-    (λ fault. fault_at_last g.S.Serve.serves c.args.self.now c.lines.self c.args.text.now c.lines.rest.now fault judged)
+    (λ done. judged_all g.S.Serve.serves c.args.self.now c.lines.self c.keep.new.self
+    c.args.text.now c.lines.rest.now judged)
+    (λ fault. fault_at_last g.S.Serve.serves c.args.self.now c.lines.self c.args.text.now
+    c.lines.rest.now fault judged)

@@ -5,7 +5,10 @@ use Rattle.ee_settings.proofs.schema.Schema.empty.Goals as goal
 
 none_is_schema : IsSchema []
 unfolding IsStrictlySortedBy
-none_is_schema = record { names = tt; addresses = λ one other has. absurd (let wrong : has.0 < 0 = has.1 in omega arith) }
+none_is_schema = record {
+  names = tt;
+  addresses = λ one other has. absurd (let wrong : has.0 < 0 = has.1 in omega arith);
+}
 
 pub invariant_of-result : goal.invariant_of-result
 invariant_of-result g c = subst IsSchema (sym c.new.ensures) none_is_schema

@@ -9,9 +9,13 @@ use Rattle.ee_settings.proofs.schema.Schema.stale_values.Goals as goal
 pub loop-index-preserved : goal.loop-index-preserved
 loop-index-preserved g c =
     let stored = (state_of (g.V.Variables.device c.args.store.now)).map in
-    let found : c.copied-value.result ≡ stored c.numbers-numbers.result.address = c.copied-value.ensures ∙ c.get.ensures.value ∙ ap (λ (values : Map). values c.numbers-numbers.result.address) c.in-Ok.ensures in
+    let found : c.copied-value.result ≡ stored c.numbers-numbers.result.address =
+    c.copied-value.ensures ∙ c.get.ensures.value
+    ∙ ap (λ (values : Map). values c.numbers-numbers.result.address) c.in-Ok.ensures in
     let further =
-    one_further stored c.as_slice-setting-items.result.now c.loop-index.index c.setting-item.result c.numbers-numbers.result c.copied-value.result c.loop-index.stale.items c.push_stale.new.stale.items
+    one_further stored c.as_slice-setting-items.result.now c.loop-index.index c.setting-item.result
+    c.numbers-numbers.result c.copied-value.result c.loop-index.stale.items
+    c.push_stale.new.stale.items
     (stale_in stored c.args.self.now)
     c.loop-index-test.true c.setting-item.is c.numbers-numbers.ensures.numbers found in
     let pushed = c.in-Ok-push_stale.ensures in

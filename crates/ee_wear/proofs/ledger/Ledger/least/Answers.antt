@@ -8,7 +8,10 @@ use Rattle.ee_wear.proofs.ledger.Ledger.least.Goals as goal
 
 pub returns-clause-value : goal.returns-clause-value
 returns-clause-value g c =
-    let yields = YieldsList-from_copied (YieldsList-at c.copied.ensures.source (YieldsList-from_slice c.args.self.now cc)) in
+    let yields =
+    YieldsList-from_copied
+    (YieldsList-at c.copied.ensures.source (YieldsList-from_slice c.args.self.now cc)) in
     let picked = min_from_yields_List _ _ c.min.ensures.ran yields in
-    let is : c.unwrap_or.result ≡ least_of c.args.self.now = c.unwrap_or.ensures ∙ ap (λ least. unwrap_or least 0) (sym (option_map_id _) ∙ picked) in
+    let is : c.unwrap_or.result ≡ least_of c.args.self.now =
+    c.unwrap_or.ensures ∙ ap (λ least. unwrap_or least 0) (sym (option_map_id _) ∙ picked) in
     search (rules, is)

@@ -8,5 +8,7 @@ abbrev pub invariant-loop-at : goal.invariant-loop-at
 invariant-loop-at g l = record {
   base : l.self.base ≡ l.fn.self.base;
   upper : l.self.upper ≡ l.fn.self.upper;
-  left : put_all l.fn.self.base (numbered_bytes (l.place + l.at) (drop l.at l.bytes)) l.self.cells.items ≡ put_all l.fn.self.base (numbered_bytes l.place l.bytes) l.fn.self.cells.items;
+  left : put_all l.fn.self.base (numbered_bytes (l.place + l.at) (drop l.at l.bytes))
+      l.self.cells.items
+      ≡ put_all l.fn.self.base (numbered_bytes l.place l.bytes) l.fn.self.cells.items;
 }

@@ -9,6 +9,8 @@ invariant-loop-at g l = record {
   base : l.self.base ≡ l.fn.self.base;
   upper : l.self.upper ≡ l.fn.self.upper;
   as_long : length l.self.cells.items ≡ length l.fn.self.cells.items;
-  left : put_all l.fn.self.base (numbered_bytes (l.fn.self.base + l.first + l.at) (drop l.at l.bytes)) l.self.cells.items
-      ≡ put_all l.fn.self.base (numbered_bytes (l.fn.self.base + l.first) l.bytes) l.fn.self.cells.items;
+  left : put_all l.fn.self.base
+      (numbered_bytes (l.fn.self.base + l.first + l.at) (drop l.at l.bytes)) l.self.cells.items
+      ≡ put_all l.fn.self.base (numbered_bytes (l.fn.self.base + l.first) l.bytes)
+      l.fn.self.cells.items;
 }
