@@ -62,7 +62,8 @@ fn apply_left<A: Allocator + Copy>(
     requires { StaysOn store }
     ensures applied { IfOk result (λ given. LeavesApplied schema.now
         (entries_of (table_view table.now)) store given.image.items given.text.items) }
-    ensures stopped { IfErr result (λ fault. StopsAtEntry schema.now (entries_of (table_view table.now))
+    ensures stopped { IfErr result (λ fault. StopsAtEntry schema.now
+        (entries_of (table_view table.now))
         store fault ⊎ (fault ≡ Fault.Memory)) }
 {
     let counts = take_entries(&mut store, schema, table)?;
@@ -89,7 +90,8 @@ fn take_entries<A: Allocator>(
         store.old counts.written store.new) }
     ensures entries { IfOk result (λ counts.
         counts.entries ≡ length (entries_of (table_view table.now))) }
-    ensures stopped { IfErr result (λ fault. StopsAtEntry schema.now (entries_of (table_view table.now))
+    ensures stopped { IfErr result (λ fault. StopsAtEntry schema.now
+        (entries_of (table_view table.now))
         store.old fault ⊎ (fault ≡ Fault.Memory)) }
 {
     let entries = table.len() as u64;

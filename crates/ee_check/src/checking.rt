@@ -64,7 +64,8 @@ pub fn check<A: Allocator + Copy, B: Allocator, C: Allocator>(
         → MatchResult result
         (λ k. k ≡ length (claim_of certificate.now).stretches)
         (λ fault. fault ≡ CheckFault.Memory) }
-    ensures names { (cause : CheckFault) → IsCause start.now trace.now (claim_of certificate.now) cause
+    ensures names { (cause : CheckFault)
+        → IsCause start.now trace.now (claim_of certificate.now) cause
         → MatchResult result (λ _. ⊥) (λ fault. (fault ≡ cause) ⊎ (fault ≡ CheckFault.Memory)) }
 {
     if !has_header(start, trace, certificate) {

@@ -27,7 +27,8 @@ impl<A: Allocator> Model for LiveTable<A> {
 
     ghost view = { λ t. addresses_from 0 t.is_live.items };
 
-    ghost invariant = { λ t. (length t.is_live.items ≡ 65536) × (t.count ≡ length (addresses_from 0 t.is_live.items)) };
+    ghost invariant = { λ t.
+        (length t.is_live.items ≡ 65536) × (t.count ≡ length (addresses_from 0 t.is_live.items)) };
 }
 
 impl<A: Allocator + Copy> LiveTable<A> {

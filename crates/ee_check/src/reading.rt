@@ -46,7 +46,8 @@ pub fn read_certificate<A: Allocator + Copy>(
         (λ certificate. claim_of certificate ≡ claim)
         (λ fault. fault ≡ TextFault.Memory) }
     ensures bad { (n : ℕ) → IsFirstBadCertificateLine text.now n
-        → MatchResult result (λ _. ⊥) (λ fault. (fault ≡ TextFault.BadText n) ⊎ (fault ≡ TextFault.Memory)) }
+        → MatchResult result (λ _. ⊥)
+        (λ fault. (fault ≡ TextFault.BadText n) ⊎ (fault ≡ TextFault.Memory)) }
 {
     let Some((heading, rest)) = next_heading(text) else {
         return Err(TextFault::BadText(1));
@@ -169,7 +170,8 @@ fn read_ending(line: &[u8]) -> Option<u64>
 /// The number that stands behind this name and before a space, and what stands behind the space.
 fn first_number<'a>(name: &[u8], text: &'a [u8]) -> Option<(u64, &'a [u8])>
     ensures found { IfSome result (λ parts. text.now ≡ name.now ++ (decimal parts.0 ++ 32 ∷ parts.1.now)) }
-    ensures only { (n : ℕ) (rest : List ℕ) → IsNumber n → text.now ≡ name.now ++ (decimal n ++ 32 ∷ rest)
+    ensures only { (n : ℕ) (rest : List ℕ) → IsNumber n
+        → text.now ≡ name.now ++ (decimal n ++ 32 ∷ rest)
         → MatchOption result ⊥ (λ parts. (parts.0 ≡ n) × (parts.1.now ≡ rest)) }
 {
     let (field, rest) = next_field(behind(name, text)?);

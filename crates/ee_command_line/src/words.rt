@@ -373,7 +373,8 @@ fn digits_of(word: &str) -> Option<u32>
 /// addresses of 32 bits.
 #[tactic(auto, unfolding(crate::specs::Job::EndsWithin))]
 fn base_for(pairs: bool, shape: Shape, word: &str) -> Option<u32>
-    ensures found { IfSome result (λ base. IsBase base × EndsWithin pairs shape base × HasBase word.now base) }
+    ensures found { IfSome result
+        (λ base. IsBase base × EndsWithin pairs shape base × HasBase word.now base) }
     ensures only { (base : ℕ) → IsBase base → EndsWithin pairs shape base → HasBase word.now base
         → result ≡ Some base }
 {

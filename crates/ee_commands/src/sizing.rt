@@ -220,7 +220,8 @@ fn push_not_fitting<A: Allocator>(
     slots: u32,
     change: u64,
 ) -> Result<(), AllocError>
-    ensures { OnOk result (out.new.items ≡ out.old.items ++ line_of (not_fitting_text pages slots change)) }
+    ensures { OnOk result
+        (out.new.items ≡ out.old.items ++ line_of (not_fitting_text pages slots change)) }
 {
     push_number_behind(out, b"pages ", pages as u64)?;
     push_number_behind(out, b" slots ", slots as u64)?;

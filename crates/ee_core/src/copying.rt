@@ -167,7 +167,8 @@ fn put_all<F: Flash>(flash: &mut F, layout: &Layout, puts: &[Put]) -> Result<Pla
     requires fits { length puts.now ≤ slot_count (F.device flash.old).size }
     // At an error power was cut: the words are there in part, and the live set is as before.
     ensures fills { Fills result (λ place. place.slot) (F.device flash.old) (F.device flash.new)
-        layout.now 0 (put_words (puts_of puts.now)) (changed_by (puts_of puts.now) (λ address. None)) }
+        layout.now 0 (put_words (puts_of puts.now))
+        (changed_by (puts_of puts.now) (λ address. None)) }
     ensures behind { IfOk result
         (IsBehind (F.device flash.new).size (other_of layout.now.side)) }
     ensures power { Ends result (F.device flash.old) (F.device flash.new) }
@@ -199,7 +200,8 @@ fn copy_others<F: Flash, C: LiveCursor>(
         ≤ slot_count (F.device flash.old).size }
     // At an error power was cut: the words are there in part, and the live set is as before.
     ensures fills { let map = map_in layout.now.side (F.device flash.old) in
-        Fills result (λ all. all.slot) (F.device flash.old) (F.device flash.new) layout.now place.slot
+        Fills result (λ all. all.slot) (F.device flash.old) (F.device flash.new) layout.now
+        place.slot
         (elements_of (map_without (puts_of puts.now) map))
         (replaced_map (map_in (other_of layout.now.side) (F.device flash.old))
         (names (puts_of puts.now)) map) }

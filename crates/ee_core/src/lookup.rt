@@ -172,7 +172,8 @@ pub trait Lookup {
             HasRoomToMove (fits self.old slots) (has_room self.old slots) puts.now forgets }
         requires apart { AreApart (changes_of_puts puts.now forgets) }
         requires proceeds { Proceeds (F.device flash.old) (changes_of_puts puts.now forgets) }
-        requires needed { NeedsTransfer (capacity (F.device flash.old)) (state_of (F.device flash.old))
+        requires needed { NeedsTransfer (capacity (F.device flash.old))
+            (state_of (F.device flash.old))
             (changes_of_puts puts.now forgets) }
         ensures moved { OnOk result
             (Moves (F.device flash.old) (changes_of_puts puts.now forgets) (F.device flash.new)) }

@@ -44,7 +44,12 @@ impl<'a, A: Allocator + Copy> ListFlash<'a, A> {
     ///
     /// `AllocError`: memory was refused.
     pub fn blank(alloc: A, shape: Shape, fates: &'a [Fate<'a>]) -> Result<Self, AllocError>
-        ensures { IfOk result (λ flash. state_of_list flash ≡ record { device = record (blank_device shape) { cuts_left = None }; fates = fates.now }) }
+        ensures { IfOk result
+            (λ flash. state_of_list flash
+            ≡ record {
+              device = record (blank_device shape) { cuts_left = None };
+              fates = fates.now;
+            }) }
     {
         let pages = 2 * shape.pages();
         let cells = vec![in alloc; Word::Erased; pages * shape.words()]?;
@@ -95,7 +100,9 @@ impl<'a, A: Allocator> ListFlash<'a, A> {
         requires page_in_range { page < page_count self.old.shape }
         requires place_in_range { at < self.old.shape.words }
         requires below_all_ones { IsBelowAllOnes word }
-        ensures { state_of_list self.new ≡ record (state_of_list self.old) { device = with_word page at word (device_of_list self.old) } }
+        ensures { state_of_list self.new
+            ≡ record (state_of_list self.old)
+            { device = with_word page at word (device_of_list self.old) } }
     {
         let start = self.page_start(page);
         self.cells[start + at] = word;
@@ -103,15 +110,21 @@ impl<'a, A: Allocator> ListFlash<'a, A> {
 
     fn wear_out(&mut self, page: usize)
         requires { page < page_count self.old.shape }
-        ensures { state_of_list self.new ≡ record (state_of_list self.old) { device = with_page_worn page (device_of_list self.old) } }
+        ensures { state_of_list self.new
+            ≡ record (state_of_list self.old)
+            { device = with_page_worn page (device_of_list self.old) } }
     {
         self.wear[page] = self.wear[page].saturating_add(1);
     }
 
     fn erase_page(&mut self, page: usize, list: &[Left], rest: Left)
         requires { page < page_count self.old.shape }
-        ensures { state_of_list self.new ≡ record (state_of_list self.old)
-            { device = with_page page (page_of_fates list.now rest (page_at (device_of_list self.old) page)) (device_of_list self.old) } }
+        ensures { state_of_list self.new ≡ record (state_of_list self.old) {
+          device =
+              with_page page
+              (page_of_fates list.now rest (page_at (device_of_list self.old) page))
+              (device_of_list self.old);
+        } }
     {
         let start = self.page_start(page);
         let end = start + self.shape.words();
@@ -120,10 +133,14 @@ impl<'a, A: Allocator> ListFlash<'a, A> {
 
     // How a step begins: it takes the first fate. With the power off nothing changes.
     fn begin(&mut self) -> Result<Fate<'a>, Cut>
-        ensures off { OnErr result (IsOff (device_of_list self.old) × (state_of_list self.new ≡ state_of_list self.old)) }
+        ensures off { OnErr result
+            (IsOff (device_of_list self.old) × (state_of_list self.new ≡ state_of_list self.old)) }
         ensures on { OnOk result (IsOn (device_of_list self.old)) }
         ensures fate { IfOk result (λ fate. fate ≡ next_fate (state_of_list self.old).fates) }
-        ensures begun { OnOk result (state_of_list self.new ≡ record (state_of_list self.old) { fates = drop 1 (state_of_list self.old).fates }) }
+        ensures begun { OnOk result
+            (state_of_list self.new
+            ≡ record (state_of_list self.old)
+            { fates = drop 1 (state_of_list self.old).fates }) }
     {
         if !self.on {
             return Err(Cut);
@@ -136,7 +153,9 @@ impl<'a, A: Allocator> ListFlash<'a, A> {
     }
 
     fn cut_power(&mut self)
-        ensures { state_of_list self.new ≡ record (state_of_list self.old) { device = with_power_gone (device_of_list self.old) } }
+        ensures { state_of_list self.new
+            ≡ record (state_of_list self.old)
+            { device = with_power_gone (device_of_list self.old) } }
     {
         self.cuts = self.cuts.saturating_add(1);
         self.on = false;
@@ -147,8 +166,11 @@ impl<'a, A: Allocator> ListFlash<'a, A> {
         requires page_in_range { page < page_count self.old.shape }
         requires place_in_range { at < self.old.shape.words }
         requires below_all_ones { value < all_ones }
-        ensures { state_of_list self.new ≡ record (state_of_list self.old)
-            { device = device_after_fate (Program page at value) (Fate.Cut list.entry) (device_of_list self.old) } }
+        ensures { state_of_list self.new ≡ record (state_of_list self.old) {
+          device =
+              device_after_fate (Program page at value) (Fate.Cut list.entry)
+              (device_of_list self.old);
+        } }
     {
         let left = list.first().copied().unwrap_or(Left::Before);
         self.set_word(page, at, left.of(Word::Erased, Word::Held(value)));
@@ -158,8 +180,10 @@ impl<'a, A: Allocator> ListFlash<'a, A> {
     // An erase that is cut.
     fn cut_erase(&mut self, page: usize, list: &[Left])
         requires { page < page_count self.old.shape }
-        ensures { state_of_list self.new ≡ record (state_of_list self.old)
-            { device = device_after_fate (Erase page) (Fate.Cut list.entry) (device_of_list self.old) } }
+        ensures { state_of_list self.new ≡ record (state_of_list self.old) {
+          device =
+              device_after_fate (Erase page) (Fate.Cut list.entry) (device_of_list self.old);
+        } }
     {
         self.erase_page(page, list, Left::Before);
         self.wear_out(page);
@@ -185,7 +209,8 @@ impl<A: Allocator> Flash for ListFlash<'_, A> {
 
     ghost device = { device_of_list };
 
-    ghost formed = { λ flash. IsFormed-listed flash.shape flash.cells.items flash.wear.items flash.cuts flash.on
+    ghost formed = { λ flash.
+        IsFormed-listed flash.shape flash.cells.items flash.wear.items flash.cuts flash.on
         flash.within_limits (sym flash.cells.ok.0 ∙ flash.cells_length) flash.below_all_ones
         (sym flash.wear.ok.0 ∙ flash.wear_length) flash.wear_fits flash.cuts_fit };
 
@@ -220,12 +245,16 @@ impl<A: Allocator> Flash for ListFlash<'_, A> {
         requires erased { word_at (device_of_list self.old) page at ≡ Word.Erased }
         requires below_all_ones { value < all_ones }
         ensures on { OnOk result (IsOn (device_of_list self.old)) }
-        ensures done { OnOk result (device_of_list self.new ≡ with_word_programmed page at value (device_of_list self.old)) }
-        ensures cut { OnErr result (IsCutIn (Program page at value) (device_of_list self.old) (device_of_list self.new)
+        ensures done { OnOk result
+            (device_of_list self.new
+            ≡ with_word_programmed page at value (device_of_list self.old)) }
+        ensures cut { OnErr result (IsCutIn (Program page at value) (device_of_list self.old)
+            (device_of_list self.new)
             ⊎ IsUntouched (device_of_list self.old) (device_of_list self.new)) }
 
         ensures passes { IsOk result ↔ IsNextDone (state_of_list self.old) }
-        ensures exact { state_of_list self.new ≡ after_listed_step (Program page at value) (state_of_list self.old) }
+        ensures exact { state_of_list self.new
+            ≡ after_listed_step (Program page at value) (state_of_list self.old) }
     {
         match self.begin()? {
             Fate::Done => {
@@ -243,8 +272,10 @@ impl<A: Allocator> Flash for ListFlash<'_, A> {
     fn erase(&mut self, page: usize) -> Result<(), Cut>
         requires { page < page_count (device_of_list self.old).size }
         ensures on { OnOk result (IsOn (device_of_list self.old)) }
-        ensures done { OnOk result (device_of_list self.new ≡ with_page_erased page (device_of_list self.old)) }
-        ensures cut { OnErr result (IsCutIn (Erase page) (device_of_list self.old) (device_of_list self.new)
+        ensures done { OnOk result
+            (device_of_list self.new ≡ with_page_erased page (device_of_list self.old)) }
+        ensures cut { OnErr result (IsCutIn (Erase page) (device_of_list self.old)
+            (device_of_list self.new)
             ⊎ IsUntouched (device_of_list self.old) (device_of_list self.new)) }
 
         ensures passes { IsOk result ↔ IsNextDone (state_of_list self.old) }

@@ -94,7 +94,9 @@ fn blank_pages<A: Allocator + Copy>(
     count: usize,
     numbers: usize,
 ) -> Result<Vec<Vec<u64, A>, A>, AllocError>
-    ensures { IfOk result (λ pages. map (λ page. page.items) pages.items ≡ replicate count (replicate numbers all_ones)) }
+    ensures { IfOk result
+        (λ pages.
+        map (λ page. page.items) pages.items ≡ replicate count (replicate numbers all_ones)) }
 {
     let mut pages = Vec::with_capacity(alloc, count)?;
     'pages: for _ in 0..count {
@@ -171,7 +173,9 @@ impl<'a, A: Allocator> ListNor<'a, A> {
 
     fn fill_page(&mut self, page: usize)
         requires { page < page_count self.old.shape }
-        ensures { nor_of_list self.new ≡ with_numbers page (replicate (number_count self.old.shape) all_ones) (nor_of_list self.old) }
+        ensures { nor_of_list self.new
+            ≡ with_numbers page (replicate (number_count self.old.shape) all_ones)
+            (nor_of_list self.old) }
     {
         self.pages[page].fill(u64::MAX);
     }
@@ -192,7 +196,8 @@ impl<A: Allocator> Nor for ListNor<'_, A> {
 
     ghost nor = { nor_of_list };
 
-    ghost formed = { λ flash. IsNorFormed-listed flash.shape (map (λ page. page.items) flash.pages.items) flash.wear.items flash.cuts flash.on
+    ghost formed = { λ flash. IsNorFormed-listed flash.shape (map (λ page. page.items) flash.pages.items)
+        flash.wear.items flash.cuts flash.on
         flash.within_limits flash.image_length flash.page_lengths flash.numbers_fit
         (sym flash.wear.ok.0 ∙ flash.wear_length) flash.wear_fits flash.cuts_fit };
 

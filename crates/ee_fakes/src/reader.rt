@@ -29,7 +29,8 @@ impl Read for FailingReader<'_> {
         ensures bytes { ReadConsumes (Some self.old.rest.now) (Some self.new.rest.now) result buf.new }
         ensures fails { IsErr result ↔ (self.old.fails_at ≡ 1) }
         ensures failure { IfErr result (λ e. error_kind e ≡ self.old.failure) }
-        ensures count { IfOk result (λ n. n ≡ min self.old.most (min (length self.old.rest.now) (length buf.old))) }
+        ensures count { IfOk result
+            (λ n. n ≡ min self.old.most (min (length self.old.rest.now) (length buf.old))) }
         ensures counted { self.new.fails_at ≡ self.old.fails_at - 1 }
         ensures same { (self.new.most ≡ self.old.most) × (self.new.failure ≡ self.old.failure) }
     {

@@ -63,7 +63,8 @@ impl<'a> LentIndex<'a> {
     fn cursor<F: Flash>(&self, _flash: &F, layout: &Layout) -> LentCursor<'_>
         requires layout { IsLayout (F.device _flash.now) layout.now }
         requires index { self.now.is_given_up ≡ false
-            → IsIndexBesideHidden (slots_by layout.now (F.device _flash.now)) (slot_for self.now.list) }
+            → IsIndexBesideHidden (slots_by layout.now (F.device _flash.now))
+            (slot_for self.now.list) }
         ensures begins { BeginsOver (slots_by layout.now (F.device _flash.now)) result }
         ensures ordered { self.now.is_given_up ≡ false → AreInOrder self.now.list }
     {

@@ -49,7 +49,8 @@ pub(crate) fn settle(
     requires mirror { IsMirror shape words.old flags.old wears.old }
     requires within { is_played answer ≡ true → count ≤ length listed.now }
     requires taken { is_played answer ≡ true
-        → CanTakeAll (steps_of count listed.now) (mirrored_device shape words.old flags.old wears.old) }
+        → CanTakeAll (steps_of count listed.now)
+        (mirrored_device shape words.old flags.old wears.old) }
     requires zeros { is_played answer ≡ true → All IsZeroIfErase (take count listed.now) }
     ensures told { result ≡ result_of answer result.listed }
     ensures refused { is_played answer ≡ false

@@ -177,12 +177,15 @@ fn used_of_page<F: Flash>(
         → front (slots_of (set_of side device)) < page * (device.size.words - header_words) }
     ensures within { IfOk result (λ used. used ≤ (F.device flash.now).size.words - header_words) }
     ensures used { let device = F.device flash.now in IfOk result (λ used. full ≡ true
-        → page * (device.size.words - header_words) + used ≤ front (slots_of (set_of side device))) }
+        → page * (device.size.words - header_words) + used
+        ≤ front (slots_of (set_of side device))) }
     ensures front { let device = F.device flash.now in IfOk result
         (λ used. full ≡ true → used < device.size.words - header_words
-        → front (slots_of (set_of side device)) ≡ page * (device.size.words - header_words) + used) }
+        → front (slots_of (set_of side device))
+        ≡ page * (device.size.words - header_words) + used) }
     ensures none { IfOk result (λ used. full ≡ false → used ≡ 0) }
-    ensures allowed { let device = F.device flash.now in OnOk result ((j : ℕ) → j < device.size.words
+    ensures allowed { let device =
+        F.device flash.now in OnOk result ((j : ℕ) → j < device.size.words
         → is_allowed_at device.size generation (set_of side device) page j ≡ true) }
     ensures place_in_range { IfErr result (λ at. at < (F.device flash.now).size.words) }
     ensures foreign { let device = F.device flash.now in IfErr result

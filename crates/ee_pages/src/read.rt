@@ -36,7 +36,8 @@ pub fn slot_word<F: Flash>(flash: &F, layout: &Layout, slot: usize) -> Word
 pub fn slot_value<F: Flash>(flash: &F, layout: &Layout, slot: usize) -> u32
     requires { slot < slot_count (F.device flash.now).size }
     ensures { let slots = slots_of (set_of layout.now.side (F.device flash.now)) in
-        (address value : ℕ) → word_says (slice_index_or slots slot Word.Erased) address ≡ Some (Some value)
+        (address value : ℕ)
+        → word_says (slice_index_or slots slot Word.Erased) address ≡ Some (Some value)
         → result ≡ value }
 {
     (set_number(flash, layout.side, slot) >> 32) as u32
@@ -137,7 +138,8 @@ fn torn_through<F: Flash>(flash: &F, side: Side, page: usize, before: usize) -> 
     requires before { let device = F.device flash.now in before
         ≡ torn_of (take (page * (device.size.words - header_words)) (slots_of (set_of side device))) }
     ensures { let device = F.device flash.now in result
-        ≡ torn_of (take ((page + 1) * (device.size.words - header_words)) (slots_of (set_of side device))) }
+        ≡ torn_of
+        (take ((page + 1) * (device.size.words - header_words)) (slots_of (set_of side device))) }
 {
     let mut torn = before;
     for slot in 0..flash.shape().words() - HEADER_WORDS {

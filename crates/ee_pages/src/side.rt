@@ -60,7 +60,9 @@ pub(crate) fn page_slot<F: Flash>(flash: &F, side: Side, page: usize, slot: usiz
     requires page_in_range { page < (F.device flash.now).size.pages }
     requires slot_in_range { slot < (F.device flash.now).size.words - header_words }
     ensures { let slots = slots_of (set_of side (F.device flash.now)) in
-        result ≡ slice_index_or slots (page * ((F.device flash.now).size.words - header_words) + slot) Word.Erased }
+        result
+        ≡ slice_index_or slots (page * ((F.device flash.now).size.words - header_words) + slot)
+        Word.Erased }
 {
     set_word(flash, side, page, HEADER_WORDS + slot)
 }
@@ -81,7 +83,8 @@ fn page_number<F: Flash>(flash: &F, side: Side, page: usize, slot: usize) -> u64
     requires slot_in_range { slot < (F.device flash.now).size.words - header_words }
     ensures { let slots = slots_of (set_of side (F.device flash.now)) in
         let place = page * ((F.device flash.now).size.words - header_words) + slot in
-        (address : ℕ) → says (slice_index_or slots place Word.Erased) address ≡ says (Word.Held result) address }
+        (address : ℕ)
+        → says (slice_index_or slots place Word.Erased) address ≡ says (Word.Held result) address }
 {
     let mut room = [0; 1];
     let run = flash.run(
@@ -96,7 +99,8 @@ fn page_number<F: Flash>(flash: &F, side: Side, page: usize, slot: usize) -> u64
 pub(crate) fn set_number<F: Flash>(flash: &F, side: Side, slot: usize) -> u64
     requires { slot < slot_count (F.device flash.now).size }
     ensures { let slots = slots_of (set_of side (F.device flash.now)) in
-        (address : ℕ) → says (slice_index_or slots slot Word.Erased) address ≡ says (Word.Held result) address }
+        (address : ℕ)
+        → says (slice_index_or slots slot Word.Erased) address ≡ says (Word.Held result) address }
 {
     let slots = flash.shape().words() - HEADER_WORDS;
     page_number(flash, side, slot / slots, slot % slots)

@@ -64,7 +64,8 @@ impl<A: Allocator> Counts<A> {
     /// For how many changes more as many addresses are live, by what is known.
     pub(crate) fn flat(&self, number: u64) -> u64
         requires { AreRounds self.now }
-        ensures { (j : ℕ) → j ≤ result → count_after self.now (number + j) ≡ count_after self.now number }
+        ensures { (j : ℕ) → j ≤ result
+            → count_after self.now (number + j) ≡ count_after self.now number }
     {
         let length = self.later.len() as u64;
         if number < length {

@@ -27,7 +27,11 @@ impl<A: Allocator> Model for LateStore<A> {
 
     ghost Value = { LateStore };
 
-    ghost view = { λ s. record { now = record { slots = s.slots; fill = s.fill; live = s.live }; from = s.from; stretches = s.stretches.items } };
+    ghost view = { λ s. record {
+      now = record { slots = s.slots; fill = s.fill; live = s.live };
+      from = s.from;
+      stretches = s.stretches.items;
+    } };
 }
 
 impl<A: Allocator + Copy> LateStore<A> {
@@ -37,7 +41,8 @@ impl<A: Allocator + Copy> LateStore<A> {
         start: &Start<B>,
         changes: usize,
     ) -> Result<LateStore<A>, AllocError>
-        ensures store { IfOk result (λ store. store ≡ record { now = start.now; from = start.now.fill; stretches = [] }) }
+        ensures store { IfOk result
+            (λ store. store ≡ record { now = start.now; from = start.now.fill; stretches = [] }) }
         ensures start { IsStart start.now }
     {
         Ok(LateStore {

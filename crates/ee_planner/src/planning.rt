@@ -38,9 +38,11 @@ pub fn plan<A: Allocator + Copy, B: Allocator>(
     ensures refused { IfErr result (IsPlanFault start.now trace.now) }
     // Every trace that keeps within the slots is planned, and the first change that doesn't is
     // named.
-    ensures fits { KeepsWithin start.now.slots start.now.live trace.now → IfErr result (λ fault. fault ≡ PlanFault.Memory) }
+    ensures fits { KeepsWithin start.now.slots start.now.live trace.now
+        → IfErr result (λ fault. fault ≡ PlanFault.Memory) }
     ensures names { (n : ℕ) → IsFirstNotFitting start.now trace.now n
-        → MatchResult result (λ _. ⊥) (λ fault. (fault ≡ PlanFault.NotFitting n) ⊎ (fault ≡ PlanFault.Memory)) }
+        → MatchResult result (λ _. ⊥)
+        (λ fault. (fault ≡ PlanFault.NotFitting n) ⊎ (fault ≡ PlanFault.Memory)) }
 {
     let store = follow(alloc, start, trace)?;
     let room = start.slots() - store.fill();

@@ -49,7 +49,8 @@ impl<A: Allocator + Copy> Rounds<A> {
     pub fn new(alloc: A, trace: Vec<Change, A>, runs: u64) -> Result<Rounds<A>, RoundsFault>
         ensures rounds { IfOk result (λ rounds. rounds ≡ repeated_trace runs trace.items) }
         ensures fault { IfErr result (IsRoundsFault runs trace.items) }
-        ensures few { runs * length trace.items < 2 ^ 63 → IfErr result (λ fault. fault ≡ RoundsFault.Memory) }
+        ensures few { runs * length trace.items < 2 ^ 63
+            → IfErr result (λ fault. fault ≡ RoundsFault.Memory) }
         ensures many { 2 ^ 63 ≤ runs * length trace.items → result ≡ Err RoundsFault.TooMany }
     {
         match runs.checked_mul(trace.len() as u64) {

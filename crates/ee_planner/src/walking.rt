@@ -67,7 +67,8 @@ fn by_periods(mark: Walk, walk: Walk, total: u64) -> Walk
     requires rising { walk.made ≤ walk.place }
     requires within { walk.place ≤ total }
     requires total { total < 2 ^ 63 }
-    ensures walked { (periods : ℕ) × (result.place ≡ walk.place + periods * (walk.place - mark.place))
+    ensures walked { (periods : ℕ)
+        × (result.place ≡ walk.place + periods * (walk.place - mark.place))
         × (result.made ≡ walk.made + periods * (walk.made - mark.made)) }
     ensures within { result.place ≤ total }
     ensures rising { result.made ≤ result.place }
@@ -87,7 +88,8 @@ fn onward<A: Allocator>(counts: &Counts<A>, slots: u64, total: u64, walk: Walk) 
     requires total { total < 2 ^ 63 }
     requires walked { IsOnWay (count_after counts.now) slots total walk }
     ensures walked { IsOnWay (count_after counts.now) slots total result }
-    ensures last { result.made ≡ walk.made → total < place_in_round (count_after counts.now) slots (walk.made + 1) }
+    ensures last { result.made ≡ walk.made
+        → total < place_in_round (count_after counts.now) slots (walk.made + 1) }
     ensures further { result.made ≢ walk.made → walk.place < result.place }
     ensures more { walk.made ≤ result.made }
     ensures slow { result.made + walk.place ≤ result.place + walk.made }

@@ -64,7 +64,8 @@ fn push_desk<A: Allocator, V: Variables>(
     report: &mut Vec<u8, A>,
 ) -> Result<(), AllocError>
     ensures { let device = V.device store.now in OnOk result (report.new.items
-        ≡ report.old.items ++ desk_line (slot_count device.size) device.on (state_of device) transfers) }
+        ≡ report.old.items
+        ++ desk_line (slot_count device.size) device.on (state_of device) transfers) }
 {
     if store.is_on() {
         return push_end(store, transfers, report);

@@ -34,7 +34,8 @@ impl<'a> Fields<'a> {
     pub fn of(line: &'a [u8]) -> Fields<'a>
         ensures found { line.now ≡ joined_fields (fields_left result) }
         ensures each { AllByRecursion IsField (fields_left result) }
-        ensures only { (first : List ℕ) (others : List (List ℕ)) → AllByRecursion IsField (first ∷ others) →
+        ensures only { (first : List ℕ) (others : List (List ℕ))
+            → AllByRecursion IsField (first ∷ others) →
             line.now ≡ joined_fields (first ∷ others) → fields_left result ≡ first ∷ others }
     {
         Fields { rest: Some(line) }

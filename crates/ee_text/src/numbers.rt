@@ -81,7 +81,8 @@ pub fn push_number_behind<A: Allocator>(
 /// What the digits are worth. None where a byte is no digit, or the number is above `u64::MAX`.
 #[tactic(auto, using(crate::proofs::Digits::too_large, crate::proofs::Digits::whole))]
 fn value_of_digits(digits: &[u8]) -> Option<u64>
-    ensures { SomeIff result (AllDigits 10 digits.now × (digits_value 10 digits.now < 2 ^ 64)) (digits_value 10 digits.now) }
+    ensures { SomeIff result (AllDigits 10 digits.now × (digits_value 10 digits.now < 2 ^ 64))
+        (digits_value 10 digits.now) }
 {
     let mut value: u64 = 0;
     for byte in digits {

@@ -41,7 +41,8 @@ pub fn read_hex<A: Allocator + Copy>(
     ensures only { (bytes : List ℕ) → IsHexOf text.now base length bytes
         → MatchResult result (λ given. given.items ≡ bytes) (λ fault. fault ≡ HexFault.Memory) }
     ensures names { (n : ℕ) → IsBadHexLine text.now base length n
-        → MatchResult result (λ _. ⊥) (λ fault. (fault ≡ HexFault.BadLine n) ⊎ (fault ≡ HexFault.Memory)) }
+        → MatchResult result (λ _. ⊥)
+        (λ fault. (fault ≡ HexFault.BadLine n) ⊎ (fault ≡ HexFault.Memory)) }
 {
     let mut reader = DumpReader::new(alloc, base, length)?;
     if let Err(number) = read_lines(text, &mut reader) {
@@ -139,7 +140,8 @@ impl<A: Allocator> DumpReader<A> {
     fn meet_row(&mut self, row: Row<'_>) -> Met
         ensures base { self.new.base ≡ self.old.base }
         ensures step { Meets result self.old.cells.items self.new.upper self.new.cells.items
-            (step_of_record self.old.base self.old.upper self.old.cells.items (Some (view row.entry))) }
+            (step_of_record self.old.base self.old.upper self.old.cells.items
+            (Some (view row.entry))) }
     {
         if row.kind == END {
             return Met::End;
@@ -162,8 +164,11 @@ impl<A: Allocator> DumpReader<A> {
         requires { place < 2 ^ 33 }
         ensures base { self.new.base ≡ self.old.base }
         ensures upper { self.new.upper ≡ self.old.upper }
-        ensures taken { OnTrue result (put_all self.old.base (numbered_bytes place bytes.now) self.old.cells.items ≡ Some self.new.cells.items) }
-        ensures refused { OnFalse result (put_all self.old.base (numbered_bytes place bytes.now) self.old.cells.items ≡ None) }
+        ensures taken { OnTrue result
+            (put_all self.old.base (numbered_bytes place bytes.now) self.old.cells.items
+            ≡ Some self.new.cells.items) }
+        ensures refused { OnFalse result
+            (put_all self.old.base (numbered_bytes place bytes.now) self.old.cells.items ≡ None) }
     {
         if place >= self.base {
             let first = (place - self.base) as usize;
@@ -185,8 +190,14 @@ impl<A: Allocator> DumpReader<A> {
         requires { first + length bytes.now ≤ length self.old.cells.items }
         ensures base { self.new.base ≡ self.old.base }
         ensures upper { self.new.upper ≡ self.old.upper }
-        ensures taken { OnTrue result (put_all self.old.base (numbered_bytes (self.old.base + first) bytes.now) self.old.cells.items ≡ Some self.new.cells.items) }
-        ensures refused { OnFalse result (put_all self.old.base (numbered_bytes (self.old.base + first) bytes.now) self.old.cells.items ≡ None) }
+        ensures taken { OnTrue result
+            (put_all self.old.base (numbered_bytes (self.old.base + first) bytes.now)
+            self.old.cells.items
+            ≡ Some self.new.cells.items) }
+        ensures refused { OnFalse result
+            (put_all self.old.base (numbered_bytes (self.old.base + first) bytes.now)
+            self.old.cells.items
+            ≡ None) }
     {
         for (at, byte) in bytes.iter().enumerate() {
             if !self.put_at(first + at, *byte) {
@@ -202,7 +213,8 @@ impl<A: Allocator> DumpReader<A> {
     fn put(&mut self, place: u64, byte: u8) -> bool
         ensures base { self.new.base ≡ self.old.base }
         ensures upper { self.new.upper ≡ self.old.upper }
-        ensures taken { OnTrue result (put self.old.base place byte self.old.cells.items ≡ Some self.new.cells.items) }
+        ensures taken { OnTrue result
+            (put self.old.base place byte self.old.cells.items ≡ Some self.new.cells.items) }
         ensures refused { OnFalse result (put self.old.base place byte self.old.cells.items ≡ None) }
     {
         if place < self.base {
@@ -222,8 +234,11 @@ impl<A: Allocator> DumpReader<A> {
         ensures base { self.new.base ≡ self.old.base }
         ensures upper { self.new.upper ≡ self.old.upper }
         ensures as_long { length self.new.cells.items ≡ length self.old.cells.items }
-        ensures taken { OnTrue result (put self.old.base (self.old.base + at) byte self.old.cells.items ≡ Some self.new.cells.items) }
-        ensures refused { OnFalse result (put self.old.base (self.old.base + at) byte self.old.cells.items ≡ None) }
+        ensures taken { OnTrue result
+            (put self.old.base (self.old.base + at) byte self.old.cells.items
+            ≡ Some self.new.cells.items) }
+        ensures refused { OnFalse result
+            (put self.old.base (self.old.base + at) byte self.old.cells.items ≡ None) }
     {
         match self.cell(at) {
             Some(given) => given == byte,

@@ -122,7 +122,8 @@ fn check_of(front: &[u8], bytes: &[u8]) -> u8
 #[tactic(auto, using(crate::proofs::intel_hex::Written::digits_more, crate::proofs::intel_hex::Written::no_digits))]
 fn put_digits(line: &mut [u8; MOST_CHARACTERS], from: usize, bytes: &[u8])
     requires { from + 2 * length bytes.now ≤ 44 }
-    ensures { take (from + 2 * length bytes.now) line.new ≡ take from line.old ++ encode_upper bytes.now }
+    ensures { take (from + 2 * length bytes.now) line.new
+        ≡ take from line.old ++ encode_upper bytes.now }
 {
     let mut at = from;
     for byte in bytes {
