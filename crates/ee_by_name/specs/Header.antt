@@ -62,19 +62,19 @@ c_header settings =
 -- a constant of the setting that has this name: its kind, its type, and its number
 abbrev pub rust_constant : List ℕ → List ℕ → List ℕ → ℕ → List ℕ
 rust_constant name kind type number =
-    codes "pub const " ++ name ++ codes "_" ++ kind ++ codes ": " ++ type ++ codes " =
-        " ++ decimal number ++ codes ";\n"
+    codes "pub const " ++ name ++ codes "_" ++ kind ++ codes ": " ++ type ++ codes " = "
+    ++ decimal number ++ codes ";\n"
 
 -- the constants of a setting, behind an empty line
 abbrev pub rust_constants : Setting → List ℕ
 rust_constants setting =
     codes "\n"
     ++ rust_constant (in_capitals setting.name) (codes "ADDRESS") (codes "u16")
-        setting.numbers.address
+    setting.numbers.address
     ++ rust_constant (in_capitals setting.name) (codes "LEAST") (codes "u32") setting.numbers.min
     ++ rust_constant (in_capitals setting.name) (codes "MOST") (codes "u32") setting.numbers.max
     ++ rust_constant (in_capitals setting.name) (codes "DEFAULT") (codes "u32")
-        setting.numbers.default
+    setting.numbers.default
 
 -- a number of a row
 abbrev pub rust_number : ℕ → List ℕ
