@@ -92,8 +92,8 @@ with_pending pages state = record state { pending = pages }
 abbrev pub not_blank_from : ℕ → List (List Word) → List ℕ
 not_blank_from number [] = []
 not_blank_from number (page ∷ pages) =
-    if is_blank page then not_blank_from (number + 1) pages else number
-    ∷ not_blank_from (number + 1) pages
+    if is_blank page then not_blank_from (number + 1) pages
+    else number ∷ not_blank_from (number + 1) pages
 
 -- the pages of a set that are not blank, by their numbers in the device
 abbrev pub not_blank_in : Side → Device → List ℕ
