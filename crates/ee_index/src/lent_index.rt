@@ -1,11 +1,11 @@
 //! Values are found by an index in memory that the caller lends, as long as it has room for them.
-ghost use Rattle.std.specs.Prelude.{◌≡◌, ◌<◌, ◌+◌, [], false, if◌then◌else◌, length, true};
+ghost use Rattle.std.specs.Prelude.{◌≡◌, ◌<◌, ◌+◌, ◌⊎◌, [], false, if◌then◌else◌, length, true};
 ghost use Rattle.ee_flash.specs.Device.{IsOn};
 ghost use Rattle.ee_pages.specs.Layout.{IsLayout};
 ghost use Rattle.ee_core.specs.Lookups.{slots_by};
 ghost use Rattle.ee_index.specs.Cursors.{BeginsOver};
-ghost use Rattle.ee_index.specs.Entries.{AreInOrder};
-ghost use Rattle.ee_index.specs.Index.{IsIndex, IsIndexBesideHidden, IsNumberedAfter, slot_for};
+ghost use Rattle.ee_index.specs.Entries.{AreInOrder, lent_entries, lent_room};
+ghost use Rattle.ee_index.specs.Index.{IsIndex, IsIndexBesideHidden, IsNumberedAfter, WasTooSmall, slot_for};
 
 use crate::entering::enter_slots;
 use crate::entries::Entry;
@@ -34,7 +34,8 @@ pub struct LentIndex<'a> {
 impl<'a> LentIndex<'a> {
     /// Given up: nothing was read yet.
     pub fn new(room: &'a mut [Entry]) -> LentIndex<'a>
-        ensures { result.is_given_up ≡ true }
+        ensures given_up { result.is_given_up ≡ true }
+        ensures as_many { lent_room result.list ≡ length room.old }
     {
         LentIndex {
             list: LentList::new(room),
@@ -52,8 +53,12 @@ impl<'a> LentIndex<'a> {
     /// Reads the index anew, one look at each used slot. It gives itself up where there is no room.
     pub(crate) fn read<F: Flash>(&mut self, flash: &F, layout: &Layout)
         requires { IsLayout (F.device flash.now) layout.now }
-        ensures { self.new.is_given_up ≡ false
-            → IsIndex (slots_by layout.now (F.device flash.now)) (slot_for self.new.list) }
+        ensures index { self.new.is_given_up ≡ false
+            → IsIndex (slots_by layout.now (F.device flash.now))
+            (slot_for (lent_entries self.new.list)) }
+        ensures small { self.new.is_given_up ≡ true
+            → WasTooSmall (lent_room self.new.list)
+            (slots_by layout.now (F.device flash.now)) }
     {
         self.list.clear();
         self.is_given_up = enter_slots(&mut self.list, flash, layout).is_err();
@@ -63,9 +68,10 @@ impl<'a> LentIndex<'a> {
     fn cursor<F: Flash>(&self, _flash: &F, layout: &Layout) -> LentCursor<'_>
         requires layout { IsLayout (F.device _flash.now) layout.now }
         requires index { self.now.is_given_up ≡ false
-            → IsIndexBesideHidden (slots_by layout.now (F.device _flash.now)) (slot_for self.now.list) }
+            → IsIndexBesideHidden (slots_by layout.now (F.device _flash.now))
+            (slot_for (lent_entries self.now.list)) }
         ensures begins { BeginsOver (slots_by layout.now (F.device _flash.now)) result }
-        ensures ordered { self.now.is_given_up ≡ false → AreInOrder self.now.list }
+        ensures ordered { self.now.is_given_up ≡ false → AreInOrder (lent_entries self.now.list) }
     {
         if self.is_given_up {
             return LentCursor::BySlots(Cursor::unread());
@@ -77,11 +83,18 @@ impl<'a> LentIndex<'a> {
     fn follow<F: Flash>(&mut self, flash: &F, layout: &Layout, puts: &[Put], forgets: bool)
         requires layout { IsLayout (F.device flash.now) layout.now }
         requires few { self.old.is_given_up ≡ false
-            → length (if forgets then [] else puts.now) + length self.old.list < 65536 }
+            → length (if forgets then [] else puts.now) + length (lent_entries self.old.list)
+            < 65536 }
         ensures followed { self.old.is_given_up ≡ false
-            → IsNumberedAfter puts.now forgets self.old.list self.new.list }
+            → (self.new.is_given_up ≡ false)
+            × IsNumberedAfter puts.now forgets (lent_entries self.old.list)
+            (lent_entries self.new.list) }
         ensures read { self.old.is_given_up ≡ true → self.new.is_given_up ≡ false
-            → IsIndex (slots_by layout.now (F.device flash.now)) (slot_for self.new.list) }
+            → IsIndex (slots_by layout.now (F.device flash.now))
+            (slot_for (lent_entries self.new.list)) }
+        ensures small { self.old.is_given_up ≡ true → self.new.is_given_up ≡ true
+            → WasTooSmall (lent_room self.new.list) (slots_by layout.now (F.device flash.now))
+            ⊎ (lent_room self.new.list < layout.now.fill) }
     {
         if !self.is_given_up {
             follow(&mut self.list, puts, forgets);
@@ -97,17 +110,22 @@ impl<'a> LentIndex<'a> {
 impl<'a> Lookup for LentIndex<'a> {
     ghost use Rattle.ee_pages.specs.Meaning.{Put};
     ghost use Rattle.ee_pages.specs.Sets.{fill_of};
-    ghost use Rattle.ee_index.specs.Index.{IsIndex, IsReadyFor, IsRoomFor, slot_for};
-    ghost use Rattle.std.specs.Prelude.{◌≡◌, false};
+    ghost use Rattle.ee_index.specs.Entries.{lent_entries, lent_room};
+    ghost use Rattle.ee_index.specs.Index.{IsIndex, IsReadyFor, IsRoomFor, IsTooSmallFor, WasTooSmall, slot_for};
+    ghost use Rattle.std.specs.Prelude.{◌≡◌, false, true};
 
-    ghost fits = { λ lookup slots. lookup.is_given_up ≡ false
-        → IsIndex slots (slot_for lookup.list) };
+    ghost fits = { λ lookup slots.
+        (lookup.is_given_up ≡ false → IsIndex slots (slot_for (lent_entries lookup.list)))
+        × (lookup.is_given_up ≡ true → WasTooSmall (lent_room lookup.list) slots) };
 
-    ghost is_ready = { λ lookup slots address. lookup.is_given_up ≡ false
-        → IsReadyFor slots (Put address 0) (fill_of slots) (slot_for lookup.list) };
+    ghost is_ready = { λ lookup slots address.
+        (lookup.is_given_up ≡ false
+        → IsReadyFor slots (Put address 0) (fill_of slots) (slot_for (lent_entries lookup.list)))
+        × (lookup.is_given_up ≡ true → IsTooSmallFor (lent_room lookup.list) slots address) };
 
+    // Where the index is given up, it is read anew behind the transfer.
     ghost has_room = { λ lookup slots puts. lookup.is_given_up ≡ false
-        → IsRoomFor slots puts (slot_for lookup.list) };
+        → IsRoomFor slots puts (slot_for (lent_entries lookup.list)) };
 
     ghost takes_memory = { ⊥ };
 
