@@ -93,41 +93,46 @@ pub given_err : {T E X : Type 0} (result : Result T E) → is_err result ≡ tru
 given_err (Ok value) is given = absurd (cc is)
 given_err (Err _) _ given = given
 
-pub kept_ready : (K G fits small : Type 0) (ready few : ℕ → Type 0) (change : declared.Change) → K
-    → IsReadyToMake ((K → fits) × (G → small)) (λ address. (K → ready address) × (G → few address))
-    change
+pub kept_ready : (K G within fits small : Type 0) (ready few : ℕ → Type 0)
+    (change : declared.Change)
+    → K
+    → IsReadyToMake ((K → fits) × within × (G → small))
+    (λ address. (K → ready address) × (G → few address)) change
     → IsReadyToMake fits ready change
-kept_ready K G _ _ _ _ (kinds.Put _ _) kept given = given.0 kept
-kept_ready K G _ _ _ _ (kinds.Forget _ _) kept given = given.0 kept
+kept_ready K G within _ _ _ _ (kinds.Put _ _) kept given = given.0 kept
+kept_ready K G within _ _ _ _ (kinds.Forget _ _) kept given = given.0 kept
 
-pub gone_ready : (K G fits small : Type 0) (ready few : ℕ → Type 0) (change : declared.Change) → G
-    → IsReadyToMake ((K → fits) × (G → small)) (λ address. (K → ready address) × (G → few address))
-    change
+pub gone_ready : (K G within fits small : Type 0) (ready few : ℕ → Type 0)
+    (change : declared.Change)
+    → G
+    → IsReadyToMake ((K → fits) × within × (G → small))
+    (λ address. (K → ready address) × (G → few address)) change
     → IsReadyToMake small few change
-gone_ready K G _ _ _ _ (kinds.Put _ _) gone given = given.1 gone
-gone_ready K G _ _ _ _ (kinds.Forget _ _) gone given = given.1 gone
+gone_ready K G within _ _ _ _ (kinds.Put _ _) gone given = given.1 gone
+gone_ready K G within _ _ _ _ (kinds.Forget _ _) gone given = given.2 gone
 
-pub kept_room : (G fits small : Type 0) (room : List listed.Put → Type 0) (puts : List listed.Put)
-    (forgets : Bool)
-    → G → HasRoomToMove ((G → fits) × small) (λ puts. G → room puts) puts forgets
+pub kept_room : (G within fits small : Type 0) (room : List listed.Put → Type 0)
+    (puts : List listed.Put) (forgets : Bool)
+    → G → HasRoomToMove ((G → fits) × within × small) (λ puts. G → room puts) puts forgets
     → HasRoomToMove fits room puts forgets
-kept_room G _ _ _ _ true kept given = given.0 kept
-kept_room G _ _ _ _ false kept given = given kept
+kept_room G within _ _ _ _ true kept given = given.0 kept
+kept_room G within _ _ _ _ false kept given = given kept
 
 -- it has room for a transfer, where it is not given up
-pub kept_room_for : (G small : Type 0) (device : Device) (layout : Layout) (entries : List (ℕ × ℕ))
-    (puts : List listed.Put) (forgets : Bool)
+pub kept_room_for : (G within small : Type 0) (device : Device) (layout : Layout)
+    (entries : List (ℕ × ℕ)) (puts : List listed.Put) (forgets : Bool)
     → IsLayout device layout
-    → HasRoomToMove ((G → IsIndex (slots_of (set_of layout.side device)) (slot_for entries)) × small)
+    → HasRoomToMove
+    ((G → IsIndex (slots_of (set_of layout.side device)) (slot_for entries)) × within × small)
     (λ puts. G → IsRoomFor (slots_of (set_of layout.side device)) puts (slot_for entries)) puts
     forgets
     → G
     → IsRoomFor (slots_of (set_of layout.side device)) (if forgets then [] else puts)
     (slot_for entries)
-kept_room_for G small device layout entries puts forgets found given kept =
+kept_room_for G within small device layout entries puts forgets found given kept =
     let slots = slots_of (set_of layout.side device) in
     room_for device layout entries puts forgets found
-    (kept_room G (IsIndex slots (slot_for entries)) small
+    (kept_room G within (IsIndex slots (slot_for entries)) small
     (λ puts. IsRoomFor slots puts (slot_for entries)) puts forgets kept given)
 
 -- an index that was kept followed, and one that was given up was read anew

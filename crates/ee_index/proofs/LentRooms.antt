@@ -1,8 +1,8 @@
 -- When an index in lent memory is given up: more addresses had a value than there is room for.
 use Rattle.std.proofs.lemmas.Grind.{common_steps}
-use Rattle.std.proofs.Common.{◌≡◌, ◌≢◌, inl, inr, ◌∙◌, ◌<◌, ◌≤◌, ◌+◌, ℕ, true, false, IfSome, Option, Some, None, is_some, List, ap, arith, get_or, length, subst, sym, take, rules}
+use Rattle.std.proofs.Common.{◌≡◌, ◌≢◌, inl, inr, ◌∙◌, ◌<◌, ◌≤◌, ◌+◌, ℕ, true, false, IfSome, Option, Some, None, is_some, List, [], ap, arith, get_or, length, refl, subst, sym, take, rules}
 use Rattle.std.proofs.lemmas.Bool.{cases_eq}
-use Rattle.std.proofs.lemmas.List.{ext_get_or, get_or-take, length-take-le}
+use Rattle.std.proofs.lemmas.List.{ext_get_or, get_or-take, length-take, length-take-le}
 use Rattle.ee_codec.specs.Reading.{slot_of}
 use Rattle.ee_codec.specs.Words.{IsAddress}
 use Rattle.ee_codec.specs.declared.slot.Slot.{Slot}
@@ -24,11 +24,11 @@ use Rattle.ee_core.specs.Transfers.{SetMoved}
 use Rattle.ee_core.specs.declared.change.Change as declared
 use Rattle.ee_core.specs.declared.change.Change.TheVariants as kinds
 use Rattle.ee_core.proofs.Public.{same_counts}
-use Rattle.ee_index.specs.Entries.{AreInOrder}
-use Rattle.ee_index.specs.Index.{FindsNoRoom, HasIndex, IsTooSmallFor, WasTooSmall, said_at, says_value, slot_for}
+use Rattle.ee_index.specs.Entries.{AreInOrder, Lent, lent_entries, lent_room}
+use Rattle.ee_index.specs.Index.{FindsNoRoom, HasIndex, IsIndex, IsTooSmallFor, WasTooSmall, said_at, says_value, slot_for}
 use Rattle.ee_index.proofs.IndexedAppends.{other_slots}
 use Rattle.ee_index.proofs.IndexedLookups.{live_found}
-use Rattle.ee_index.proofs.IndexedStores.{alike, alike_held, count_of, says_proper, some_is}
+use Rattle.ee_index.proofs.IndexedStores.{alike, alike_held, count_of, few_of, says_proper, some_is}
 use Rattle.ee_index.proofs.Indexing.{IndexesTo, all_used_said, has_none, latest_further, nothing_if}
 
 -- ---- a value for a new address
@@ -115,6 +115,30 @@ module _ (slots : List Word) (count : ℕ) (entries : List (ℕ × ℕ)) (within
         found.ordered in
         omega (arith, full, more);
   }
+
+-- ---- an index that is kept
+
+-- it has room for all addresses that have a value
+pub live_within : (slots : List Word) (lent : Lent) → IsIndex slots (slot_for (lent_entries lent))
+    → live_in (meaning slots) ≤ lent_room lent
+live_within slots lent indexes =
+    let entries = lent_entries lent in
+    let few =
+    few_of entries
+    (λ (address : ℕ) (held : is_some (slot_for entries address) ≡ true).
+    let number = some_is (slot_for entries address) held in
+    proper_if slots address number.0 (meaning slots address)
+    (ap (λ slot. said_at slots slot address) (sym number.1) ∙ indexes address)) in
+    let same =
+    alike (slot_for entries) (meaning slots)
+    (λ address. alike_held slots (slot_for entries address) (meaning slots address) address
+    (indexes address)) 65534 in
+    omega (arith, few, same, length-take lent.count lent.memory)
+
+-- nothing is found in slots that give no address a value
+pub index_of_none : (slots : List Word) (entries : List (ℕ × ℕ)) → entries ≡ []
+    → ((address : ℕ) → meaning slots address ≡ None) → IsIndex slots (slot_for entries)
+index_of_none slots entries e none address = rw (e, none address) refl
 
 -- ---- an append
 

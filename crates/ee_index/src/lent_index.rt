@@ -1,7 +1,8 @@
 //! Values are found by an index in memory that the caller lends, as long as it has room for them.
-ghost use Rattle.std.specs.Prelude.{◌≡◌, ◌<◌, ◌+◌, ◌⊎◌, [], false, if◌then◌else◌, length, true};
+ghost use Rattle.std.specs.Prelude.{◌≡◌, ◌<◌, ◌≤◌, ◌+◌, ◌⊎◌, [], false, if◌then◌else◌, length, true};
 ghost use Rattle.ee_flash.specs.Device.{IsOn};
 ghost use Rattle.ee_pages.specs.Layout.{IsLayout};
+ghost use Rattle.ee_pages.specs.Meaning.{live_in, meaning};
 ghost use Rattle.ee_core.specs.Lookups.{slots_by};
 ghost use Rattle.ee_index.specs.Cursors.{BeginsOver};
 ghost use Rattle.ee_index.specs.Entries.{AreInOrder, lent_entries, lent_room};
@@ -23,6 +24,11 @@ use ee_pages::{Layout, LiveBatch};
 /// Finds values by an index in lent memory: the slot in which each live address stands. An address
 /// for which it has no room makes it give itself up, and then the store looks through the slots. A
 /// transfer or a clear brings it back, if there is room for all addresses that have a value then.
+///
+/// A store that is on has it given up only where the lent memory was too small: behind some of the
+/// used slots, counted from the first, more addresses had a value than there are entries. So whoever
+/// lends an entry for each address that ever has a value doesn't lose it. Where it is not given up,
+/// there is an entry for each address that has a value.
 ///
 /// Source: ours.
 #[derive(Drop)]
@@ -50,12 +56,16 @@ impl<'a> LentIndex<'a> {
         self.is_given_up
     }
 
-    /// Reads the index anew, one look at each used slot. It gives itself up where there is no room.
+    /// Reads the index anew, one look at each used slot. It gives itself up where there is no room
+    /// for an address.
     pub(crate) fn read<F: Flash>(&mut self, flash: &F, layout: &Layout)
         requires { IsLayout (F.device flash.now) layout.now }
         ensures index { self.new.is_given_up ≡ false
             → IsIndex (slots_by layout.now (F.device flash.now))
             (slot_for (lent_entries self.new.list)) }
+        ensures within { self.new.is_given_up ≡ false
+            → live_in (meaning (slots_by layout.now (F.device flash.now)))
+            ≤ lent_room self.new.list }
         ensures small { self.new.is_given_up ≡ true
             → WasTooSmall (lent_room self.new.list)
             (slots_by layout.now (F.device flash.now)) }
@@ -79,7 +89,8 @@ impl<'a> LentIndex<'a> {
         LentCursor::ByIndex(IndexCursor::new(&self.list, layout.fill))
     }
 
-    /// Follows a transfer. Where the index is given up, it is read anew if there is room.
+    /// Follows a transfer. Where the index is given up, it is read anew if there is room. Else more
+    /// slots are used than there is room for addresses.
     fn follow<F: Flash>(&mut self, flash: &F, layout: &Layout, puts: &[Put], forgets: bool)
         requires layout { IsLayout (F.device flash.now) layout.now }
         requires few { self.old.is_given_up ≡ false
@@ -108,14 +119,15 @@ impl<'a> LentIndex<'a> {
 }
 
 impl<'a> Lookup for LentIndex<'a> {
-    ghost use Rattle.ee_pages.specs.Meaning.{Put};
+    ghost use Rattle.ee_pages.specs.Meaning.{Put, live_in, meaning};
     ghost use Rattle.ee_pages.specs.Sets.{fill_of};
     ghost use Rattle.ee_index.specs.Entries.{lent_entries, lent_room};
     ghost use Rattle.ee_index.specs.Index.{IsIndex, IsReadyFor, IsRoomFor, IsTooSmallFor, WasTooSmall, slot_for};
-    ghost use Rattle.std.specs.Prelude.{◌≡◌, false, true};
+    ghost use Rattle.std.specs.Prelude.{◌≡◌, ◌≤◌, false, true};
 
     ghost fits = { λ lookup slots.
         (lookup.is_given_up ≡ false → IsIndex slots (slot_for (lent_entries lookup.list)))
+        × (lookup.is_given_up ≡ false → live_in (meaning slots) ≤ lent_room lookup.list)
         × (lookup.is_given_up ≡ true → WasTooSmall (lent_room lookup.list) slots) };
 
     ghost is_ready = { λ lookup slots address.
