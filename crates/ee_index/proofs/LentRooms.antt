@@ -24,8 +24,9 @@ use Rattle.ee_core.specs.Transfers.{SetMoved}
 use Rattle.ee_core.specs.declared.change.Change as declared
 use Rattle.ee_core.specs.declared.change.Change.TheVariants as kinds
 use Rattle.ee_core.proofs.Public.{same_counts}
-use Rattle.ee_index.specs.Entries.{AreInOrder, Lent, lent_entries, lent_room}
-use Rattle.ee_index.specs.Index.{FindsNoRoom, HasIndex, IsIndex, IsTooSmallFor, WasTooSmall, said_at, says_value, slot_for}
+use Rattle.ee_index.specs.Entries.{AreInOrder}
+use Rattle.ee_index.specs.Index.{HasIndex, IsIndex, said_at, says_value, slot_for}
+use Rattle.ee_index.specs.Lent.{Lent, lent_entries, lent_room, FindsNoRoom, IsTooSmallFor, WasTooSmall}
 use Rattle.ee_index.proofs.IndexedAppends.{other_slots}
 use Rattle.ee_index.proofs.IndexedLookups.{live_found}
 use Rattle.ee_index.proofs.IndexedStores.{alike, alike_held, count_of, few_of, says_proper, some_is}

@@ -16,19 +16,6 @@ entries_said Free number hidden = []
 entries_said Spoiled number hidden = []
 entries_said Foreign number hidden = []
 
--- memory that a caller lends for entries, and how many stand first in it
-pub record Lent : Type 0 where
-  pub memory : List (ℕ × ℕ)
-  pub count : ℕ
-
--- those entries
-abbrev pub lent_entries : Lent → List (ℕ × ℕ)
-lent_entries lent = take lent.count lent.memory
-
--- how many entries there is room for
-abbrev pub lent_room : Lent → ℕ
-lent_room lent = length lent.memory
-
 -- their addresses rise
 abbrev pub AreInOrder : List (ℕ × ℕ) → Type 0
 AreInOrder entries = IsStrictlySortedBy nat_cmp (keys_of entries)

@@ -1,5 +1,5 @@
 -- The index of a store that keeps one: the slots in which the live addresses stand.
-use Rattle.std.specs.Prelude.{◌≡◌, ◌<◌, ◌≤◌, ◌⊎◌, ℕ, ◌+◌, ◌==◌, nat_lt, if◌then◌else◌, is_some, Bool, true, false, IfSome, Option, Some, None, List, [], ◌∷◌, ◌++◌, length, slice_index_or, take}
+use Rattle.std.specs.Prelude.{◌≡◌, ◌<◌, ℕ, ◌+◌, ◌==◌, nat_lt, if◌then◌else◌, is_some, Bool, true, false, Option, Some, None, List, [], ◌∷◌, ◌++◌, length, slice_index_or}
 use Rattle.std.specs.BTreeMap.{is_at}
 use Rattle.std.specs.List.{All}
 use Rattle.std.specs.List.Sorted.{IsStrictlySortedBy}
@@ -43,13 +43,6 @@ abbrev pub IsIndex : List Word → Map → Type 0
 IsIndex slots index =
     (address : ℕ) → said_at slots (index address) address ≡ says_value (meaning slots address)
 
--- Behind so many of the used slots, counted from the first, more addresses had a value than there is
--- room for.
-pub record WasTooSmall (room : ℕ) (slots : List Word) : Type 0 where
-  pub used : ℕ
-  pub within : used ≤ fill_of slots
-  pub too_many : room < live_in (meaning (take used slots))
-
 -- ---- how an index changes
 
 -- a slot of this number, behind those that were entered, says so
@@ -76,21 +69,6 @@ abbrev pub IsReadyFor : List Word → Change → ℕ → Map → Type 0
 IsReadyFor slots change number index =
     (before : Map) × IsIndex slots before
     × ((address : ℕ) → index address ≡ index_for_change change number before address)
-
--- room for so many was too small for these slots, or is full while this address has no value
-abbrev pub IsTooSmallFor : ℕ → List Word → ℕ → Type 0
-IsTooSmallFor room slots address =
-    WasTooSmall room slots ⊎ ((room ≤ live_in (meaning slots)) × (meaning slots address ≡ None))
-
--- A slot says a value of an address that the entries don't have. They rise, and there is no room for
--- one more, if the room is known.
-pub record FindsNoRoom (said : Slot) (room : Option ℕ) (entries : List (ℕ × ℕ)) : Type 0 where
-  pub address : ℕ
-  pub value : ℕ
-  pub said_is : said ≡ Element address value
-  pub absent : slot_for entries address ≡ None
-  pub ordered : IsStrictlySortedBy nat_cmp (keys_of entries)
-  pub full : IfSome room (λ room. room ≤ length entries)
 
 -- ---- how room is made in it
 

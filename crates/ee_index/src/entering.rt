@@ -2,7 +2,8 @@
 ghost use Rattle.std.specs.Prelude.{◌≡◌, ◌<◌, ℕ, [], IfSome, OnErr, OnOk};
 ghost use Rattle.ee_pages.specs.Layout.{IsLayout};
 ghost use Rattle.ee_pages.specs.Sets.{set_of, slots_of};
-ghost use Rattle.ee_index.specs.Index.{FindsNoRoom, IsIndex, WasTooSmall, index_with_slot, slot_for};
+ghost use Rattle.ee_index.specs.Index.{IsIndex, index_with_slot, slot_for};
+ghost use Rattle.ee_index.specs.Lent.{FindsNoRoom, WasTooSmall};
 
 use crate::listing::Listing;
 use ee_codec::{Slot, read_slot};

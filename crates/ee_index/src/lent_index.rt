@@ -1,12 +1,12 @@
 //! Values are found by an index in memory that the caller lends, as long as it has room for them.
-ghost use Rattle.std.specs.Prelude.{◌≡◌, ◌<◌, ◌≤◌, ◌+◌, ◌⊎◌, [], false, if◌then◌else◌, length, true};
+ghost use Rattle.std.specs.Prelude.{◌≡◌, ◌<◌, ◌+◌, ◌⊎◌, [], false, if◌then◌else◌, length, true};
 ghost use Rattle.ee_flash.specs.Device.{IsOn};
 ghost use Rattle.ee_pages.specs.Layout.{IsLayout};
-ghost use Rattle.ee_pages.specs.Meaning.{live_in, meaning};
 ghost use Rattle.ee_core.specs.Lookups.{slots_by};
 ghost use Rattle.ee_index.specs.Cursors.{BeginsOver};
-ghost use Rattle.ee_index.specs.Entries.{AreInOrder, lent_entries, lent_room};
-ghost use Rattle.ee_index.specs.Index.{IsIndex, IsIndexBesideHidden, IsNumberedAfter, WasTooSmall, slot_for};
+ghost use Rattle.ee_index.specs.Entries.{AreInOrder};
+ghost use Rattle.ee_index.specs.Index.{IsIndex, IsIndexBesideHidden, IsNumberedAfter, slot_for};
+ghost use Rattle.ee_index.specs.Lent.{FitsLent, WasTooSmall, lent_entries, lent_room};
 
 use crate::entering::enter_slots;
 use crate::entries::Entry;
@@ -25,10 +25,10 @@ use ee_pages::{Layout, LiveBatch};
 /// for which it has no room makes it give itself up, and then the store looks through the slots. A
 /// transfer or a clear brings it back, if there is room for all addresses that have a value then.
 ///
-/// A store that is on has it given up only where the lent memory was too small: behind some of the
-/// used slots, counted from the first, more addresses had a value than there are entries. So whoever
-/// lends an entry for each address that ever has a value doesn't lose it. Where it is not given up,
-/// there is an entry for each address that has a value.
+/// A store that is on has it given up only where the lent memory was too small. Behind some of the
+/// used slots, counted from the first, more addresses had a value then than the memory has entries.
+/// So whoever lends an entry for each address that ever has a value doesn't lose the index. Where it
+/// is not given up, the memory has an entry for each address that has a value.
 ///
 /// Source: ours.
 #[derive(Drop)]
@@ -60,14 +60,7 @@ impl<'a> LentIndex<'a> {
     /// for an address.
     pub(crate) fn read<F: Flash>(&mut self, flash: &F, layout: &Layout)
         requires { IsLayout (F.device flash.now) layout.now }
-        ensures index { self.new.is_given_up ≡ false
-            → IsIndex (slots_by layout.now (F.device flash.now))
-            (slot_for (lent_entries self.new.list)) }
-        ensures within { self.new.is_given_up ≡ false
-            → live_in (meaning (slots_by layout.now (F.device flash.now)))
-            ≤ lent_room self.new.list }
-        ensures small { self.new.is_given_up ≡ true
-            → WasTooSmall (lent_room self.new.list)
+        ensures { FitsLent self.new.is_given_up self.new.list
             (slots_by layout.now (F.device flash.now)) }
     {
         self.list.clear();
@@ -119,16 +112,13 @@ impl<'a> LentIndex<'a> {
 }
 
 impl<'a> Lookup for LentIndex<'a> {
-    ghost use Rattle.ee_pages.specs.Meaning.{Put, live_in, meaning};
+    ghost use Rattle.ee_pages.specs.Meaning.{Put};
     ghost use Rattle.ee_pages.specs.Sets.{fill_of};
-    ghost use Rattle.ee_index.specs.Entries.{lent_entries, lent_room};
-    ghost use Rattle.ee_index.specs.Index.{IsIndex, IsReadyFor, IsRoomFor, IsTooSmallFor, WasTooSmall, slot_for};
-    ghost use Rattle.std.specs.Prelude.{◌≡◌, ◌≤◌, false, true};
+    ghost use Rattle.ee_index.specs.Index.{IsReadyFor, IsRoomFor, slot_for};
+    ghost use Rattle.ee_index.specs.Lent.{FitsLent, IsTooSmallFor, lent_entries, lent_room};
+    ghost use Rattle.std.specs.Prelude.{◌≡◌, false, true};
 
-    ghost fits = { λ lookup slots.
-        (lookup.is_given_up ≡ false → IsIndex slots (slot_for (lent_entries lookup.list)))
-        × (lookup.is_given_up ≡ false → live_in (meaning slots) ≤ lent_room lookup.list)
-        × (lookup.is_given_up ≡ true → WasTooSmall (lent_room lookup.list) slots) };
+    ghost fits = { λ lookup slots. FitsLent lookup.is_given_up lookup.list slots };
 
     ghost is_ready = { λ lookup slots address.
         (lookup.is_given_up ≡ false
@@ -212,7 +202,12 @@ impl<'a> Lookup for LentIndex<'a> {
         Ok(())
     }
 
-    fn read_anew<F: Flash>(&mut self, flash: &F, layout: &Layout) {
+    // It needs nothing of what was kept, so a new index, which fits no slots yet, is read too.
+    fn read_anew<F: Flash>(&mut self, flash: &F, layout: &Layout)
+        requires { IsLayout (F.device flash.now) layout.now }
+        ensures { FitsLent self.new.is_given_up self.new.list
+            (slots_by layout.now (F.device flash.now)) }
+    {
         self.read(flash, layout);
     }
 

@@ -1,6 +1,6 @@
 //! A list in memory that the caller lends, which has room for so many addresses.
 ghost use Rattle.std.specs.Prelude.{◌≡◌, ◌<◌, ◌≤◌, ◌+◌, ◌-◌, [], insert, length, remove, take};
-ghost use Rattle.ee_index.specs.Entries.{lent_entries, lent_room};
+ghost use Rattle.ee_index.specs.Lent.{lent_entries, lent_room};
 
 use crate::entries::{Entry, renumber, search};
 use crate::listing::Listing;
@@ -17,7 +17,8 @@ pub(crate) struct LentList<'a> {
 
 impl<'a> Model for LentList<'a> {
     ghost use Rattle.std.specs.Prelude.{◌≤◌, length, take};
-    ghost use Rattle.ee_index.specs.Entries.{AreInOrder, Lent};
+    ghost use Rattle.ee_index.specs.Entries.{AreInOrder};
+    ghost use Rattle.ee_index.specs.Lent.{Lent};
 
     ghost Value = { Lent };
 
@@ -54,7 +55,7 @@ impl<'a> LentList<'a> {
 
 impl<'a> Listing for LentList<'a> {
     ghost use Rattle.std.specs.Prelude.{Some};
-    ghost use Rattle.ee_index.specs.Entries.{lent_entries, lent_room};
+    ghost use Rattle.ee_index.specs.Lent.{lent_entries, lent_room};
 
     ghost list = { λ list. lent_entries list };
 

@@ -1,8 +1,8 @@
 use Rattle.std.proofs.Common.{◌≡◌, false, ℕ, subst, sym}
 use Rattle.ee_pages.specs.Meaning.{Put}
 use Rattle.ee_pages.specs.Sets.{fill_of, set_of, slots_of}
-use Rattle.ee_index.specs.Entries.{lent_entries, lent_room}
-use Rattle.ee_index.specs.Index.{IsReadyFor, IsTooSmallFor, WasTooSmall, slot_for}
+use Rattle.ee_index.specs.Index.{IsReadyFor, slot_for}
+use Rattle.ee_index.specs.Lent.{lent_entries, lent_room, IsTooSmallFor, WasTooSmall}
 use Rattle.ee_core.specs.Lookups.{slots_by}
 use Rattle.ee_index.proofs.Followed.{index_appended}
 use Rattle.ee_index.proofs.IndexedLookups.{gone_ready, kept_ready, ready_for}

@@ -1,7 +1,7 @@
 use Rattle.std.proofs.Common.{◌∙◌, ◌≤◌, ℕ, List, length, subst, sym, rules}
 use Rattle.ee_pages.specs.Meaning.{Put}
 use Rattle.ee_pages.specs.Sets.{set_of, slots_of}
-use Rattle.ee_index.specs.Entries.{lent_entries, lent_room}
+use Rattle.ee_index.specs.Lent.{lent_entries, lent_room}
 use Rattle.ee_index.specs.Index.{IsReadyFor, slot_for}
 use Rattle.ee_index.proofs.IndexedLookups.{given_err, given_ok, has_index}
 use Rattle.ee_index.proofs.Indexing.{fill_small}
@@ -12,10 +12,11 @@ pub returns-clause-ready : goal.returns-clause-ready
 returns-clause-ready g c =
     let device = g.F.Flash.device c.args._flash.now in
     let held = lent_entries c.args.self.now.list in
+    let slots = slots_of (set_of c.args.layout.now.side device) in
+    let after = slot_for (lent_entries c.insert.new.self) in
     let indexes = c.requires.fits.0 c.if-self.false in (
-      λ kept. subst
-          (λ fill. IsReadyFor (slots_of (set_of c.args.layout.now.side device))
-          (Put c.args.put.address 0) fill (slot_for (lent_entries c.insert.new.self))) c.requires.layout.fill (
+      λ kept. subst (λ fill. IsReadyFor slots (Put c.args.put.address 0) fill after)
+          c.requires.layout.fill (
             slot_for held,
             indexes,
             given_ok _ (sym c.is_err-self.ensures.value ∙ kept) c.insert.ensures.entered,

@@ -1,5 +1,5 @@
 use Rattle.std.proofs.Common.{inl, inr}
-use Rattle.ee_index.specs.Entries.{lent_entries}
+use Rattle.ee_index.specs.Lent.{lent_entries}
 use Rattle.ee_index.proofs.Followed.{gone_over, index_followed, numbers_few}
 use Rattle.ee_index.proofs.IndexedLookups.{gone_before, kept_or_read, kept_room_for}
 use Rattle.ee_index.proofs.LentRooms.{live_within, small_moved}
