@@ -27,8 +27,8 @@ use ee_pages::{Layout, LiveBatch};
 ///
 /// A store that is on has it given up only where the lent memory was too small. Behind some of the
 /// used slots, counted from the first, more addresses had a value then than the memory has entries.
-/// So whoever lends an entry for each address that ever has a value doesn't lose the index. Where it
-/// is not given up, the memory has an entry for each address that has a value.
+/// So whoever lends an entry for each address that ever has a value doesn't lose the index. Where
+/// it is not given up, the memory has an entry for each address that has a value.
 ///
 /// Source: ours.
 #[derive(Drop)]
