@@ -31,7 +31,7 @@
 	.type	ee_index_lent_index_LentIndex_read_Device,%function
 	.code	16
 	.thumb_func
-	/* firmware/rust/ee-store/src/ee_index/lent_index.rs:41 */
+	/* firmware/rust/ee-store/src/ee_index/lent_index.rs:47 */
 ee_index_lent_index_LentIndex_read_Device:
 	push	{r4, r5, r6, r7, lr}
 	add	r7, sp, #12
@@ -1773,7 +1773,7 @@ ee_pages_marking_mark_Device:
 	.type	ee_index_lent_index_LentIndex_ee_core_lookup_Lookup_live_count_Device,%function
 	.code	16
 	.thumb_func
-	/* firmware/rust/ee-store/src/ee_index/lent_index.rs:75 */
+	/* firmware/rust/ee-store/src/ee_index/lent_index.rs:82 */
 ee_index_lent_index_LentIndex_ee_core_lookup_Lookup_live_count_Device:
 	push	{r7, lr}
 	add	r7, sp, #0
@@ -1795,7 +1795,7 @@ ee_index_lent_index_LentIndex_ee_core_lookup_Lookup_live_count_Device:
 	.type	ee_index_lent_index_LentIndex_ee_core_lookup_Lookup_append_Device,%function
 	.code	16
 	.thumb_func
-	/* firmware/rust/ee-store/src/ee_index/lent_index.rs:148 */
+	/* firmware/rust/ee-store/src/ee_index/lent_index.rs:156 */
 ee_index_lent_index_LentIndex_ee_core_lookup_Lookup_append_Device:
 	push	{r4, r5, r6, r7, lr}
 	add	r7, sp, #12
@@ -1895,7 +1895,7 @@ ee_index_lent_index_LentIndex_ee_core_lookup_Lookup_append_Device:
 	.type	ee_index_lent_index_LentIndex_ee_core_lookup_Lookup_transfer_Device,%function
 	.code	16
 	.thumb_func
-	/* firmware/rust/ee-store/src/ee_index/lent_index.rs:160 */
+	/* firmware/rust/ee-store/src/ee_index/lent_index.rs:168 */
 ee_index_lent_index_LentIndex_ee_core_lookup_Lookup_transfer_Device:
 	push	{r4, r5, r6, r7, lr}
 	add	r7, sp, #12
@@ -2196,7 +2196,7 @@ ee_index_lent_index_LentIndex_ee_core_lookup_Lookup_transfer_Device:
 	.type	ee_index_lent_index_LentIndex_ee_core_lookup_Lookup_value_of_Device,%function
 	.code	16
 	.thumb_func
-	/* firmware/rust/ee-store/src/ee_index/lent_index.rs:68 */
+	/* firmware/rust/ee-store/src/ee_index/lent_index.rs:75 */
 ee_index_lent_index_LentIndex_ee_core_lookup_Lookup_value_of_Device:
 	push	{r4, r5, r6, r7, lr}
 	add	r7, sp, #12
@@ -2247,7 +2247,7 @@ ee_index_lent_index_LentIndex_ee_core_lookup_Lookup_value_of_Device:
 	.type	ee_index_lent_index_LentIndex_ee_core_lookup_Lookup_make_room_Device,%function
 	.code	16
 	.thumb_func
-	/* firmware/rust/ee-store/src/ee_index/lent_index.rs:126 */
+	/* firmware/rust/ee-store/src/ee_index/lent_index.rs:133 */
 ee_index_lent_index_LentIndex_ee_core_lookup_Lookup_make_room_Device:
 	push	{r4, r5, r6, r7, lr}
 	add	r7, sp, #12

@@ -1,5 +1,5 @@
 -- What an index finds is what the map of its slots says.
-use Rattle.std.proofs.Common.{◌≡◌, ◌+◌, ◌∙◌, Bool, true, false, ℕ, Result, Ok, Err, OnOk, is_err, Some, List, [], arith, get_or, length, refl, rules}
+use Rattle.std.proofs.Common.{◌≡◌, ◌+◌, ◌∙◌, Bool, true, false, ℕ, Result, Ok, Err, OnErr, OnOk, is_err, Some, List, [], arith, get_or, length, refl, sym, rules}
 use Rattle.std.specs.Bool.{if◌then◌else◌}
 use Rattle.std.specs.List.Sorted.{IsStrictlySortedBy}
 use Rattle.std.specs.Map.{keys_of}
@@ -89,33 +89,50 @@ pub given_ok : {T E X : Type 0} (result : Result T E) → is_err result ≡ fals
 given_ok (Ok _) _ given = given
 given_ok (Err error) is given = absurd (cc is)
 
-pub kept_ready : (G fits : Type 0) (ready : ℕ → Type 0) (change : declared.Change) → G
-    → IsReadyToMake (G → fits) (λ address. G → ready address) change
-    → IsReadyToMake fits ready change
-kept_ready G _ _ (kinds.Put _ _) kept given = given kept
-kept_ready G _ _ (kinds.Forget _ _) kept given = given kept
+pub given_err : {T E X : Type 0} (result : Result T E) → is_err result ≡ true → OnErr result X → X
+given_err (Ok value) is given = absurd (cc is)
+given_err (Err _) _ given = given
 
-pub kept_room : (G fits : Type 0) (room : List listed.Put → Type 0) (puts : List listed.Put)
-    (forgets : Bool)
-    → G → HasRoomToMove (G → fits) (λ puts. G → room puts) puts forgets
+pub kept_ready : (K G within fits small : Type 0) (ready few : ℕ → Type 0)
+    (change : declared.Change)
+    → K
+    → IsReadyToMake ((K → fits) × within × (G → small))
+    (λ address. (K → ready address) × (G → few address)) change
+    → IsReadyToMake fits ready change
+kept_ready K G within _ _ _ _ (kinds.Put _ _) kept given = given.0 kept
+kept_ready K G within _ _ _ _ (kinds.Forget _ _) kept given = given.0 kept
+
+pub gone_ready : (K G within fits small : Type 0) (ready few : ℕ → Type 0)
+    (change : declared.Change)
+    → G
+    → IsReadyToMake ((K → fits) × within × (G → small))
+    (λ address. (K → ready address) × (G → few address)) change
+    → IsReadyToMake small few change
+gone_ready K G within _ _ _ _ (kinds.Put _ _) gone given = given.1 gone
+gone_ready K G within _ _ _ _ (kinds.Forget _ _) gone given = given.2 gone
+
+pub kept_room : (G within fits small : Type 0) (room : List listed.Put → Type 0)
+    (puts : List listed.Put) (forgets : Bool)
+    → G → HasRoomToMove ((G → fits) × within × small) (λ puts. G → room puts) puts forgets
     → HasRoomToMove fits room puts forgets
-kept_room G _ _ _ true kept given = given kept
-kept_room G _ _ _ false kept given = given kept
+kept_room G within _ _ _ _ true kept given = given.0 kept
+kept_room G within _ _ _ _ false kept given = given kept
 
 -- it has room for a transfer, where it is not given up
-pub kept_room_for : (G : Type 0) (device : Device) (layout : Layout) (entries : List (ℕ × ℕ))
-    (puts : List listed.Put) (forgets : Bool)
+pub kept_room_for : (G within small : Type 0) (device : Device) (layout : Layout)
+    (entries : List (ℕ × ℕ)) (puts : List listed.Put) (forgets : Bool)
     → IsLayout device layout
-    → HasRoomToMove (G → IsIndex (slots_of (set_of layout.side device)) (slot_for entries))
+    → HasRoomToMove
+    ((G → IsIndex (slots_of (set_of layout.side device)) (slot_for entries)) × within × small)
     (λ puts. G → IsRoomFor (slots_of (set_of layout.side device)) puts (slot_for entries)) puts
     forgets
     → G
     → IsRoomFor (slots_of (set_of layout.side device)) (if forgets then [] else puts)
     (slot_for entries)
-kept_room_for G device layout entries puts forgets found given kept =
+kept_room_for G within small device layout entries puts forgets found given kept =
     let slots = slots_of (set_of layout.side device) in
     room_for device layout entries puts forgets found
-    (kept_room G (IsIndex slots (slot_for entries))
+    (kept_room G within (IsIndex slots (slot_for entries)) small
     (λ puts. IsRoomFor slots puts (slot_for entries)) puts forgets kept given)
 
 -- an index that was kept followed, and one that was given up was read anew
@@ -123,3 +140,11 @@ pub kept_or_read : {X : Type 0} (was is : Bool) → (was ≡ false → X) → (w
     → is ≡ false → X
 kept_or_read true _ _ read kept = read refl kept
 kept_or_read false _ followed _ _ = followed refl
+
+-- an index that is given up was so before, and was read anew if there was room
+pub gone_before : {X Y : Type 0} (was is : Bool) → (was ≡ false → (is ≡ false) × Y)
+    → (was ≡ true → is ≡ true → X) → is ≡ true → X
+gone_before true _ _ read gone = read refl gone
+gone_before false is kept _ gone =
+    let both : true ≡ false = sym gone ∙ (kept refl).0 in
+    absurd (cc both)

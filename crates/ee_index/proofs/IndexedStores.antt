@@ -1,5 +1,5 @@
 -- What a store with an index reads of it.
-use Rattle.std.proofs.Common.{◌≡◌, ℕ, ◌<◌, true, false, Option, Some, None, is_some, List, [], ◌∷◌, length, get_or, refl, sym, ap, ◌∙◌, arith, suc, zero, rules}
+use Rattle.std.proofs.Common.{◌≡◌, ℕ, ◌<◌, ◌≤◌, Bool, cond, true, false, Option, Some, None, is_some, List, [], ◌∷◌, length, get_or, refl, sym, ap, ◌∙◌, arith, suc, zero, rules}
 use Rattle.std.proofs.lemmas.Bool.{cases_eq}
 use Rattle.std.proofs.lemmas.Bool.Decides.{nat_tests}
 use Rattle.std.proofs.lemmas.Grind.{common_steps}
@@ -64,6 +64,30 @@ count_of (first ∷ rest) sorted proper =
     (ap is_some (as_put first rest first.0) ∙ put_has first.0 first.1 (slot_for rest)) in
     let counts = change_counts (Put first.0 first.1) (slot_for rest) here in
     search rules
+
+-- and no more addresses than entries, whatever their order
+pub few_of : (entries : List (ℕ × ℕ))
+    → ((address : ℕ) → is_some (slot_for entries address) ≡ true → IsAddress address)
+    → live_in (slot_for entries) ≤ length entries
+few_of [] _ = omega (arith, live_in-nothing (slot_for []) (λ address. refl))
+few_of (first ∷ rest) proper =
+    let more =
+    few_of rest
+    (λ address held. proper address
+    (ap is_some (as_put first rest address)
+    ∙ put_keeps first.0 first.1 address (slot_for rest) held)) in
+    let here =
+    proper first.0
+    (ap is_some (as_put first rest first.0) ∙ put_has first.0 first.1 (slot_for rest)) in
+    let counts = change_counts (Put first.0 first.1) (slot_for rest) here in
+    let same =
+    alike (slot_for (first ∷ rest)) (map_after (Put first.0 first.1) (slot_for rest))
+    (λ address. ap is_some (as_put first rest address)) 65534 in
+    omega (arith, more, counts, same, at_most_one (is_some (slot_for rest first.0)))
+  where
+    at_most_one : (held : Bool) → cond held 0 1 ≤ 1
+    at_most_one true = omega arith
+    at_most_one false = omega arith
 
 -- a word that says something of an address says it of a proper one
 pub says_proper : (word : Word) (address : ℕ) (said : Option ℕ) → says word address ≡ Some said

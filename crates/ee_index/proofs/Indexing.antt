@@ -28,7 +28,7 @@ IndexesTo slots count index =
     (address : ℕ)
     → said_at slots (index address) address ≡ says_value (meaning (take count slots) address)
 
-latest_further : (slots : List Word) (count address : ℕ) → count < length slots
+pub latest_further : (slots : List Word) (count address : ℕ) → count < length slots
     → latest_in (take (count + 1) slots) address
     ≡ later_of (latest_in (take count slots) address) (says (get_or slots count Erased) address)
 latest_further slots count address h =

@@ -11,3 +11,4 @@ mod IndexedBatches
 mod IndexedLookups
 mod LentLists
 mod Followed
+mod LentRooms

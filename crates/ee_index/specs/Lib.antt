@@ -1,3 +1,4 @@
 pub mod Entries
 pub mod Index
+pub mod Lent
 pub mod Cursors

@@ -1,8 +1,9 @@
 //! What used slots say goes into an index.
-ghost use Rattle.std.specs.Prelude.{◌≡◌, ◌<◌, ℕ, [], OnOk};
+ghost use Rattle.std.specs.Prelude.{◌≡◌, ◌<◌, ℕ, [], IfSome, OnErr, OnOk};
 ghost use Rattle.ee_pages.specs.Layout.{IsLayout};
 ghost use Rattle.ee_pages.specs.Sets.{set_of, slots_of};
 ghost use Rattle.ee_index.specs.Index.{IsIndex, index_with_slot, slot_for};
+ghost use Rattle.ee_index.specs.Lent.{FindsNoRoom, WasTooSmall};
 
 use crate::listing::Listing;
 use ee_codec::{Slot, read_slot};
@@ -11,7 +12,7 @@ use ee_flash::Flash;
 use ee_pages::{Layout, slot_word};
 
 /// Makes a list with no address the index of a live set: one look at each used slot. An `Err`
-/// leaves some addresses in it.
+/// leaves some addresses in it, and tells that its room, if that is known, is too small.
 pub(crate) fn enter_slots<F: Flash, L: Listing>(
     list: &mut L,
     flash: &F,
@@ -19,8 +20,10 @@ pub(crate) fn enter_slots<F: Flash, L: Listing>(
 ) -> Result<(), NoMemory>
     requires layout { IsLayout (F.device flash.now) layout.now }
     requires none { L.list list.old ≡ [] }
-    ensures { let slots = slots_of (set_of layout.now.side (F.device flash.now)) in
+    ensures index { let slots = slots_of (set_of layout.now.side (F.device flash.now)) in
         OnOk result (IsIndex slots (slot_for (L.list list.new))) }
+    ensures small { let slots = slots_of (set_of layout.now.side (F.device flash.now)) in
+        OnErr result (IfSome (L.room list.new) (λ room. WasTooSmall room slots)) }
 {
     for number in 0..layout.fill {
         enter(list, number, read_slot(slot_word(flash, layout, number)))?;
@@ -31,8 +34,10 @@ pub(crate) fn enter_slots<F: Flash, L: Listing>(
 /// Enters what the slot of this number says.
 fn enter<L: Listing>(list: &mut L, number: usize, said: Slot) -> Result<(), NoMemory>
     requires { number < 65536 }
-    ensures { OnOk result ((address : ℕ) → slot_for (L.list list.new) address
+    ensures entered { OnOk result ((address : ℕ) → slot_for (L.list list.new) address
         ≡ index_with_slot said number (slot_for (L.list list.old)) address) }
+    ensures refused { OnErr result (FindsNoRoom said (L.room list.new) (L.list list.new)) }
+    ensures err { OnErr result (L.list list.new ≡ L.list list.old) }
 {
     match said {
         Slot::Element { address, .. } => {

@@ -62,7 +62,11 @@ impl<A: Allocator> Index<A> {
 }
 
 impl<A: Allocator> Listing for Index<A> {
+    ghost use Rattle.std.specs.Prelude.{None};
+
     ghost list = { λ index. index };
+
+    ghost room = { λ index. None };
 
     fn entries(&self) -> &[Entry] {
         &self.entries

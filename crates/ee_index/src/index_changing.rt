@@ -146,14 +146,16 @@ fn leave<L: Listing>(list: &mut L, address: Address)
     ensures left { (named : ℕ) → slot_for (L.list list.new) named
         ≡ map_after (MapForget address) (slot_for (L.list list.old)) named }
     ensures fewer { length (L.list list.new) ≤ length (L.list list.old) }
+    ensures same_room { L.room list.new ≡ L.room list.old }
 {
     list.remove(address);
 }
 
 /// Takes an address that is forgotten from an index.
 pub(crate) fn leave_forgotten<L: Listing>(list: &mut L, change: &Change)
-    ensures { (address : ℕ) → slot_for (L.list list.new) address
+    ensures left { (address : ℕ) → slot_for (L.list list.new) address
         ≡ without_forgotten (map_change change.now) (slot_for (L.list list.old)) address }
+    ensures same_room { L.room list.new ≡ L.room list.old }
 {
     if let Change::Forget { address, .. } = *change {
         leave(list, address);

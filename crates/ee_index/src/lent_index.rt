@@ -1,11 +1,12 @@
 //! Values are found by an index in memory that the caller lends, as long as it has room for them.
-ghost use Rattle.std.specs.Prelude.{◌≡◌, ◌<◌, ◌+◌, [], false, if◌then◌else◌, length, true};
+ghost use Rattle.std.specs.Prelude.{◌≡◌, ◌<◌, ◌+◌, ◌⊎◌, [], false, if◌then◌else◌, length, true};
 ghost use Rattle.ee_flash.specs.Device.{IsOn};
 ghost use Rattle.ee_pages.specs.Layout.{IsLayout};
 ghost use Rattle.ee_core.specs.Lookups.{slots_by};
 ghost use Rattle.ee_index.specs.Cursors.{BeginsOver};
 ghost use Rattle.ee_index.specs.Entries.{AreInOrder};
 ghost use Rattle.ee_index.specs.Index.{IsIndex, IsIndexBesideHidden, IsNumberedAfter, slot_for};
+ghost use Rattle.ee_index.specs.Lent.{FitsLent, WasTooSmall, lent_entries, lent_room};
 
 use crate::entering::enter_slots;
 use crate::entries::Entry;
@@ -24,6 +25,11 @@ use ee_pages::{Layout, LiveBatch};
 /// for which it has no room makes it give itself up, and then the store looks through the slots. A
 /// transfer or a clear brings it back, if there is room for all addresses that have a value then.
 ///
+/// A store that is on has it given up only where the lent memory was too small. Behind some of the
+/// used slots, counted from the first, more addresses had a value then than the memory has entries.
+/// So whoever lends an entry for each address that ever has a value doesn't lose the index. Where
+/// it is not given up, the memory has an entry for each address that has a value.
+///
 /// Source: ours.
 #[derive(Drop)]
 pub struct LentIndex<'a> {
@@ -34,7 +40,8 @@ pub struct LentIndex<'a> {
 impl<'a> LentIndex<'a> {
     /// Given up: nothing was read yet.
     pub fn new(room: &'a mut [Entry]) -> LentIndex<'a>
-        ensures { result.is_given_up ≡ true }
+        ensures given_up { result.is_given_up ≡ true }
+        ensures as_many { lent_room result.list ≡ length room.old }
     {
         LentIndex {
             list: LentList::new(room),
@@ -49,11 +56,12 @@ impl<'a> LentIndex<'a> {
         self.is_given_up
     }
 
-    /// Reads the index anew, one look at each used slot. It gives itself up where there is no room.
+    /// Reads the index anew, one look at each used slot. It gives itself up where there is no room
+    /// for an address.
     pub(crate) fn read<F: Flash>(&mut self, flash: &F, layout: &Layout)
         requires { IsLayout (F.device flash.now) layout.now }
-        ensures { self.new.is_given_up ≡ false
-            → IsIndex (slots_by layout.now (F.device flash.now)) (slot_for self.new.list) }
+        ensures { FitsLent self.new.is_given_up self.new.list
+            (slots_by layout.now (F.device flash.now)) }
     {
         self.list.clear();
         self.is_given_up = enter_slots(&mut self.list, flash, layout).is_err();
@@ -64,9 +72,9 @@ impl<'a> LentIndex<'a> {
         requires layout { IsLayout (F.device _flash.now) layout.now }
         requires index { self.now.is_given_up ≡ false
             → IsIndexBesideHidden (slots_by layout.now (F.device _flash.now))
-            (slot_for self.now.list) }
+            (slot_for (lent_entries self.now.list)) }
         ensures begins { BeginsOver (slots_by layout.now (F.device _flash.now)) result }
-        ensures ordered { self.now.is_given_up ≡ false → AreInOrder self.now.list }
+        ensures ordered { self.now.is_given_up ≡ false → AreInOrder (lent_entries self.now.list) }
     {
         if self.is_given_up {
             return LentCursor::BySlots(Cursor::unread());
@@ -74,15 +82,23 @@ impl<'a> LentIndex<'a> {
         LentCursor::ByIndex(IndexCursor::new(&self.list, layout.fill))
     }
 
-    /// Follows a transfer. Where the index is given up, it is read anew if there is room.
+    /// Follows a transfer. Where the index is given up, it is read anew if there is room. Else more
+    /// slots are used than there is room for addresses.
     fn follow<F: Flash>(&mut self, flash: &F, layout: &Layout, puts: &[Put], forgets: bool)
         requires layout { IsLayout (F.device flash.now) layout.now }
         requires few { self.old.is_given_up ≡ false
-            → length (if forgets then [] else puts.now) + length self.old.list < 65536 }
+            → length (if forgets then [] else puts.now) + length (lent_entries self.old.list)
+            < 65536 }
         ensures followed { self.old.is_given_up ≡ false
-            → IsNumberedAfter puts.now forgets self.old.list self.new.list }
+            → (self.new.is_given_up ≡ false)
+            × IsNumberedAfter puts.now forgets (lent_entries self.old.list)
+            (lent_entries self.new.list) }
         ensures read { self.old.is_given_up ≡ true → self.new.is_given_up ≡ false
-            → IsIndex (slots_by layout.now (F.device flash.now)) (slot_for self.new.list) }
+            → IsIndex (slots_by layout.now (F.device flash.now))
+            (slot_for (lent_entries self.new.list)) }
+        ensures small { self.old.is_given_up ≡ true → self.new.is_given_up ≡ true
+            → WasTooSmall (lent_room self.new.list) (slots_by layout.now (F.device flash.now))
+            ⊎ (lent_room self.new.list < layout.now.fill) }
     {
         if !self.is_given_up {
             follow(&mut self.list, puts, forgets);
@@ -98,17 +114,20 @@ impl<'a> LentIndex<'a> {
 impl<'a> Lookup for LentIndex<'a> {
     ghost use Rattle.ee_pages.specs.Meaning.{Put};
     ghost use Rattle.ee_pages.specs.Sets.{fill_of};
-    ghost use Rattle.ee_index.specs.Index.{IsIndex, IsReadyFor, IsRoomFor, slot_for};
-    ghost use Rattle.std.specs.Prelude.{◌≡◌, false};
+    ghost use Rattle.ee_index.specs.Index.{IsReadyFor, IsRoomFor, slot_for};
+    ghost use Rattle.ee_index.specs.Lent.{FitsLent, IsTooSmallFor, lent_entries, lent_room};
+    ghost use Rattle.std.specs.Prelude.{◌≡◌, false, true};
 
-    ghost fits = { λ lookup slots. lookup.is_given_up ≡ false
-        → IsIndex slots (slot_for lookup.list) };
+    ghost fits = { λ lookup slots. FitsLent lookup.is_given_up lookup.list slots };
 
-    ghost is_ready = { λ lookup slots address. lookup.is_given_up ≡ false
-        → IsReadyFor slots (Put address 0) (fill_of slots) (slot_for lookup.list) };
+    ghost is_ready = { λ lookup slots address.
+        (lookup.is_given_up ≡ false
+        → IsReadyFor slots (Put address 0) (fill_of slots) (slot_for (lent_entries lookup.list)))
+        × (lookup.is_given_up ≡ true → IsTooSmallFor (lent_room lookup.list) slots address) };
 
+    // Where the index is given up, it is read anew behind the transfer.
     ghost has_room = { λ lookup slots puts. lookup.is_given_up ≡ false
-        → IsRoomFor slots puts (slot_for lookup.list) };
+        → IsRoomFor slots puts (slot_for (lent_entries lookup.list)) };
 
     ghost takes_memory = { ⊥ };
 
@@ -183,7 +202,12 @@ impl<'a> Lookup for LentIndex<'a> {
         Ok(())
     }
 
-    fn read_anew<F: Flash>(&mut self, flash: &F, layout: &Layout) {
+    // It needs nothing of what was kept, so a new index, which fits no slots yet, is read too.
+    fn read_anew<F: Flash>(&mut self, flash: &F, layout: &Layout)
+        requires { IsLayout (F.device flash.now) layout.now }
+        ensures { FitsLent self.new.is_given_up self.new.list
+            (slots_by layout.now (F.device flash.now)) }
+    {
         self.read(flash, layout);
     }
 

@@ -1,5 +1,6 @@
 //! A list in memory that the caller lends, which has room for so many addresses.
 ghost use Rattle.std.specs.Prelude.{◌≡◌, ◌<◌, ◌≤◌, ◌+◌, ◌-◌, [], insert, length, remove, take};
+ghost use Rattle.ee_index.specs.Lent.{lent_entries, lent_room};
 
 use crate::entries::{Entry, renumber, search};
 use crate::listing::Listing;
@@ -15,12 +16,13 @@ pub(crate) struct LentList<'a> {
 }
 
 impl<'a> Model for LentList<'a> {
-    ghost use Rattle.std.specs.Prelude.{ℕ, List, ◌≤◌, length, take};
+    ghost use Rattle.std.specs.Prelude.{◌≤◌, length, take};
     ghost use Rattle.ee_index.specs.Entries.{AreInOrder};
+    ghost use Rattle.ee_index.specs.Lent.{Lent};
 
-    ghost Value = { List (ℕ × ℕ) };
+    ghost Value = { Lent };
 
-    ghost view = { λ list. take list.count list.room.now };
+    ghost view = { λ list. record { memory = list.room.now; count = list.count } };
 
     ghost invariant = { λ list. (list.count ≤ length list.room.now)
         × AreInOrder (take list.count list.room.now) };
@@ -29,26 +31,35 @@ impl<'a> Model for LentList<'a> {
 impl<'a> LentList<'a> {
     /// With no address.
     pub(crate) fn new(room: &'a mut [Entry]) -> LentList<'a>
-        ensures { result ≡ [] }
+        ensures none { lent_entries result ≡ [] }
+        ensures as_many { lent_room result ≡ length room.old }
     {
         LentList { room, count: 0 }
     }
 
     /// How many addresses there is room for.
-    pub(crate) fn capacity(&self) -> usize {
+    pub(crate) fn capacity(&self) -> usize
+        ensures { result ≡ lent_room self.now }
+    {
         self.room.len()
     }
 
     /// Takes all addresses from it.
     pub(crate) fn clear(&mut self)
-        ensures { self.new ≡ [] }
+        ensures none { lent_entries self.new ≡ [] }
+        ensures same_room { lent_room self.new ≡ lent_room self.old }
     {
         self.count = 0;
     }
 }
 
 impl<'a> Listing for LentList<'a> {
-    ghost list = { λ list. list };
+    ghost use Rattle.std.specs.Prelude.{Some};
+    ghost use Rattle.ee_index.specs.Lent.{lent_entries, lent_room};
+
+    ghost list = { λ list. lent_entries list };
+
+    ghost room = { λ list. Some (lent_room list) };
 
     fn entries(&self) -> &[Entry] {
         &self.room[..self.count]

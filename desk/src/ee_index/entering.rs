@@ -9,7 +9,7 @@ use crate::ee_flash::Flash;
 use crate::ee_pages::{Layout, slot_word};
 
 /// Makes a list with no address the index of a live set: one look at each used slot. An `Err`
-/// leaves some addresses in it.
+/// leaves some addresses in it, and tells that its room, if that is known, is too small.
 pub(crate) fn enter_slots<F: Flash, L: Listing>(
     list: &mut L,
     flash: &F,

@@ -8,5 +8,5 @@ returns g c = record {
   store = c.append_change.ensures.store;
   layout = c.append_change.ensures.layout;
   index = λ on. index_appended _ _ _ _ _ _ c.requires.layout c.requires.free c.requires.ready
-      c.in_ok-append_change.ensures.written _ c.leave_forgotten.ensures;
+      c.in_ok-append_change.ensures.written _ c.leave_forgotten.ensures.left;
 }

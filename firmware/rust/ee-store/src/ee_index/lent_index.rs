@@ -17,6 +17,11 @@ use crate::ee_pages::{Layout, LiveBatch};
 /// Finds values by an index in lent memory: the slot in which each live address stands. An address
 /// for which it has no room makes it give itself up, and then the store looks through the slots. A
 /// transfer or a clear brings it back, if there is room for all addresses that have a value then.
+///
+/// A store that is on has it given up only where the lent memory was too small. Behind some of the
+/// used slots, counted from the first, more addresses had a value then than the memory has entries.
+/// So whoever lends an entry for each address that ever has a value doesn't lose the index. Where
+/// it is not given up, the memory has an entry for each address that has a value.
 pub struct LentIndex<'a> {
     pub(crate) list: LentList<'a>,
     pub(crate) is_given_up: bool,
@@ -37,7 +42,8 @@ impl<'a> LentIndex<'a> {
         self.is_given_up
     }
 
-    /// Reads the index anew, one look at each used slot. It gives itself up where there is no room.
+    /// Reads the index anew, one look at each used slot. It gives itself up where there is no room
+    /// for an address.
     pub(crate) fn read<F: Flash>(&mut self, flash: &F, layout: &Layout) {
         self.list.clear();
         self.is_given_up = enter_slots(&mut self.list, flash, layout).is_err();
@@ -51,7 +57,8 @@ impl<'a> LentIndex<'a> {
         LentCursor::ByIndex(IndexCursor::new(&self.list, layout.fill))
     }
 
-    /// Follows a transfer. Where the index is given up, it is read anew if there is room.
+    /// Follows a transfer. Where the index is given up, it is read anew if there is room. Else more
+    /// slots are used than there is room for addresses.
     fn follow<F: Flash>(&mut self, flash: &F, layout: &Layout, puts: &[Put], forgets: bool) {
         if !self.is_given_up {
             follow(&mut self.list, puts, forgets);
@@ -136,6 +143,7 @@ impl<'a> Lookup for LentIndex<'a> {
         Ok(())
     }
 
+    // It needs nothing of what was kept, so a new index, which fits no slots yet, is read too.
     fn read_anew<F: Flash>(&mut self, flash: &F, layout: &Layout) {
         self.read(flash, layout);
     }

@@ -15,7 +15,7 @@ pub(crate) trait Listing {
     fn find(&self, address: Address) -> Result<usize, usize>;
 
     /// Gives an address the slot of this number. An `Err`, which only a new address meets, leaves
-    /// the list as it was.
+    /// the list as it was. Where its room is known, that is full then.
     fn insert(&mut self, address: Address, number: usize) -> Result<(), NoMemory>;
 
     /// Takes an address from it.
