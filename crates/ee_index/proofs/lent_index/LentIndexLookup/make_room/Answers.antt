@@ -7,7 +7,8 @@ use Rattle.ee_index.proofs.lent_index.LentIndexLookup.make_room.Goals as goal
 pub returns-clause-room : goal.returns-clause-room
 returns-clause-room g c = λ kept.
     let device = g.F.Flash.device c.args._flash.now in
-    room_made device _ _ (has_index device _ _ c.requires.layout (c.requires.fits.0 c.if-self.false))
+    room_made device _ _
+    (has_index device _ _ c.requires.layout (c.requires.fits.0 c.if-self.false))
     _ _ c.enter_hidden.ensures.shown
     (given_ok _ (sym c.is_err-self.ensures.value ∙ kept) c.enter_hidden.ensures.there)
 
