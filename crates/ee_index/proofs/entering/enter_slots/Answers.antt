@@ -25,10 +25,10 @@ loop-number-preserved g c =
     ∙ ap
     (λ slot. index_with_slot slot c.loop-number.number
     (slot_for (g.L.Listing.list c.loop-number.list)) address) said in
+    let number = c.loop-number.number in
+    let listed = slot_listed device _ c.requires.layout number c.loop-number-test.true in
     record {
-      indexes = enters slots c.loop-number.number _ _
-          (slot_listed device _ c.requires.layout c.loop-number.number c.loop-number-test.true) entering
-          c.loop-number.invariant.indexes;
+      indexes = enters slots number _ _ listed entering c.loop-number.invariant.indexes;
       same_room = c.in_ok-enter.ensures.same_room ∙ c.loop-number.invariant.same_room;
     }
 
