@@ -24,6 +24,7 @@ pub(crate) fn enter_slots<F: Flash, L: Listing>(
         OnOk result (IsIndex slots (slot_for (L.list list.new))) }
     ensures small { let slots = slots_of (set_of layout.now.side (F.device flash.now)) in
         OnErr result (IfSome (L.room list.new) (λ room. WasTooSmall room slots)) }
+    ensures same_room { L.room list.new ≡ L.room list.old }
 {
     for number in 0..layout.fill {
         enter(list, number, read_slot(slot_word(flash, layout, number)))?;
@@ -38,6 +39,7 @@ fn enter<L: Listing>(list: &mut L, number: usize, said: Slot) -> Result<(), NoMe
         ≡ index_with_slot said number (slot_for (L.list list.old)) address) }
     ensures refused { OnErr result (FindsNoRoom said (L.room list.new) (L.list list.new)) }
     ensures err { OnErr result (L.list list.new ≡ L.list list.old) }
+    ensures same_room { L.room list.new ≡ L.room list.old }
 {
     match said {
         Slot::Element { address, .. } => {

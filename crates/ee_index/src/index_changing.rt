@@ -121,7 +121,8 @@ pub(crate) fn move_indexed<F: Flash, L: Listing>(
 /// the slots in which the transfer put them.
 pub(crate) fn follow<L: Listing>(list: &mut L, puts: &[Put], forgets: bool)
     requires { length (if forgets then [] else puts.now) + length (L.list list.old) < 65536 }
-    ensures { IsNumberedAfter puts.now forgets (L.list list.old) (L.list list.new) }
+    ensures numbered { IsNumberedAfter puts.now forgets (L.list list.old) (L.list list.new) }
+    ensures same_room { L.room list.new ≡ L.room list.old }
 {
     let put = values_put(puts, forgets);
     // Where values are put none is forgotten, and the other way round.
@@ -135,6 +136,7 @@ fn leave_all<L: Listing>(list: &mut L, puts: &[Put])
     ensures left { (address : ℕ) → slot_for (L.list list.new) address
         ≡ changed_by (forgets_of puts.now) (slot_for (L.list list.old)) address }
     ensures fewer { length (L.list list.new) ≤ length (L.list list.old) }
+    ensures same_room { L.room list.new ≡ L.room list.old }
 {
     'entries: for put in puts {
         leave(list, put.address);

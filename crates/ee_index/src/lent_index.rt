@@ -60,8 +60,9 @@ impl<'a> LentIndex<'a> {
     /// for an address.
     pub(crate) fn read<F: Flash>(&mut self, flash: &F, layout: &Layout)
         requires { IsLayout (F.device flash.now) layout.now }
-        ensures { FitsLent self.new.is_given_up self.new.list
+        ensures fits { FitsLent self.new.is_given_up self.new.list
             (slots_by layout.now (F.device flash.now)) }
+        ensures same_room { lent_room self.new.list ≡ lent_room self.old.list }
     {
         self.list.clear();
         self.is_given_up = enter_slots(&mut self.list, flash, layout).is_err();
@@ -99,6 +100,7 @@ impl<'a> LentIndex<'a> {
         ensures small { self.old.is_given_up ≡ true → self.new.is_given_up ≡ true
             → WasTooSmall (lent_room self.new.list) (slots_by layout.now (F.device flash.now))
             ⊎ (lent_room self.new.list < layout.now.fill) }
+        ensures same_room { lent_room self.new.list ≡ lent_room self.old.list }
     {
         if !self.is_given_up {
             follow(&mut self.list, puts, forgets);

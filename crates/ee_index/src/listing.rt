@@ -39,7 +39,8 @@ pub(crate) trait Listing {
         ensures full { OnErr result (IfSome (room self.new)
             (λ room. room ≤ length (list self.new))) }
         ensures ordered { AreInOrder (list self.old) }
-        ensures err { OnErr result (list self.new ≡ list self.old) };
+        ensures err { OnErr result (list self.new ≡ list self.old) }
+        ensures same_room { room self.new ≡ room self.old };
 
     /// Takes an address from it.
     fn remove(&mut self, address: Address)
@@ -55,5 +56,6 @@ pub(crate) trait Listing {
         requires { length puts.now + length (list self.old) < 65536 }
         ensures numbered { list self.new ≡ numbered_slots puts.now (length puts.now)
             (list self.old) }
-        ensures ordered { AreInOrder (list self.old) };
+        ensures ordered { AreInOrder (list self.old) }
+        ensures same_room { room self.new ≡ room self.old };
 }

@@ -25,9 +25,12 @@ loop-number-preserved g c =
     ∙ ap
     (λ slot. index_with_slot slot c.loop-number.number
     (slot_for (g.L.Listing.list c.loop-number.list)) address) said in
-    search (enters slots c.loop-number.number _ _
-    (slot_listed device _ c.requires.layout c.loop-number.number c.loop-number-test.true) entering
-    c.loop-number.invariant)
+    let number = c.loop-number.number in
+    let listed = slot_listed device _ c.requires.layout number c.loop-number-test.true in
+    record {
+      indexes = enters slots number _ _ listed entering c.loop-number.invariant.indexes;
+      same_room = c.in_ok-enter.ensures.same_room ∙ c.loop-number.invariant.same_room;
+    }
 
 pub returns-in_err-enter-clause-small : goal.returns-in_err-enter-clause-small
 returns-in_err-enter-clause-small g c =
@@ -40,7 +43,7 @@ returns-in_err-enter-clause-small g c =
     omega (arith, c.loop-number-test.true, c.requires.layout.fill) in
     let indexes =
     subst (λ (entries : List (ℕ × ℕ)). IndexesTo slots number (slot_for entries))
-    (sym c.in_err-enter.ensures.err) c.loop-number.invariant in
+    (sym c.in_err-enter.ensures.err) c.loop-number.invariant.indexes in
     always_on_err _
     (found_small slots number (g.L.Listing.list c.enter.new.list)
     (slot_listed device _ c.requires.layout number c.loop-number-test.true) indexes _ said filled
@@ -50,4 +53,4 @@ pub returns-clause-index : goal.returns-clause-index
 returns-clause-index g c =
     let full : c.loop-number.number ≡ c.args.layout.now.fill =
     omega (arith, c.loop-number-test.false, c.loop-number.auto.number-end) in
-    indexes_all _ _ _ c.loop-number.number c.requires.layout full c.loop-number.invariant
+    indexes_all _ _ _ c.loop-number.number c.requires.layout full c.loop-number.invariant.indexes

@@ -11,4 +11,5 @@ invariant-entries g l = record {
       ≡ changed_by (forgets_of (take l.put-index l.puts))
       (slot_for (g.L.Listing.list l.fn.list)) address;
   fewer : length (g.L.Listing.list l.list) ≤ length (g.L.Listing.list l.fn.list);
+  same_room : g.L.Listing.room l.list ≡ g.L.Listing.room l.fn.list;
 }

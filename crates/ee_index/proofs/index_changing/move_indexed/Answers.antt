@@ -28,5 +28,5 @@ returns g c = record {
   store = c.move_changes.ensures.store;
   layout = c.move_changes.ensures.layout;
   index = λ on. index_followed _ _ _ _ _ _ _ c.requires.apart c.requires.room
-      c.in_ok-move_changes.ensures.set_moved _ c.follow.ensures;
+      c.in_ok-move_changes.ensures.set_moved _ c.follow.ensures.numbered;
 }

@@ -3,8 +3,8 @@ use Rattle.ee_index.proofs.IndexedLookups.{given_err, given_ok}
 use Rattle.ee_index.proofs.LentRooms.{live_within}
 use Rattle.ee_index.proofs.lent_index.LentIndex.read.Goals as goal
 
-pub returns : goal.returns
-returns g c =
+pub returns-clause-fits : goal.returns-clause-fits
+returns-clause-fits g c =
     let index =
     λ (kept : c.is_err-self.result ≡ false). given_ok _ (sym c.is_err-self.ensures.value ∙ kept)
     c.enter_slots.ensures.index in (
