@@ -1,6 +1,6 @@
 /* ee: variables in flash, the library of ee.h as one file, for Linux on AArch64.
  *
- * sum of sources: 9f364ea7b734fbca6c7c5c007cb54f6f224e548cfa17f552a42e540169808ce2
+ * sum of sources: d76c9aef28922016ddbd580fdc99a8364fe83d8b7d1441b2eb89c175ef3f2b6b
  * sum of the text below: a0016403fe2a924d52ceedbee6a0d95324fb62b31b814b5f4718eed9c12dac98
  * made by: firmware/c/assemble
  * compiler: rustc 1.96.0 (ac68faa20 2026-05-25) (built from a source tarball), LLVM 22.1.8
@@ -35,7 +35,7 @@ shim_calls_standing_ee_core_lookup_Slots:
 	.section	.text.shim_opening_opened_ee_core_lookup_Slots_plain_slots,"ax",@progbits
 	.p2align	2
 	.type	shim_opening_opened_ee_core_lookup_Slots_plain_slots,@function
-	/* firmware/c/src/opening.rs:62 */
+	/* firmware/c/src/opening.rs:64 */
 shim_opening_opened_ee_core_lookup_Slots_plain_slots:
 	.cfi_startproc
 	cbz	x0, .LBB1_18

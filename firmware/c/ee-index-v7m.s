@@ -1,7 +1,7 @@
 /* ee: variables in flash, the library of ee_indexed.h as one file, for Cortex-M3, M4, M7 and M33.
  *
- * sum of sources: 9f364ea7b734fbca6c7c5c007cb54f6f224e548cfa17f552a42e540169808ce2
- * sum of the text below: b54ce81b84f4317f82fadac187cb8d7c076a10c391b8b9a8dff2daf9083bd339
+ * sum of sources: d76c9aef28922016ddbd580fdc99a8364fe83d8b7d1441b2eb89c175ef3f2b6b
+ * sum of the text below: f310dcf709a87431af8dc613c2c81c3df6425cc073d435133092b564f5bf7d72
  * made by: firmware/c/assemble
  * compiler: rustc 1.96.0 (ac68faa20 2026-05-25) (built from a source tarball), LLVM 22.1.8
  * words: --target thumbv7m-none-eabi --cfg feature="index" -C panic=abort -C embed-bitcode=yes -C opt-level=s -C llvm-args=--inline-threshold=40 -C codegen-units=1 -C lto=fat --emit asm,link
@@ -130,62 +130,63 @@ shim_calls_standing_ee_index_lent_index_LentIndex:
 	.type	shim_opening_opened_ee_index_lent_index_LentIndex_indexed_opened_indexed_,%function
 	.code	16
 	.thumb_func
-	/* firmware/c/src/opening.rs:62 */
+	/* firmware/c/src/opening.rs:64 */
 shim_opening_opened_ee_index_lent_index_LentIndex_indexed_opened_indexed_:
 	cmp	r0, #0
 	beq	.LBB2_17
 	push	{r4, r5, r6, r7, lr}
 	add	r7, sp, #12
 	push.w	{r8, r9, r10, r11}
-	sub	sp, #116
-	mov	r6, r0
+	sub	sp, #164
+	mov	r5, r0
 	movs	r0, #0
-	mov	r4, r6
-	mov	r5, r1
-	str	r0, [r4, #44]!
+	mov	r9, r5
+	mov	r6, r1
+	str	r0, [r9, #44]!
 	cmp	r1, #0
 	beq	.LBB2_15
-	ldr	r0, [r5, #12]
+	ldr	r0, [r6, #12]
 	cmp	r0, #0
 	beq	.LBB2_15
-	ldr	r0, [r5, #16]
+	ldr	r0, [r6, #16]
 	cmp	r0, #0
 	beq	.LBB2_15
-	ldr	r0, [r5, #20]
-	cbz	r0, .LBB2_15
-	ldr.w	r8, [r5, #4]
+	ldr	r0, [r6, #20]
+	cmp	r0, #0
+	beq	.LBB2_15
+	ldr.w	r8, [r6, #4]
 	movs	r0, #11
 	sub.w	r1, r8, #1
 	cmp	r1, #63
 	itttt	ls
 	movls	r10, r2
-	ldrls	r2, [r5, #8]
+	ldrls	r2, [r6, #8]
 	subls	r1, r2, #5
 	lsrls	r1, r1, #2
 	it	ls
 	cmpls	r1, #126
 	bhi	.LBB2_16
-	ldr	r0, [r5, #24]
+	ldr	r0, [r6, #24]
 	cmp	r0, #2
 	bhi	.LBB2_18
-	str	r5, [r4]
-	mov	r9, r3
-	ldr	r0, [r5, #24]
-	str	r4, [sp, #52]
+	str.w	r6, [r9]
+	mov	r4, r3
+	ldr	r0, [r6, #24]
+	str.w	r9, [sp, #52]
 	strd	r8, r2, [sp, #44]
 	cbz	r0, .LBB2_19
 	cmp.w	r10, #2
 	beq	.LBB2_22
 	cmp	r0, #2
 	str	r2, [sp, #24]
-	bne	.LBB2_29
+	bne.w	.LBB2_29
 .LBB2_10:
 	cmp.w	r10, #1
 	bne	.LBB2_24
 	cmp	r0, #2
 	mov	r3, r2
 	mov	r0, r2
-	mov	r1, r4
+	mov	r1, r9
 	mov.w	r2, #0
 	it	ne
 	movne	r3, #2
@@ -194,24 +195,24 @@ shim_opening_opened_ee_index_lent_index_LentIndex_indexed_opened_indexed_:
 	cmp	r0, r1
 	bne	.LBB2_24
 	lsl.w	r8, r8, #1
-	movs	r5, #1
+	movs	r6, #1
 .LBB2_13:
 	mov	r0, r1
-	mov	r1, r4
-	mov	r2, r5
+	mov	r1, r9
+	mov	r2, r6
 	movs	r3, #0
 	bl	ee_pages_state_blank_to_Device
 	ldr	r1, [sp, #24]
 	cmp	r0, r1
 	bne	.LBB2_24
-	adds	r5, #1
-	cmp	r8, r5
+	adds	r6, #1
+	cmp	r8, r6
 	beq	.LBB2_21
 	b	.LBB2_13
 .LBB2_15:
 	movs	r0, #13
 .LBB2_16:
-	add	sp, #116
+	add	sp, #164
 	pop.w	{r8, r9, r10, r11}
 	pop	{r4, r5, r6, r7, pc}
 .LBB2_17:
@@ -231,11 +232,11 @@ shim_opening_opened_ee_index_lent_index_LentIndex_indexed_opened_indexed_:
 	bl	ee_core_first_start_start_on_Device
 	b	.LBB2_26
 .LBB2_22:
-	add.w	r8, sp, #72
+	add.w	r8, sp, #132
 	add	r1, sp, #44
 	mov	r0, r8
 	bl	ee_core_formatting_write_format_Device
-	ldrb.w	r0, [sp, #84]
+	ldrb.w	r0, [sp, #144]
 	cmp	r0, #2
 	bne	.LBB2_25
 	movs	r0, #2
@@ -249,37 +250,52 @@ shim_opening_opened_ee_index_lent_index_LentIndex_indexed_opened_indexed_:
 	bl	ee_core_opening_open_on_Device
 	b	.LBB2_26
 .LBB2_25:
-	ldm.w	r8, {r1, r2, r3, r5}
+	ldm.w	r8, {r1, r2, r3, r6}
 	add	r0, sp, #56
-	stm	r0!, {r1, r2, r3, r5}
+	stm	r0!, {r1, r2, r3, r6}
 .LBB2_26:
-	ldrb.w	r0, [sp, #68]
-	cmp	r0, #2
+	ldrb.w	r3, [sp, #68]
+	cmp	r3, #2
 	bne	.LBB2_28
 	ldr	r0, [sp, #56]
 	adds	r1, r0, #5
 	b	.LBB2_45
 .LBB2_28:
-	add	r3, sp, #56
-	add.w	r8, sp, #88
-	add.w	lr, r8, #12
+	add.w	lr, sp, #56
+	add.w	r11, sp, #132
+	mov	r8, r4
 	ldr.w	r12, [r7, #8]
-	ldm.w	r3, {r0, r1, r2, r5}
-	stm.w	lr, {r0, r1, r2, r5}
-	add	r0, sp, #44
-	mov	r1, r8
-	ldm.w	r0, {r2, r3, r5}
-	mov	r0, r6
-	stm	r1!, {r2, r3, r5}
-	ldm.w	r8!, {r1, r2, r3}
-	stm	r0!, {r1, r2, r3}
-	ldm.w	r8, {r1, r2, r3, r5}
-	stm	r0!, {r1, r2, r3, r5}
-	movs	r1, #0
+	ldm.w	lr, {r0, r1, r4, r6}
+	mov	r2, r11
+	add.w	r10, sp, #44
+	stm	r2!, {r0, r1, r4, r6}
 	movs	r0, #1
-	strb.w	r0, [r6, #40]
-	strd	r9, r12, [r6, #28]
-	str	r1, [r6, #36]
+	mov	r1, r10
+	strd	r8, r12, [sp, #72]
+	add.w	r8, sp, #72
+	ldr	r2, [sp, #60]
+	strb.w	r0, [sp, #84]
+	movs	r0, #0
+	str	r0, [sp, #80]
+	mov	r0, r8
+	bl	ee_index_lent_index_LentIndex_read_Device
+	add.w	r12, sp, #88
+	ldm.w	r10, {r2, r3, r6}
+	mov	r1, r12
+	stm	r1!, {r2, r3, r6}
+	add.w	r1, r11, #16
+	ldm.w	r8, {r2, r3, r4, r6}
+	stm	r1!, {r2, r3, r4, r6}
+	add.w	r1, r12, #12
+	ldm.w	r11!, {r2, r3, r4, r6}
+	stm	r1!, {r2, r3, r4, r6}
+	ldm.w	r11, {r2, r3, r4, r6}
+	stm	r1!, {r2, r3, r4, r6}
+	ldm.w	r12!, {r1, r2, r3, r4, r6}
+	stm	r5!, {r1, r2, r3, r4, r6}
+	ldm.w	r12, {r0, r1, r2, r3, r4, r6}
+	stm	r5!, {r0, r1, r2, r3, r4, r6}
+	movs	r1, #0
 	b	.LBB2_45
 .LBB2_29:
 	lsl.w	r1, r8, #1
@@ -287,26 +303,26 @@ shim_opening_opened_ee_index_lent_index_LentIndex_indexed_opened_indexed_:
 	str	r1, [sp, #4]
 	movs	r1, #0
 	str	r1, [sp, #28]
-	strd	r0, r9, [sp, #16]
+	strd	r0, r4, [sp, #16]
 .LBB2_30:
 	cmp	r2, #0
 	beq	.LBB2_43
 	mov.w	r8, #0
 .LBB2_32:
-	sub.w	r9, r2, r8
-	cmp.w	r9, #16
+	sub.w	r4, r2, r8
+	cmp	r4, #16
 	it	hs
-	movhs.w	r9, #16
-	ldr.w	r12, [r5, #28]
+	movhs	r4, #16
+	ldr.w	r12, [r6, #28]
 	cmp.w	r12, #0
 	beq	.LBB2_37
-	ldr	r0, [r5]
+	ldr	r0, [r6]
 	lsl.w	r2, r8, #1
 	ldr	r1, [sp, #28]
-	lsl.w	r3, r9, #1
+	lsls	r3, r4, #1
 	blx	r12
 	cbz	r0, .LBB2_37
-	add.w	r1, r9, #1
+	adds	r1, r4, #1
 	adds	r0, #8
 .LBB2_35:
 	subs	r1, #1
@@ -322,7 +338,7 @@ shim_opening_opened_ee_index_lent_index_LentIndex_indexed_opened_indexed_:
 	bhs	.LBB2_35
 	b	.LBB2_44
 .LBB2_37:
-	add.w	r0, r9, r8
+	add.w	r0, r4, r8
 	str	r0, [sp, #12]
 	cmp	r8, r0
 	it	hi
@@ -333,17 +349,17 @@ shim_opening_opened_ee_index_lent_index_LentIndex_indexed_opened_indexed_:
 .LBB2_38:
 	adds.w	r11, r11, #1
 	bhs	.LBB2_40
-	ldr.w	r9, [sp, #28]
+	ldr	r4, [sp, #28]
 	add.w	r0, r8, #2
 	str	r0, [sp, #40]
-	mov	r0, r4
+	mov	r0, r9
 	mov	r2, r8
-	mov	r1, r9
+	mov	r1, r4
 	bl	shim_numbers_Numbers_ee_pairs_nor_Nor_read
 	add.w	r2, r8, #1
 	strd	r1, r0, [sp, #32]
-	mov	r0, r4
-	mov	r1, r9
+	mov	r0, r9
+	mov	r1, r4
 	bl	shim_numbers_Numbers_ee_pairs_nor_Nor_read
 	ldr	r3, [sp, #36]
 	ldr	r2, [sp, #32]
@@ -358,10 +374,10 @@ shim_opening_opened_ee_index_lent_index_LentIndex_indexed_opened_indexed_:
 	ldr.w	r8, [sp, #12]
 	b	.LBB2_42
 .LBB2_41:
-	add	r8, r9
+	add	r8, r4
 .LBB2_42:
 	ldr	r2, [sp, #24]
-	ldrd	r0, r9, [sp, #16]
+	ldrd	r0, r4, [sp, #16]
 	cmp	r8, r2
 	blo	.LBB2_32
 .LBB2_43:
@@ -376,12 +392,12 @@ shim_opening_opened_ee_index_lent_index_LentIndex_indexed_opened_indexed_:
 .LBB2_44:
 	movs	r1, #8
 .LBB2_45:
-	ldr	r0, [r4]
+	ldr.w	r0, [r9]
 	cbz	r0, .LBB2_48
 	movs	r0, #0
 	cmp	r1, #0
 	beq.w	.LBB2_16
-	str	r0, [r4]
+	str.w	r0, [r9]
 	mov	r0, r1
 	b	.LBB2_16
 .LBB2_48:
@@ -2081,24 +2097,21 @@ shim_Device_unread:
 	.type	shim_indexed_opened_indexed,%function
 	.code	16
 	.thumb_func
-	/* firmware/c/src/indexed.rs:29 */
+	/* firmware/c/src/indexed.rs:28 */
 shim_indexed_opened_indexed:
 	cbz	r2, .LBB25_4
-	push	{r4, r5, r6, r7, lr}
-	add	r7, sp, #12
-	str	r8, [sp, #-4]!
-	sub	sp, #8
-	mov	r4, r2
+	push	{r4, r5, r7, lr}
+	add	r7, sp, #8
+	mov	r12, r2
 	ldr	r2, [r7, #8]
-	mov	r8, r0
 	cbz	r3, .LBB25_5
-	adds	r0, r4, #2
-	movs	r5, #1
-	mov	r6, r3
+	add.w	lr, r12, #2
+	movs	r4, #1
+	mov	r5, r3
 .LBB25_3:
-	str	r5, [r0, #-2]
-	adds	r0, #4
-	subs	r6, #1
+	str	r4, [lr, #-2]
+	add.w	lr, lr, #4
+	subs	r5, #1
 	bne	.LBB25_3
 	b	.LBB25_6
 .LBB25_4:
@@ -2107,25 +2120,10 @@ shim_indexed_opened_indexed:
 .LBB25_5:
 	movs	r3, #0
 .LBB25_6:
-	str	r3, [sp]
-	mov	r0, r8
-	mov	r3, r4
-	bl	shim_opening_opened_ee_index_lent_index_LentIndex_indexed_opened_indexed_
-	cbnz	r0, .LBB25_8
-	ldrb.w	r3, [r8, #24]
-	add.w	r0, r8, #28
-	ldr.w	r2, [r8, #16]
-	mov	r1, r8
-	bl	ee_index_lent_index_LentIndex_read_Device
-	ldr.w	r1, [r8, #44]
-	movs	r0, #0
-	cmp	r1, #0
-	it	eq
-	moveq	r0, #9
-.LBB25_8:
-	add	sp, #8
-	ldr	r8, [sp], #4
-	pop	{r4, r5, r6, r7, pc}
+	str	r3, [r7, #8]
+	mov	r3, r12
+	pop.w	{r4, r5, r7, lr}
+	b	shim_opening_opened_ee_index_lent_index_LentIndex_indexed_opened_indexed_
 	.size	shim_indexed_opened_indexed, .-shim_indexed_opened_indexed
 
 	.section	.text.shim_numbers_Numbers_ee_pairs_nor_Nor_read,"ax",%progbits
@@ -2403,7 +2401,7 @@ shim_Device_ee_flash_device_Flash_program:
 	.type	ee_indexed_clean,%function
 	.code	16
 	.thumb_func
-	/* firmware/c/src/indexed.rs:126 */
+	/* firmware/c/src/indexed.rs:113 */
 ee_indexed_clean:
 	push	{r4, r5, r6, r7, lr}
 	add	r7, sp, #12
@@ -2454,7 +2452,7 @@ ee_indexed_clean:
 	.type	ee_indexed_clear,%function
 	.code	16
 	.thumb_func
-	/* firmware/c/src/indexed.rs:121 */
+	/* firmware/c/src/indexed.rs:108 */
 ee_indexed_clear:
 	push	{r4, r5, r6, r7, lr}
 	add	r7, sp, #12
@@ -2524,7 +2522,7 @@ ee_indexed_clear:
 	.type	ee_indexed_counts,%function
 	.code	16
 	.thumb_func
-	/* firmware/c/src/indexed.rs:149 */
+	/* firmware/c/src/indexed.rs:136 */
 ee_indexed_counts:
 	push	{r4, r5, r6, r7, lr}
 	add	r7, sp, #12
@@ -2644,7 +2642,7 @@ ee_indexed_counts:
 	.type	ee_indexed_forget,%function
 	.code	16
 	.thumb_func
-	/* firmware/c/src/indexed.rs:116 */
+	/* firmware/c/src/indexed.rs:103 */
 ee_indexed_forget:
 	push	{r4, r5, r6, r7, lr}
 	add	r7, sp, #12
@@ -2728,7 +2726,7 @@ ee_indexed_forget:
 	.type	ee_indexed_format,%function
 	.code	16
 	.thumb_func
-	/* firmware/c/src/indexed.rs:82 */
+	/* firmware/c/src/indexed.rs:69 */
 ee_indexed_format:
 	push	{r7, lr}
 	mov	r7, sp
@@ -2746,7 +2744,7 @@ ee_indexed_format:
 	.type	ee_indexed_in_use,%function
 	.code	16
 	.thumb_func
-	/* firmware/c/src/indexed.rs:93 */
+	/* firmware/c/src/indexed.rs:80 */
 ee_indexed_in_use:
 	push	{r4, r6, r7, lr}
 	add	r7, sp, #8
@@ -2765,7 +2763,7 @@ ee_indexed_in_use:
 	.type	ee_indexed_next,%function
 	.code	16
 	.thumb_func
-	/* firmware/c/src/indexed.rs:140 */
+	/* firmware/c/src/indexed.rs:127 */
 ee_indexed_next:
 	push	{r4, r5, r6, r7, lr}
 	add	r7, sp, #12
@@ -2887,7 +2885,7 @@ ee_indexed_next:
 	.type	ee_indexed_open,%function
 	.code	16
 	.thumb_func
-	/* firmware/c/src/indexed.rs:61 */
+	/* firmware/c/src/indexed.rs:48 */
 ee_indexed_open:
 	push	{r7, lr}
 	mov	r7, sp
@@ -2905,7 +2903,7 @@ ee_indexed_open:
 	.type	ee_indexed_read,%function
 	.code	16
 	.thumb_func
-	/* firmware/c/src/indexed.rs:131 */
+	/* firmware/c/src/indexed.rs:118 */
 ee_indexed_read:
 	push	{r4, r5, r6, r7, lr}
 	add	r7, sp, #12
@@ -2956,7 +2954,7 @@ ee_indexed_read:
 	.type	ee_indexed_start,%function
 	.code	16
 	.thumb_func
-	/* firmware/c/src/indexed.rs:72 */
+	/* firmware/c/src/indexed.rs:59 */
 ee_indexed_start:
 	push	{r7, lr}
 	mov	r7, sp
@@ -2974,7 +2972,7 @@ ee_indexed_start:
 	.type	ee_indexed_write,%function
 	.code	16
 	.thumb_func
-	/* firmware/c/src/indexed.rs:102 */
+	/* firmware/c/src/indexed.rs:89 */
 ee_indexed_write:
 	push	{r4, r5, r6, r7, lr}
 	add	r7, sp, #12
@@ -3078,7 +3076,7 @@ ee_indexed_write:
 	.type	ee_indexed_write_all,%function
 	.code	16
 	.thumb_func
-	/* firmware/c/src/indexed.rs:107 */
+	/* firmware/c/src/indexed.rs:94 */
 ee_indexed_write_all:
 	push	{r4, r5, r6, r7, lr}
 	add	r7, sp, #12

@@ -1,7 +1,7 @@
 /* ee: variables in flash, the library of ee_indexed.h as one file, for every Cortex-M.
  *
- * sum of sources: 9f364ea7b734fbca6c7c5c007cb54f6f224e548cfa17f552a42e540169808ce2
- * sum of the text below: 44b1c4032417f222f62cc453a1aac630b81ea84e1df8b1d6b446ae297f83701b
+ * sum of sources: d76c9aef28922016ddbd580fdc99a8364fe83d8b7d1441b2eb89c175ef3f2b6b
+ * sum of the text below: 3435c8e91056d8375f0cd5ce6a53b819ad2a3fb1e4908be753222acfa929b389
  * made by: firmware/c/assemble
  * compiler: rustc 1.96.0 (ac68faa20 2026-05-25) (built from a source tarball), LLVM 22.1.8
  * words: --target thumbv6m-none-eabi --cfg feature="index" -C panic=abort -C embed-bitcode=yes -C opt-level=s -C llvm-args=--inline-threshold=40 -C codegen-units=1 -C lto=fat --emit asm,link
@@ -152,326 +152,340 @@ shim_calls_standing_ee_index_lent_index_LentIndex:
 	.type	shim_opening_opened_ee_index_lent_index_LentIndex_indexed_opened_indexed_,%function
 	.code	16
 	.thumb_func
-	/* firmware/c/src/opening.rs:62 */
+	/* firmware/c/src/opening.rs:64 */
 shim_opening_opened_ee_index_lent_index_LentIndex_indexed_opened_indexed_:
 	push	{r4, r5, r6, r7, lr}
 	add	r7, sp, #12
-	sub	sp, #132
-	mov	r5, r0
-	movs	r0, #13
-	cmp	r5, #0
+	sub	sp, #172
+	movs	r5, #13
+	cmp	r0, #0
 	bne	.LBB2_1
-	b	.LBB2_53
+	b	.LBB2_55
 .LBB2_1:
-	mov	r6, r3
-	mov	r4, r1
+	mov	r4, r3
+	mov	r6, r1
 	movs	r3, #0
-	str	r3, [r5, #44]
+	str	r3, [r0, #44]
 	cmp	r1, #0
 	bne	.LBB2_2
-	b	.LBB2_53
+	b	.LBB2_55
 .LBB2_2:
-	ldr	r1, [r4, #12]
+	ldr	r1, [r6, #12]
 	cmp	r1, #0
 	bne	.LBB2_3
-	b	.LBB2_53
+	b	.LBB2_55
 .LBB2_3:
-	ldr	r1, [r4, #16]
+	ldr	r1, [r6, #16]
 	cmp	r1, #0
 	bne	.LBB2_4
-	b	.LBB2_53
+	b	.LBB2_55
 .LBB2_4:
-	ldr	r1, [r4, #20]
+	ldr	r1, [r6, #20]
 	cmp	r1, #0
 	bne	.LBB2_5
-	b	.LBB2_53
+	b	.LBB2_55
 .LBB2_5:
-	ldr	r0, [r4, #4]
-	str	r0, [sp, #24]
-	subs	r1, r0, #1
-	movs	r0, #11
+	ldr	r1, [r6, #4]
+	str	r1, [sp, #20]
+	subs	r1, r1, #1
+	movs	r5, #11
 	cmp	r1, #63
 	bls	.LBB2_6
-	b	.LBB2_53
+	b	.LBB2_55
 .LBB2_6:
-	ldr	r1, [r4, #8]
-	str	r1, [sp, #32]
+	ldr	r1, [r6, #8]
+	str	r1, [sp, #28]
 	subs	r1, r1, #5
 	lsrs	r1, r1, #2
 	cmp	r1, #126
 	bls	.LBB2_7
-	b	.LBB2_53
+	b	.LBB2_55
 .LBB2_7:
-	ldr	r1, [r4, #24]
+	ldr	r1, [r6, #24]
 	cmp	r1, #2
 	bls	.LBB2_8
-	b	.LBB2_53
+	b	.LBB2_55
 .LBB2_8:
-	mov	r0, r5
-	adds	r0, #44
-	str	r4, [r0]
-	str	r0, [sp, #52]
-	str	r0, [sp, #68]
-	ldr	r0, [sp, #32]
-	str	r0, [sp, #64]
-	ldr	r0, [sp, #24]
-	str	r0, [sp, #60]
-	ldr	r0, [r4, #24]
-	cmp	r0, #0
-	str	r6, [sp, #20]
-	beq	.LBB2_18
+	mov	r1, r0
+	adds	r1, #44
+	str	r6, [r1]
+	str	r1, [sp, #48]
+	str	r1, [sp, #60]
+	ldr	r1, [sp, #28]
+	str	r1, [sp, #56]
+	ldr	r1, [sp, #20]
+	str	r1, [sp, #52]
+	ldr	r1, [r6, #24]
+	cmp	r1, #0
+	str	r0, [sp, #16]
+	beq	.LBB2_19
 	cmp	r2, #2
-	beq	.LBB2_21
-	str	r0, [sp, #12]
-	cmp	r0, #2
-	bne	.LBB2_28
+	beq	.LBB2_22
+	str	r1, [sp, #8]
+	cmp	r1, #2
+	str	r4, [sp, #12]
+	bne	.LBB2_25
 .LBB2_11:
 	cmp	r2, #1
-	bne	.LBB2_23
-	ldr	r0, [sp, #12]
+	beq	.LBB2_12
+	b	.LBB2_45
+.LBB2_12:
+	ldr	r0, [sp, #8]
 	cmp	r0, #2
-	ldr	r3, [sp, #32]
+	ldr	r3, [sp, #28]
 	beq	.LBB2_14
 	movs	r3, #2
 .LBB2_14:
 	movs	r2, #0
-	ldr	r4, [sp, #32]
+	ldr	r4, [sp, #28]
 	mov	r0, r4
-	ldr	r1, [sp, #52]
+	ldr	r1, [sp, #48]
 	bl	ee_pages_state_blank_to_Device
 	cmp	r0, r4
-	bne	.LBB2_23
-	ldr	r0, [sp, #24]
-	lsls	r0, r0, #1
-	str	r0, [sp, #56]
-	movs	r4, #1
-	ldr	r6, [sp, #32]
+	beq	.LBB2_15
+	b	.LBB2_45
+.LBB2_15:
+	ldr	r0, [sp, #20]
+	lsls	r4, r0, #1
+	movs	r5, #1
+	ldr	r6, [sp, #28]
 .LBB2_16:
 	movs	r3, #0
 	mov	r0, r6
-	ldr	r1, [sp, #52]
-	mov	r2, r4
+	ldr	r1, [sp, #48]
+	mov	r2, r5
 	bl	ee_pages_state_blank_to_Device
 	cmp	r0, r6
-	bne	.LBB2_23
-	adds	r4, r4, #1
-	ldr	r0, [sp, #56]
-	cmp	r0, r4
-	beq	.LBB2_20
-	b	.LBB2_16
-.LBB2_18:
+	beq	.LBB2_17
+	b	.LBB2_45
+.LBB2_17:
+	adds	r5, r5, #1
+	cmp	r4, r5
+	bne	.LBB2_16
+	ldr	r4, [sp, #12]
+	b	.LBB2_21
+.LBB2_19:
 	cmp	r2, #0
-	beq	.LBB2_23
+	beq	.LBB2_46
 	cmp	r2, #1
-	bne	.LBB2_21
-.LBB2_20:
-	add	r0, sp, #72
-	add	r1, sp, #60
-	bl	ee_core_first_start_start_on_Device
-	b	.LBB2_25
+	bne	.LBB2_22
 .LBB2_21:
-	add	r4, sp, #88
-	add	r1, sp, #60
-	mov	r0, r4
+	add	r0, sp, #64
+	add	r1, sp, #52
+	bl	ee_core_first_start_start_on_Device
+	b	.LBB2_47
+.LBB2_22:
+	add	r5, sp, #140
+	add	r1, sp, #52
+	mov	r0, r5
 	bl	ee_core_formatting_write_format_Device
-	ldrb	r0, [r4, #12]
+	ldrb	r0, [r5, #12]
 	cmp	r0, #2
 	bne	.LBB2_24
-	add	r0, sp, #72
+	add	r0, sp, #64
 	movs	r1, #2
 	strb	r1, [r0, #12]
 	movs	r0, #4
-	str	r0, [sp, #72]
-	b	.LBB2_25
-.LBB2_23:
-	add	r0, sp, #72
-	add	r1, sp, #60
-	bl	ee_core_opening_open_on_Device
-	b	.LBB2_25
+	str	r0, [sp, #64]
+	b	.LBB2_47
 .LBB2_24:
-	add	r0, sp, #88
-	add	r1, sp, #72
-	ldm	r0!, {r2, r3, r4, r6}
-	stm	r1!, {r2, r3, r4, r6}
+	add	r0, sp, #140
+	add	r1, sp, #64
+	mov	r6, r4
+	ldm	r0!, {r2, r3, r4, r5}
+	stm	r1!, {r2, r3, r4, r5}
+	mov	r4, r6
+	b	.LBB2_47
 .LBB2_25:
-	add	r0, sp, #72
-	ldrb	r0, [r0, #12]
-	cmp	r0, #2
-	bne	.LBB2_27
-	ldr	r0, [sp, #72]
-	adds	r0, r0, #5
-	b	.LBB2_48
-.LBB2_27:
-	ldr	r0, [r7, #8]
-	str	r0, [sp, #56]
-	add	r1, sp, #104
-	str	r1, [sp, #44]
-	adds	r1, #12
-	str	r1, [sp, #48]
-	add	r3, sp, #72
-	ldr	r0, [sp, #48]
-	ldm	r3!, {r1, r2, r4, r6}
-	stm	r0!, {r1, r2, r4, r6}
-	add	r1, sp, #60
-	ldr	r0, [sp, #44]
-	mov	r2, r0
-	ldm	r1!, {r3, r4, r6}
-	stm	r2!, {r3, r4, r6}
-	mov	r1, r5
-	ldm	r0!, {r2, r3, r4}
-	stm	r1!, {r2, r3, r4}
-	ldm	r0!, {r2, r3, r4, r6}
-	stm	r1!, {r2, r3, r4, r6}
-	movs	r0, #40
-	movs	r1, #1
-	strb	r1, [r5, r0]
-	movs	r0, #0
 	ldr	r1, [sp, #20]
-	str	r1, [r5, #28]
-	ldr	r1, [sp, #56]
-	str	r1, [r5, #32]
-	str	r0, [r5, #36]
-	b	.LBB2_48
-.LBB2_28:
-	ldr	r0, [sp, #24]
-	lsls	r0, r0, #1
-	str	r0, [sp, #8]
-	str	r2, [sp, #28]
-	str	r5, [sp, #4]
-.LBB2_29:
-	ldr	r0, [sp, #32]
-	cmp	r0, #0
-	beq	.LBB2_46
+	lsls	r1, r1, #1
+	str	r1, [sp]
+	str	r2, [sp, #24]
+.LBB2_26:
+	ldr	r1, [sp, #28]
+	cmp	r1, #0
+	beq	.LBB2_43
 	movs	r1, #0
-	str	r3, [sp, #56]
-.LBB2_31:
-	ldr	r0, [sp, #32]
-	subs	r0, r0, r1
-	cmp	r0, #16
-	blo	.LBB2_33
-	movs	r0, #16
-.LBB2_33:
-	ldr	r6, [r4, #28]
-	cmp	r6, #0
-	mov	r3, r0
-	beq	.LBB2_38
-	ldr	r0, [r4]
+	str	r3, [sp, #44]
+.LBB2_28:
+	ldr	r0, [sp, #28]
+	subs	r5, r0, r1
+	cmp	r5, #16
+	blo	.LBB2_30
+	movs	r5, #16
+.LBB2_30:
+	ldr	r4, [r6, #28]
+	cmp	r4, #0
+	beq	.LBB2_35
+	ldr	r0, [r6]
 	lsls	r2, r1, #1
-	str	r3, [sp, #36]
-	ldr	r3, [sp, #36]
-	lsls	r3, r3, #1
-	str	r1, [sp, #16]
-	ldr	r1, [sp, #56]
-	blx	r6
-	ldr	r3, [sp, #36]
-	ldr	r1, [sp, #16]
-	ldr	r2, [sp, #28]
+	lsls	r3, r5, #1
+	str	r1, [sp, #40]
+	ldr	r1, [sp, #44]
+	blx	r4
+	ldr	r1, [sp, #40]
+	ldr	r2, [sp, #24]
 	cmp	r0, #0
-	beq	.LBB2_38
-	adds	r1, r3, #1
-.LBB2_36:
+	beq	.LBB2_35
+	str	r5, [sp, #36]
+	adds	r1, r5, #1
+.LBB2_33:
 	subs	r1, r1, #1
-	beq	.LBB2_44
+	beq	.LBB2_41
 	mov	r2, r0
 	adds	r2, #16
-	ldr	r3, [r0]
-	str	r3, [sp, #44]
-	ldr	r6, [r0, #4]
-	ldr	r3, [r0, #8]
-	str	r3, [sp, #48]
-	ldr	r0, [r0, #12]
-	mvns	r3, r6
-	str	r3, [sp, #40]
-	ldr	r3, [sp, #44]
+	ldm	r0!, {r3, r4, r5}
+	ldr	r0, [r0]
+	mvns	r4, r4
 	mvns	r3, r3
-	ldr	r6, [sp, #48]
-	subs	r3, r6, r3
-	ldr	r3, [sp, #40]
-	sbcs	r0, r3
+	subs	r3, r5, r3
+	sbcs	r0, r4
 	mov	r0, r2
-	ldr	r2, [sp, #28]
-	bhs	.LBB2_36
-	b	.LBB2_47
-.LBB2_38:
-	adds	r3, r3, r1
+	ldr	r2, [sp, #24]
+	bhs	.LBB2_33
+	b	.LBB2_44
+.LBB2_35:
+	adds	r3, r5, r1
 	cmp	r1, r3
 	mov	r0, r1
-	bhi	.LBB2_40
+	bhi	.LBB2_37
 	mov	r0, r3
-.LBB2_40:
-	str	r3, [sp, #16]
+.LBB2_37:
+	str	r3, [sp, #4]
 	mvns	r0, r0
-	adds	r5, r0, r1
-	lsls	r6, r1, #1
-	ldr	r3, [sp, #56]
-.LBB2_41:
-	adds	r5, r5, #1
-	bhs	.LBB2_43
-	adds	r1, r6, #2
-	str	r1, [sp, #44]
-	ldr	r0, [sp, #52]
-	str	r5, [sp, #48]
-	mov	r5, r0
-	mov	r1, r3
-	mov	r2, r6
-	bl	shim_numbers_Numbers_ee_pairs_nor_Nor_read
+	adds	r4, r0, r1
+	lsls	r5, r1, #1
+	ldr	r3, [sp, #44]
+.LBB2_38:
+	adds	r4, r4, #1
+	bhs	.LBB2_40
+	adds	r0, r5, #2
 	str	r0, [sp, #40]
-	str	r1, [sp, #36]
-	adds	r2, r6, #1
-	mov	r0, r5
-	ldr	r1, [sp, #56]
+	ldr	r0, [sp, #48]
+	mov	r1, r3
+	mov	r2, r5
 	bl	shim_numbers_Numbers_ee_pairs_nor_Nor_read
-	ldr	r2, [sp, #36]
+	str	r0, [sp, #36]
+	str	r1, [sp, #32]
+	adds	r2, r5, #1
+	ldr	r0, [sp, #48]
+	ldr	r1, [sp, #44]
+	bl	shim_numbers_Numbers_ee_pairs_nor_Nor_read
+	ldr	r2, [sp, #32]
 	mvns	r2, r2
-	ldr	r3, [sp, #40]
+	ldr	r3, [sp, #36]
 	mvns	r3, r3
 	subs	r0, r0, r3
-	ldr	r5, [sp, #48]
-	ldr	r3, [sp, #56]
+	ldr	r3, [sp, #44]
 	sbcs	r1, r2
-	ldr	r2, [sp, #28]
-	ldr	r6, [sp, #44]
-	bhs	.LBB2_41
-	b	.LBB2_47
-.LBB2_43:
-	ldr	r1, [sp, #16]
-	ldr	r5, [sp, #4]
-	b	.LBB2_45
-.LBB2_44:
-	ldr	r1, [sp, #16]
+	ldr	r2, [sp, #24]
+	ldr	r5, [sp, #40]
+	bhs	.LBB2_38
+	b	.LBB2_44
+.LBB2_40:
+	ldr	r1, [sp, #4]
+	b	.LBB2_42
+.LBB2_41:
+	ldr	r1, [sp, #40]
 	ldr	r0, [sp, #36]
 	adds	r1, r0, r1
-	ldr	r3, [sp, #56]
-.LBB2_45:
-	ldr	r0, [sp, #32]
+	ldr	r3, [sp, #44]
+.LBB2_42:
+	ldr	r0, [sp, #28]
 	cmp	r1, r0
-	blo	.LBB2_31
-.LBB2_46:
+	blo	.LBB2_28
+.LBB2_43:
 	adds	r3, r3, #1
-	ldr	r0, [sp, #8]
-	cmp	r3, r0
-	bne	.LBB2_29
+	ldr	r1, [sp]
+	cmp	r3, r1
+	bne	.LBB2_26
 	b	.LBB2_11
+.LBB2_44:
+	movs	r5, #8
+	b	.LBB2_50
+.LBB2_45:
+	ldr	r4, [sp, #12]
+.LBB2_46:
+	add	r0, sp, #64
+	add	r1, sp, #52
+	bl	ee_core_opening_open_on_Device
 .LBB2_47:
-	movs	r0, #8
-.LBB2_48:
-	ldr	r1, [sp, #52]
-	ldr	r1, [r1]
-	cmp	r1, #0
-	beq	.LBB2_51
+	add	r0, sp, #64
+	ldrb	r0, [r0, #12]
+	cmp	r0, #2
+	bne	.LBB2_49
+	ldr	r0, [sp, #64]
+	adds	r5, r0, #5
+	b	.LBB2_50
+.LBB2_49:
+	ldr	r1, [r7, #8]
+	str	r1, [sp, #32]
+	str	r0, [sp, #40]
+	add	r3, sp, #64
+	add	r2, sp, #140
+	str	r2, [sp, #44]
+	mov	r6, r4
+	ldm	r3!, {r0, r1, r4, r5}
+	stm	r2!, {r0, r1, r4, r5}
+	add	r0, sp, #80
+	str	r0, [sp, #36]
+	movs	r1, #1
+	strb	r1, [r0, #12]
+	movs	r5, #0
+	str	r5, [sp, #88]
+	ldr	r1, [sp, #32]
+	str	r1, [sp, #84]
+	str	r6, [sp, #80]
+	ldr	r2, [sp, #68]
+	add	r6, sp, #52
+	mov	r1, r6
+	ldr	r3, [sp, #40]
+	bl	ee_index_lent_index_LentIndex_read_Device
+	add	r1, sp, #96
+	str	r1, [sp, #40]
+	ldm	r6!, {r2, r3, r4}
+	stm	r1!, {r2, r3, r4}
+	ldr	r1, [sp, #44]
+	adds	r1, #16
+	ldr	r0, [sp, #36]
+	ldm	r0!, {r2, r3, r4, r6}
+	stm	r1!, {r2, r3, r4, r6}
+	ldr	r1, [sp, #40]
+	adds	r1, #12
+	ldr	r0, [sp, #44]
+	ldm	r0!, {r2, r3, r4, r6}
+	stm	r1!, {r2, r3, r4, r6}
+	str	r0, [sp, #44]
+	ldr	r0, [sp, #44]
+	ldm	r0!, {r2, r3, r4, r6}
+	stm	r1!, {r2, r3, r4, r6}
+	ldr	r6, [sp, #16]
+	ldr	r0, [sp, #40]
+	ldm	r0!, {r1, r2, r3}
+	stm	r6!, {r1, r2, r3}
+	ldm	r0!, {r1, r2, r3, r4}
+	stm	r6!, {r1, r2, r3, r4}
+	ldm	r0!, {r1, r2, r3, r4}
+	stm	r6!, {r1, r2, r3, r4}
+.LBB2_50:
+	ldr	r0, [sp, #48]
+	ldr	r0, [r0]
 	cmp	r0, #0
-	beq	.LBB2_52
-	movs	r1, #0
-	ldr	r2, [sp, #52]
-	str	r1, [r2]
-	b	.LBB2_53
-.LBB2_51:
-	movs	r0, #9
-	b	.LBB2_53
-.LBB2_52:
+	beq	.LBB2_53
+	cmp	r5, #0
+	beq	.LBB2_54
 	movs	r0, #0
+	ldr	r1, [sp, #48]
+	str	r0, [r1]
+	b	.LBB2_55
 .LBB2_53:
-	add	sp, #132
+	movs	r5, #9
+	b	.LBB2_55
+.LBB2_54:
+	movs	r5, #0
+.LBB2_55:
+	mov	r0, r5
+	add	sp, #172
 	pop	{r4, r5, r6, r7, pc}
 	.size	shim_opening_opened_ee_index_lent_index_LentIndex_indexed_opened_indexed_, .-shim_opening_opened_ee_index_lent_index_LentIndex_indexed_opened_indexed_
 
@@ -2487,57 +2501,40 @@ shim_Device_unread:
 	.type	shim_indexed_opened_indexed,%function
 	.code	16
 	.thumb_func
-	/* firmware/c/src/indexed.rs:29 */
+	/* firmware/c/src/indexed.rs:28 */
 shim_indexed_opened_indexed:
 	push	{r4, r5, r6, r7, lr}
 	add	r7, sp, #12
 	sub	sp, #12
 	cmp	r2, #0
 	beq	.LBB25_5
-	mov	r5, r2
-	mov	r4, r0
+	mov	r4, r2
 	ldr	r2, [r7, #8]
 	cmp	r3, #0
 	beq	.LBB25_6
+	mov	r5, r3
 	str	r4, [sp, #8]
-	mov	r0, r3
-	mov	r6, r5
+	mov	r6, r4
 .LBB25_3:
 	movs	r4, #0
 	strh	r4, [r6, #2]
 	movs	r4, #1
 	strh	r4, [r6]
 	adds	r6, r6, #4
-	subs	r0, r0, #1
+	subs	r5, r5, #1
 	bne	.LBB25_3
 	ldr	r4, [sp, #8]
 	b	.LBB25_7
 .LBB25_5:
 	movs	r0, #13
-	b	.LBB25_11
+	b	.LBB25_8
 .LBB25_6:
 	movs	r3, #0
 .LBB25_7:
 	str	r3, [sp]
-	mov	r0, r4
-	mov	r3, r5
+	mov	r3, r4
 	bl	shim_opening_opened_ee_index_lent_index_LentIndex_indexed_opened_indexed_
-	cmp	r0, #0
-	bne	.LBB25_11
-	ldrb	r3, [r4, #24]
-	ldr	r2, [r4, #16]
-	mov	r0, r4
-	adds	r0, #28
-	mov	r1, r4
-	bl	ee_index_lent_index_LentIndex_read_Device
-	ldr	r0, [r4, #44]
-	cmp	r0, #0
-	beq	.LBB25_10
-	movs	r0, #0
-	b	.LBB25_11
-.LBB25_10:
-	movs	r0, #9
-.LBB25_11:
+.LBB25_8:
 	add	sp, #12
 	pop	{r4, r5, r6, r7, pc}
 	.size	shim_indexed_opened_indexed, .-shim_indexed_opened_indexed
@@ -2879,7 +2876,7 @@ shim_Device_ee_flash_device_Flash_program:
 	.type	ee_indexed_clean,%function
 	.code	16
 	.thumb_func
-	/* firmware/c/src/indexed.rs:126 */
+	/* firmware/c/src/indexed.rs:113 */
 ee_indexed_clean:
 	push	{r4, r5, r6, r7, lr}
 	add	r7, sp, #12
@@ -2939,7 +2936,7 @@ ee_indexed_clean:
 	.type	ee_indexed_clear,%function
 	.code	16
 	.thumb_func
-	/* firmware/c/src/indexed.rs:121 */
+	/* firmware/c/src/indexed.rs:108 */
 ee_indexed_clear:
 	push	{r4, r5, r6, r7, lr}
 	add	r7, sp, #12
@@ -3022,7 +3019,7 @@ ee_indexed_clear:
 	.type	ee_indexed_counts,%function
 	.code	16
 	.thumb_func
-	/* firmware/c/src/indexed.rs:149 */
+	/* firmware/c/src/indexed.rs:136 */
 ee_indexed_counts:
 	push	{r4, r5, r6, r7, lr}
 	add	r7, sp, #12
@@ -3168,7 +3165,7 @@ ee_indexed_counts:
 	.type	ee_indexed_forget,%function
 	.code	16
 	.thumb_func
-	/* firmware/c/src/indexed.rs:116 */
+	/* firmware/c/src/indexed.rs:103 */
 ee_indexed_forget:
 	push	{r4, r5, r6, r7, lr}
 	add	r7, sp, #12
@@ -3256,7 +3253,7 @@ ee_indexed_forget:
 	.type	ee_indexed_format,%function
 	.code	16
 	.thumb_func
-	/* firmware/c/src/indexed.rs:82 */
+	/* firmware/c/src/indexed.rs:69 */
 ee_indexed_format:
 	push	{r4, r6, r7, lr}
 	add	r7, sp, #8
@@ -3274,7 +3271,7 @@ ee_indexed_format:
 	.type	ee_indexed_in_use,%function
 	.code	16
 	.thumb_func
-	/* firmware/c/src/indexed.rs:93 */
+	/* firmware/c/src/indexed.rs:80 */
 ee_indexed_in_use:
 	push	{r4, r6, r7, lr}
 	add	r7, sp, #8
@@ -3295,7 +3292,7 @@ ee_indexed_in_use:
 	.type	ee_indexed_next,%function
 	.code	16
 	.thumb_func
-	/* firmware/c/src/indexed.rs:140 */
+	/* firmware/c/src/indexed.rs:127 */
 ee_indexed_next:
 	push	{r4, r5, r6, r7, lr}
 	add	r7, sp, #12
@@ -3447,7 +3444,7 @@ ee_indexed_next:
 	.type	ee_indexed_open,%function
 	.code	16
 	.thumb_func
-	/* firmware/c/src/indexed.rs:61 */
+	/* firmware/c/src/indexed.rs:48 */
 ee_indexed_open:
 	push	{r4, r6, r7, lr}
 	add	r7, sp, #8
@@ -3465,7 +3462,7 @@ ee_indexed_open:
 	.type	ee_indexed_read,%function
 	.code	16
 	.thumb_func
-	/* firmware/c/src/indexed.rs:131 */
+	/* firmware/c/src/indexed.rs:118 */
 ee_indexed_read:
 	push	{r4, r5, r6, r7, lr}
 	add	r7, sp, #12
@@ -3527,7 +3524,7 @@ ee_indexed_read:
 	.type	ee_indexed_start,%function
 	.code	16
 	.thumb_func
-	/* firmware/c/src/indexed.rs:72 */
+	/* firmware/c/src/indexed.rs:59 */
 ee_indexed_start:
 	push	{r4, r6, r7, lr}
 	add	r7, sp, #8
@@ -3545,7 +3542,7 @@ ee_indexed_start:
 	.type	ee_indexed_write,%function
 	.code	16
 	.thumb_func
-	/* firmware/c/src/indexed.rs:102 */
+	/* firmware/c/src/indexed.rs:89 */
 ee_indexed_write:
 	push	{r4, r5, r6, r7, lr}
 	add	r7, sp, #12
@@ -3672,7 +3669,7 @@ ee_indexed_write:
 	.type	ee_indexed_write_all,%function
 	.code	16
 	.thumb_func
-	/* firmware/c/src/indexed.rs:107 */
+	/* firmware/c/src/indexed.rs:94 */
 ee_indexed_write_all:
 	push	{r4, r5, r6, r7, lr}
 	add	r7, sp, #12

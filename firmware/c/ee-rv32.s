@@ -1,6 +1,6 @@
 /* ee: variables in flash, the library of ee.h as one file, for RISC-V of 32 bits with M and C.
  *
- * sum of sources: 9f364ea7b734fbca6c7c5c007cb54f6f224e548cfa17f552a42e540169808ce2
+ * sum of sources: d76c9aef28922016ddbd580fdc99a8364fe83d8b7d1441b2eb89c175ef3f2b6b
  * sum of the text below: 552b66fbb5ad85b04b1469d03ad1664b3dbb9ac92367a6e9a6e845c3158a8cbb
  * made by: firmware/c/assemble
  * compiler: rustc 1.96.0 (ac68faa20 2026-05-25) (built from a source tarball), LLVM 22.1.8
@@ -37,7 +37,7 @@ shim_calls_standing_ee_core_lookup_Slots:
 	.section	.text.shim_opening_opened_ee_core_lookup_Slots_plain_slots,"ax",@progbits
 	.p2align	1
 	.type	shim_opening_opened_ee_core_lookup_Slots_plain_slots,@function
-	/* firmware/c/src/opening.rs:62 */
+	/* firmware/c/src/opening.rs:64 */
 shim_opening_opened_ee_core_lookup_Slots_plain_slots:
 	addi	sp, sp, -144
 	sw	ra, 140(sp)

@@ -1,6 +1,6 @@
 /* ee: variables in flash, the library of ee.h as one file, for Cortex-M3, M4, M7 and M33.
  *
- * sum of sources: 9f364ea7b734fbca6c7c5c007cb54f6f224e548cfa17f552a42e540169808ce2
+ * sum of sources: d76c9aef28922016ddbd580fdc99a8364fe83d8b7d1441b2eb89c175ef3f2b6b
  * sum of the text below: 4c6cc924ad7498e8d5fd5e367508e9f2837d5369c6fdd4d750028b873eb55ec8
  * made by: firmware/c/assemble
  * compiler: rustc 1.96.0 (ac68faa20 2026-05-25) (built from a source tarball), LLVM 22.1.8
@@ -57,7 +57,7 @@ shim_calls_standing_ee_core_lookup_Slots:
 	.type	shim_opening_opened_ee_core_lookup_Slots_plain_slots,%function
 	.code	16
 	.thumb_func
-	/* firmware/c/src/opening.rs:62 */
+	/* firmware/c/src/opening.rs:64 */
 shim_opening_opened_ee_core_lookup_Slots_plain_slots:
 	cmp	r0, #0
 	beq	.LBB1_17

@@ -5,9 +5,8 @@ use crate::flash::Flash;
 use crate::numbers::How;
 use crate::opening::opened;
 use crate::values::Value;
-use crate::{Counts, Kept, Memory, EE_DRIVER, EE_NOTHING, EE_NULL, EE_OK};
+use crate::{Counts, Memory, EE_NOTHING, EE_NULL, EE_OK};
 use core::mem::size_of;
-use core::ptr::addr_of_mut;
 use core::slice::from_raw_parts_mut;
 use ee_store::proved::{Entry, LentIndex};
 use ee_store::Address;
@@ -42,19 +41,7 @@ unsafe fn opened_indexed(
     }
     // SAFETY: as above, and C lends them as long as the store is used.
     let room = unsafe { from_raw_parts_mut(entries, count as usize) };
-    // An index is given up until it is read, which the store has to be open for.
-    let status = unsafe { opened(store, flash, how, || LentIndex::new(room)) };
-    if status != EE_OK {
-        return status;
-    }
-    // SAFETY: it is on, so the memory has a store.
-    unsafe {
-        (*addr_of_mut!((*store).store).cast::<Kept<LentIndex<'_>>>()).read_anew();
-        match (*store).power.get().is_null() {
-            true => EE_DRIVER,
-            false => EE_OK,
-        }
-    }
+    unsafe { opened(store, flash, how, || LentIndex::new(room)) }
 }
 
 #[no_mangle]

@@ -26,7 +26,9 @@ fn kept<L: Lookup>(
     };
     match opened {
         Ok(layout) => {
-            let lookup = lookup();
+            let mut lookup = lookup();
+            // An index fits the slots once it is read.
+            lookup.read_anew(&device, &layout);
             lent.write(proved::store_of(device, Known { layout, lookup }));
             EE_OK
         }
