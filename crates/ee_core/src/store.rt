@@ -99,17 +99,6 @@ impl<F: Flash + Drop, L: Lookup + Drop> Store<F, L> {
         torn_slots(&self.flash, &self.known.layout)
     }
 
-    /// Lets the look-up read anew what it keeps in lent memory. The store is on, as a condition, and
-    /// no step is taken.
-    ///
-    /// Source: ours.
-    pub fn read_anew(&mut self)
-        requires { IsOn self.old }
-        ensures { self.new ≡ self.old }
-    {
-        self.known.lookup.read_anew(&self.flash, &self.known.layout);
-    }
-
     /// Writes the one value of a list.
     fn write_one(&mut self, put: Put) -> Result<Written, WriteAllFault>
         // At `Ok` all values are there; at `Err` nothing changed, or power was cut: all, or none.
