@@ -1,6 +1,6 @@
 /* ee: variables in flash, the library of ee.h as one file, for Linux on AArch64.
  *
- * sum of sources: d76c9aef28922016ddbd580fdc99a8364fe83d8b7d1441b2eb89c175ef3f2b6b
+ * sum of sources: e351615867f5f0405594a8fe2e2aafa0b23cbbe3974550d0c4457b3a780d663c
  * sum of the text below: a0016403fe2a924d52ceedbee6a0d95324fb62b31b814b5f4718eed9c12dac98
  * made by: firmware/c/assemble
  * compiler: rustc 1.96.0 (ac68faa20 2026-05-25) (built from a source tarball), LLVM 22.1.8

@@ -1,6 +1,6 @@
 /* ee: variables in flash, the library of ee_indexed.h as one file, for every Cortex-M.
  *
- * sum of sources: d76c9aef28922016ddbd580fdc99a8364fe83d8b7d1441b2eb89c175ef3f2b6b
+ * sum of sources: e351615867f5f0405594a8fe2e2aafa0b23cbbe3974550d0c4457b3a780d663c
  * sum of the text below: 3435c8e91056d8375f0cd5ce6a53b819ad2a3fb1e4908be753222acfa929b389
  * made by: firmware/c/assemble
  * compiler: rustc 1.96.0 (ac68faa20 2026-05-25) (built from a source tarball), LLVM 22.1.8

@@ -1,6 +1,6 @@
 /* ee: variables in flash, the library of ee.h as one file, for RISC-V of 32 bits with M and C.
  *
- * sum of sources: d76c9aef28922016ddbd580fdc99a8364fe83d8b7d1441b2eb89c175ef3f2b6b
+ * sum of sources: e351615867f5f0405594a8fe2e2aafa0b23cbbe3974550d0c4457b3a780d663c
  * sum of the text below: 552b66fbb5ad85b04b1469d03ad1664b3dbb9ac92367a6e9a6e845c3158a8cbb
  * made by: firmware/c/assemble
  * compiler: rustc 1.96.0 (ac68faa20 2026-05-25) (built from a source tarball), LLVM 22.1.8

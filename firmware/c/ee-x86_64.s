@@ -1,6 +1,6 @@
 /* ee: variables in flash, the library of ee.h as one file, for Linux on x86-64.
  *
- * sum of sources: d76c9aef28922016ddbd580fdc99a8364fe83d8b7d1441b2eb89c175ef3f2b6b
+ * sum of sources: e351615867f5f0405594a8fe2e2aafa0b23cbbe3974550d0c4457b3a780d663c
  * sum of the text below: 722d224e5d87e15919d768c7261b835903413d58183f382687307b8f1f81372d
  * made by: firmware/c/assemble
  * compiler: rustc 1.96.0 (ac68faa20 2026-05-25) (built from a source tarball), LLVM 22.1.8

@@ -7,6 +7,7 @@
 //!   step by itself, and that counts the words that are read.
 //! - `ListNor`: the same of a flash of plain numbers, each bit of a cut step by itself;
 //!   it counts its steps.
+//! - `LastValue`: what serves a script with the value that was written last.
 //! - `images`: the texts that several tests read.
 //!
 //! Only tests stand on this crate. So the product's crates hold no unsafe code and no help for
@@ -19,6 +20,7 @@ mod list;
 mod numbers;
 mod reader;
 mod refusing;
+mod serving;
 mod writer;
 
 pub use fate::{Fate, Left};
@@ -26,4 +28,5 @@ pub use list::ListFlash;
 pub use numbers::{ListNor, NumberFate};
 pub use reader::FailingReader;
 pub use refusing::Refusing;
+pub use serving::LastValue;
 pub use writer::{FailingWriter, Stop};

@@ -1,20 +1,13 @@
-//! What no clause says, each once, and what several modules make their values with.
+//! What no clause says, each once.
 //!
 //! What goes wrong while a test is prepared ends it by `expect`. So a function has no path on which
 //! it drops what it owns, and each such path costs the prover time.
 mod commands;
-mod index_behind_a_cut;
 mod prefixes;
-mod requests;
 mod saving;
 mod streams;
 mod trail;
 
-use ee_codec::Address;
-use ee_flash::{Flash, MemFlash, Shape};
-use ee_image::read_image;
-use ee_store::{Store, open};
-use std::alloc::Global;
 use std::fmt::Debug;
 use std::process::Abort;
 
@@ -27,25 +20,4 @@ fn same<P: Debug + Copy, T: PartialEq + Debug + Copy>(
     wanted: T,
 ) {
     assert_eq!(rt; found, wanted, "at {place:?}");
-}
-
-/// The shape with these numbers of pages and words, which are in range.
-fn shape(rt: &impl Abort, pages: usize, words: usize) -> Shape {
-    Shape::new(pages, words).expect(rt, "no shape")
-}
-
-/// The address of a number that has one.
-fn address(rt: &impl Abort, number: u16) -> Address {
-    Address::new(number).expect(rt, "no address")
-}
-
-/// The device of an image's text, which is on.
-fn device(rt: &impl Abort, memory: Global, text: &[u8]) -> MemFlash {
-    read_image(memory, text).expect(rt, "no device")
-}
-
-/// The store of a device, with power turned on.
-fn opened(rt: &impl Abort, mut flash: MemFlash) -> Store<MemFlash> {
-    flash.power_on();
-    open(flash).ok().expect(rt, "no store")
 }

@@ -1,19 +1,22 @@
 //! How many words of the flash a read by the index takes, on a device that counts them.
-use crate::tests::{address, indexed_in, opened, same, shape};
+use crate::tests::{address, formatted, indexed_in, opened, same, shape};
 use ee_fakes::ListFlash;
 use ee_flash::Flash;
-use ee_store::{Entry, Variables, format, open_indexed};
+use ee_store::{Entry, Variables, open_indexed};
 use std::alloc::Global;
 use std::process::Abort;
 
 /// How many addresses have a value, each in a slot of its own.
 const COUNT: u16 = 40;
 
-// A device of two pages of 26 slots, on which these were written by rising address.
-fn filled<'a>(rt: &impl Abort, memory: Global) -> ListFlash<'a> {
-    let mut flash = ListFlash::blank(memory, shape(rt, 2, 30), &[]).expect(rt, "no device");
-    flash.power_on();
-    let mut store = format(flash).ok().expect(rt, "no store");
+// A device of two pages of 26 slots.
+fn blank<'a>(rt: &impl Abort, memory: Global) -> ListFlash<'a> {
+    ListFlash::blank(memory, shape(rt, 2, 30), &[]).expect(rt, "no device")
+}
+
+// The device, on which these were written by rising address.
+fn filled<F: Flash + Drop>(rt: &impl Abort, flash: F) -> F {
+    let mut store = formatted(rt, flash);
     for number in 0..COUNT {
         let one = address(rt, number.saturating_add(1));
         store.write(one, u32::from(number)).expect(rt, "no write");
@@ -28,28 +31,55 @@ fn read_often<V: Variables>(rt: &impl Abort, store: &V, number: u16, times: u32)
     }
 }
 
-// How many words are read until a store with an index is open, and an address was
-// read so many times.
-fn by_index(rt: &impl Abort, memory: Global, number: u16, times: u32) -> u64 {
-    let mut flash = filled(rt, memory);
+// The device behind so many reads of an address by a store with an index.
+fn read_by_index<F: Flash + Drop>(
+    rt: &impl Abort,
+    memory: Global,
+    flash: F,
+    number: u16,
+    times: u32,
+) -> F {
+    let mut flash = filled(rt, flash);
     flash.power_on();
     let store = open_indexed(memory, flash).ok().expect(rt, "no store");
     read_often(rt, &store, number, times);
-    store.into_flash().reads()
+    store.into_flash()
 }
 
-// The same of a store with an index in this room.
+// The same with an index in this room.
+fn read_by_lent<F: Flash + Drop>(
+    rt: &impl Abort,
+    flash: F,
+    room: &mut [Entry],
+    number: u16,
+    times: u32,
+) -> F {
+    let store = indexed_in(rt, opened(rt, filled(rt, flash)), room);
+    read_often(rt, &store, number, times);
+    store.into_flash()
+}
+
+// The same without one.
+fn read_by_scan<F: Flash + Drop>(rt: &impl Abort, flash: F, number: u16, times: u32) -> F {
+    let store = opened(rt, filled(rt, flash));
+    read_often(rt, &store, number, times);
+    store.into_flash()
+}
+
+// How many words are read until a store with an index is open, and an address was
+// read so many times.
+fn by_index(rt: &impl Abort, memory: Global, number: u16, times: u32) -> u64 {
+    read_by_index(rt, memory, blank(rt, memory), number, times).reads()
+}
+
+// The same with an index in this room.
 fn by_lent(rt: &impl Abort, memory: Global, room: &mut [Entry], number: u16, times: u32) -> u64 {
-    let store = indexed_in(rt, opened(rt, filled(rt, memory)), room);
-    read_often(rt, &store, number, times);
-    store.into_flash().reads()
+    read_by_lent(rt, blank(rt, memory), room, number, times).reads()
 }
 
-// The same of a store without one.
+// The same without one.
 fn by_scan(rt: &impl Abort, memory: Global, number: u16, times: u32) -> u64 {
-    let store = opened(rt, filled(rt, memory));
-    read_often(rt, &store, number, times);
-    store.into_flash().reads()
+    read_by_scan(rt, blank(rt, memory), number, times).reads()
 }
 
 /// A store without an index reads more: so one that scans would be told.

@@ -1,9 +1,9 @@
 //! Stores whose erases are cut in every mix of words, one cut after another: what no fuse makes.
-use crate::tests::{address, opened, same, shape};
+use crate::tests::{address, formatted, opened, same, shape};
 use ee_codec::Address;
 use ee_fakes::{Fate, Left, ListFlash};
 use ee_flash::Flash;
-use ee_store::{OpenFault, Variables, WriteFault, Written, format, open};
+use ee_store::{OpenFault, Variables, WriteFault, Written, open};
 use std::alloc::Global;
 use std::process::Abort;
 
@@ -29,19 +29,17 @@ fn fill_both<V: Variables>(rt: &impl Abort, store: &mut V, one: Address, slots: 
     }
 }
 
-/// A device with so many pages a set and one slot a page. Address 1 was written with 1 in
-/// each slot and then with 2 in each: the second set is live and full, and the pages of the
-/// first wait to be erased.
-pub fn moved_once<'a>(
-    rt: &impl Abort,
-    memory: Global,
-    pages: usize,
-    one: Address,
-) -> ListFlash<'a> {
-    let mut flash = ListFlash::blank(memory, shape(rt, pages, 5), &[]).expect(rt, "no device");
-    flash.power_on();
-    let mut store = format(flash).ok().expect(rt, "no store");
-    fill_both(rt, &mut store, one, pages);
+// A device with so many pages a set and one slot a page.
+fn blank<'a>(rt: &impl Abort, memory: Global, pages: usize) -> ListFlash<'a> {
+    ListFlash::blank(memory, shape(rt, pages, 5), &[]).expect(rt, "no device")
+}
+
+// The device, with address 1 written with 1 in each slot and then with 2 in each: the second set
+// is live and full, and the pages of the first wait to be erased.
+fn moved_once<F: Flash + Drop>(rt: &impl Abort, flash: F, one: Address) -> F {
+    let slots = flash.shape().slots();
+    let mut store = formatted(rt, flash);
+    fill_both(rt, &mut store, one, slots);
     store.into_flash()
 }
 
@@ -92,17 +90,29 @@ fn stands<V: Variables>(store: &mut V, one: Address, pending: usize) -> bool {
         && has(store, one, 3, (3, 1, 1))
 }
 
-// Cuts the erase of the first set's page in this mix, in a clean step or in a write that transfers.
+// Whether the first erase is cut, in a clean step or in a write that transfers, and behind it the
+// old value stands and so many pages wait.
+fn is_cut_and_stands<F: Flash + Drop>(
+    rt: &impl Abort,
+    flash: F,
+    cleans: bool,
+    one: Address,
+    pending: usize,
+) -> bool {
+    let mut store = opened(rt, flash);
+    let is_cut = is_cut(&mut store, cleans, one);
+    let mut store = opened(rt, store.into_flash());
+    is_cut && stands(&mut store, one, pending)
+}
+
+// Cuts the erase of the first set's page in this mix.
 fn cut_the_erase(rt: &impl Abort, memory: Global, cleans: bool, one: Address, mix: usize) {
     let list = mix_of(mix);
     let fates = [Fate::Cut(&list)];
-    let mut flash = moved_once(rt, memory, 1, one);
+    let mut flash = moved_once(rt, blank(rt, memory, 1), one);
     flash.set_fates(&fates);
-    let mut store = opened(rt, flash);
-    same(rt, mix, is_cut(&mut store, cleans, one), true);
-    let mut store = opened(rt, store.into_flash());
-    let pending = pending_behind(&list);
-    same(rt, mix, stands(&mut store, one, pending), true);
+    let found = is_cut_and_stands(rt, flash, cleans, one, pending_behind(&list));
+    same(rt, mix, found, true);
 }
 
 #[test]
@@ -192,7 +202,7 @@ fn cut_often(
     mixes: &[[Left; 5]; 3],
 ) -> u64 {
     let fates = fates_of(mixes);
-    let mut flash = moved_once(rt, memory, pages, one);
+    let mut flash = moved_once(rt, blank(rt, memory, pages), one);
     flash.set_fates(&fates);
     write_through(rt, flash, one, 12)
 }

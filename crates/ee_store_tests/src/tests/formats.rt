@@ -7,7 +7,7 @@ use std::alloc::Global;
 use std::process::Abort;
 
 // What a format leaves of a device that is on.
-fn formatted(mut flash: MemFlash) -> MemFlash {
+fn formatted<F: Flash + Drop>(mut flash: F) -> F {
     flash.power_on();
     match format(flash) {
         Ok(store) => store.into_flash(),

@@ -1,8 +1,7 @@
 //! An index in lent memory: when it gives itself up, and when it comes back.
-use crate::tests::{address, indexed_in, same, shape};
-use ee_fakes::ListFlash;
-use ee_flash::Flash;
-use ee_store::{Entry, Store, Variables, format};
+use crate::tests::{address, formatted, indexed_in, same, shape};
+use ee_flash::{Flash, MemFlash};
+use ee_store::{Entry, Variables};
 use std::alloc::Global;
 use std::process::Abort;
 
@@ -31,11 +30,9 @@ const CHANGES: [(Change, bool); 11] = [
     (Change::Put(3), false),
 ];
 
-// A new store with one page a set and five slots a page.
-fn formatted<'a>(rt: &impl Abort, memory: Global) -> Store<ListFlash<'a>> {
-    let mut flash = ListFlash::blank(memory, shape(rt, 1, 9), &[]).expect(rt, "no device");
-    flash.power_on();
-    format(flash).ok().expect(rt, "no store")
+// A device with one page a set and five slots a page.
+fn blank(rt: &impl Abort, memory: Global) -> MemFlash {
+    MemFlash::blank(memory, shape(rt, 1, 9)).expect(rt, "no device")
 }
 
 // Makes a change.
@@ -55,9 +52,23 @@ fn make<V: Variables>(rt: &impl Abort, store: &mut V, change: &Change) {
     }
 }
 
+// An index with this room is given up behind each change as the row says.
+fn give_up<F: Flash + Drop>(rt: &impl Abort, flash: F, room: &mut [Entry]) {
+    let mut store = indexed_in(rt, formatted(rt, flash), room);
+    for (place, (change, wanted)) in CHANGES.iter().enumerate() {
+        make(rt, &mut store, change);
+        same(rt, place, store.lookup().is_given_up(), *wanted);
+    }
+}
+
 // Whether an index with this room is given up when it is made behind the first of these changes.
-fn is_given_up_behind(rt: &impl Abort, memory: Global, room: &mut [Entry], changes: usize) -> bool {
-    let mut store = formatted(rt, memory);
+fn is_given_up_behind<F: Flash + Drop>(
+    rt: &impl Abort,
+    flash: F,
+    room: &mut [Entry],
+    changes: usize,
+) -> bool {
+    let mut store = formatted(rt, flash);
     for (change, _) in CHANGES.iter().take(changes) {
         make(rt, &mut store, change);
     }
@@ -67,18 +78,15 @@ fn is_given_up_behind(rt: &impl Abort, memory: Global, room: &mut [Entry], chang
 #[test]
 fn an_index_is_given_up_where_it_has_no_room(rt: HostRuntime) {
     let mut room = [(address(&rt, 1), 0); 3];
-    let mut store = indexed_in(&rt, formatted(&rt, rt.alloc()), &mut room);
-    for (place, (change, wanted)) in CHANGES.iter().enumerate() {
-        make(&rt, &mut store, change);
-        same(&rt, place, store.lookup().is_given_up(), *wanted);
-    }
+    give_up(&rt, blank(&rt, rt.alloc()), &mut room);
 }
 
 #[test]
 fn an_index_that_is_made_tells_the_same(rt: HostRuntime) {
     for (place, (_, wanted)) in CHANGES.iter().enumerate() {
         let mut room = [(address(&rt, 1), 0); 3];
-        let found = is_given_up_behind(&rt, rt.alloc(), &mut room, place.saturating_add(1));
+        let flash = blank(&rt, rt.alloc());
+        let found = is_given_up_behind(&rt, flash, &mut room, place.saturating_add(1));
         same(&rt, place, found, *wanted);
     }
 }

@@ -26,6 +26,9 @@ fn in_slot(word: Word) -> InSlot {
 
 const FOREIGN: InSlot = ("foreign", 0, 0);
 
+/// What a word says that is nothing in any place.
+const NOTHING: Said = (FOREIGN, None, MarkRead::Foreign);
+
 fn said(word: Word) -> Said {
     (in_slot(word), read_receive(word), read_mark(word))
 }
@@ -49,49 +52,39 @@ fn elements(rt: HostRuntime) {
     }
 }
 
-/// Other words that are held, and what each says.
-const HELD: [(u64, InSlot, Option<u32>, MarkRead); 9] = [
+/// Other words, and what each says.
+const READ: [(Word, Said); 11] = [
+    (Word::Erased, (("free", 0, 0), None, MarkRead::Absent)),
+    (Word::Torn, (("spoiled", 0, 0), None, MarkRead::Broken)),
     (
-        0x0000_000a_0001_0001,
-        ("forgotten", 1, 10),
-        None,
-        MarkRead::Foreign,
+        Word::Held(0x0000_000a_0001_0001),
+        (("forgotten", 1, 10), None, MarkRead::Foreign),
     ),
-    (0x0000_000a_0000_0000, FOREIGN, None, MarkRead::Foreign),
-    (0x0000_000a_0000_ffff, FOREIGN, None, MarkRead::Foreign),
-    (0x0000_0000_0000_0000, FOREIGN, None, MarkRead::Foreign),
-    (0xaaaa_aaaa_0000_0000, FOREIGN, None, MarkRead::Foreign),
-    (0xaaaa_aaaa_ffff_ffff, FOREIGN, None, MarkRead::Foreign),
+    (Word::Held(0x0000_000a_0000_0000), NOTHING),
+    (Word::Held(0x0000_000a_0000_ffff), NOTHING),
+    (Word::Held(0x0000_0000_0000_0000), NOTHING),
+    (Word::Held(0xaaaa_aaaa_0000_0000), NOTHING),
+    (Word::Held(0xaaaa_aaaa_ffff_ffff), NOTHING),
     (
-        0xaaaa_aaaa_0000_0001,
-        ("element", 1, 2_863_311_530),
-        Some(1),
-        MarkRead::Foreign,
+        Word::Held(0xaaaa_aaaa_0000_0001),
+        (("element", 1, 2_863_311_530), Some(1), MarkRead::Foreign),
     ),
     (
-        0xaaaa_aaaa_ffff_fffe,
-        FOREIGN,
-        Some(4_294_967_294),
-        MarkRead::Foreign,
+        Word::Held(0xaaaa_aaaa_ffff_fffe),
+        (FOREIGN, Some(4_294_967_294), MarkRead::Foreign),
     ),
     // By its place alone the mark is a receive word.
     (
-        0xaaaa_aaaa_aaaa_aaaa,
-        FOREIGN,
-        Some(2_863_311_530),
-        MarkRead::Present,
+        Word::Held(0xaaaa_aaaa_aaaa_aaaa),
+        (FOREIGN, Some(2_863_311_530), MarkRead::Present),
     ),
 ];
 
 #[test]
 fn words_that_are_read(rt: HostRuntime) {
-    for (word, slot, generation, mark) in HELD {
-        same(&rt, word, said(Word::Held(word)), (slot, generation, mark));
+    for (word, wanted) in READ {
+        same(&rt, word, said(word), wanted);
     }
-    let erased = (("free", 0, 0), None, MarkRead::Absent);
-    same(&rt, "erased", said(Word::Erased), erased);
-    let torn = (("spoiled", 0, 0), None, MarkRead::Broken);
-    same(&rt, "torn", said(Word::Torn), torn);
 }
 
 #[test]

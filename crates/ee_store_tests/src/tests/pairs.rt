@@ -1,9 +1,9 @@
 //! Worked scripts over pairs of plain numbers, whole and with power cut in each step, bit by bit.
-use crate::tests::{address, device, opened, same, shape, text_of};
+use crate::tests::{address, device, formatted, opened, same, shape, text_of};
 use ee_fakes::images::{CLEANED, TIDIED};
 use ee_fakes::{ListNor, NumberFate};
 use ee_flash::{Flash, MemFlash, Shape};
-use ee_store::{Answer, ForgetFault, Pairs, Variables, WriteFault, format};
+use ee_store::{Answer, ForgetFault, Pairs, Variables, WriteFault};
 use std::alloc::Global;
 use std::process::Abort;
 
@@ -103,10 +103,11 @@ fn answer<V: Variables>(rt: &impl Abort, store: &mut V, line: Line) -> Answer {
     }
 }
 
-/// What a script left.
+/// What a script left: the device, its image, and the answers.
 #[derive(Drop)]
 struct Outcome<F: Flash + Drop> {
     flash: F,
+    image: Vec<u8>,
     log: Vec<Answer>,
 }
 
@@ -123,16 +124,14 @@ fn answered<F: Flash + Drop>(
         log.push(answer(rt, &mut store, *line))
             .expect(rt, "no room");
     }
-    Outcome {
-        flash: store.into_flash(),
-        log,
-    }
+    let flash = store.into_flash();
+    let image = text_of(rt, memory, &flash);
+    Outcome { flash, image, log }
 }
 
 // A device with an empty store.
-fn formatted<F: Flash + Drop>(rt: &impl Abort, mut flash: F) -> F {
-    flash.power_on();
-    format(flash).ok().expect(rt, "no store").into_flash()
+fn emptied<F: Flash + Drop>(rt: &impl Abort, flash: F) -> F {
+    formatted(rt, flash).into_flash()
 }
 
 // A flash of numbers as a device of words, whose steps to come meet these fates.
@@ -147,42 +146,52 @@ fn paired<'a>(
 
 fn new_numbers<'a>(rt: &impl Abort, memory: Global, shape: Shape) -> Pairs<ListNor<'a>> {
     let numbers = ListNor::blank(memory, shape, &[]).expect(rt, "no device");
-    formatted(rt, paired(rt, numbers, &[]))
+    emptied(rt, paired(rt, numbers, &[]))
 }
 
 fn new_words(rt: &impl Abort, memory: Global, shape: Shape) -> MemFlash {
-    formatted(rt, MemFlash::blank(memory, shape).expect(rt, "no device"))
+    emptied(rt, MemFlash::blank(memory, shape).expect(rt, "no device"))
 }
 
-// Whether pairs of numbers and words are left with one image behind the same answers, whose
-// last two are these.
-fn are_alike<F: Flash + Drop, G: Flash + Drop>(
+/// What a script left of pairs of numbers, and whether it did so of words.
+#[derive(Drop)]
+struct Compared<F: Flash + Drop> {
+    numbers: Outcome<F>,
+    /// One image is left behind the same answers, whose last two are the worked values.
+    are_alike: bool,
+}
+
+// Runs these lines of a script over both.
+fn run_over_both<F: Flash + Drop, G: Flash + Drop>(
     rt: &impl Abort,
     memory: Global,
-    numbers: &Outcome<F>,
-    words: &Outcome<G>,
+    numbers: F,
+    words: G,
+    lines: &[Line],
     values: &[Answer; 2],
-) -> bool {
+) -> Compared<F> {
+    let numbers = answered(rt, memory, numbers, lines);
+    let words = answered(rt, memory, words, lines);
     let log = words.log.as_slice();
-    numbers.log.as_slice() == log
+    let are_alike = numbers.log.as_slice() == log
         && log.ends_with(values.as_slice())
-        && text_of(rt, memory, &numbers.flash).as_slice()
-            == text_of(rt, memory, &words.flash).as_slice()
+        && numbers.image.as_slice() == words.image.as_slice();
+    Compared { numbers, are_alike }
 }
 
 // Runs a script whole, over both, which leaves the worked image. Gives how many steps
 // of numbers it takes.
 fn run_whole(rt: &impl Abort, memory: Global, script: &Script) -> usize {
     let shape = shape(rt, script.pages, script.words);
-    let words = answered(rt, memory, new_words(rt, memory, shape), script.lines);
     let numbers = new_numbers(rt, memory, shape).into_nor();
     let before = numbers.steps();
-    let numbers = answered(rt, memory, paired(rt, numbers, &[]), script.lines);
-    let alike = are_alike(rt, memory, &numbers, &words, &script.values);
-    same(rt, "whole", alike, true);
-    let text = text_of(rt, memory, &numbers.flash);
-    same(rt, "image", text.as_slice(), script.image);
-    numbers.flash.into_nor().steps().saturating_sub(before) as usize
+    let numbers = paired(rt, numbers, &[]);
+    let words = new_words(rt, memory, shape);
+    let whole = run_over_both(rt, memory, numbers, words, script.lines, &script.values);
+    same(rt, "whole", whole.are_alike, true);
+    same(rt, "image", whole.numbers.image.as_slice(), script.image);
+    let steps = whole.numbers.flash.into_nor().steps();
+    steps.saturating_sub(before) as usize
 }
 
 /// The most steps that a script takes.
@@ -237,11 +246,9 @@ fn goes_on(rt: &impl Abort, memory: Global, script: &Script, fates: &[NumberFate
         .lines
         .get(line_of_cut(cut.log.as_slice())..)
         .expect(rt, "no cut");
-    let text = text_of(rt, memory, &cut.flash);
-    let words = answered(rt, memory, device(rt, memory, text.as_slice()), rest);
+    let words = device(rt, memory, cut.image.as_slice());
     let numbers = paired(rt, cut.flash.into_nor(), &[]);
-    let numbers = answered(rt, memory, numbers, rest);
-    are_alike(rt, memory, &numbers, &words, &script.values)
+    run_over_both(rt, memory, numbers, words, rest, &script.values).are_alike
 }
 
 // Cuts each step of a script in each way.

@@ -2,7 +2,7 @@
 use crate::tests::{device, same, text_of};
 use ee_fakes::Refusing;
 use ee_fakes::images::ONE_MOVE;
-use ee_flash::{Flash, MemFlash};
+use ee_flash::Flash;
 use ee_store::{IndexedFault, open_indexed};
 use std::alloc::Global;
 use std::process::Abort;
@@ -14,7 +14,7 @@ const UNFINISHED: &[u8] = b"ee 1 6
 ";
 
 // The device of an opening for which memory is refused.
-fn refused(rt: &impl Abort, memory: Global, mut flash: MemFlash) -> MemFlash {
+fn refused<F: Flash + Drop>(rt: &impl Abort, memory: Global, mut flash: F) -> F {
     let heap = Refusing::new(memory, 1);
     flash.power_on();
     match open_indexed(&heap, flash) {

@@ -1,6 +1,6 @@
 //! A rescue, worked by hand: the words that it leaves, and how many were bad. No command makes one.
 use crate::tests::{device, same, text_of};
-use ee_flash::{Flash, MemFlash};
+use ee_flash::Flash;
 use ee_store::{RescueFault, Rescued, rescue};
 use std::alloc::Global;
 use std::process::Abort;
@@ -36,20 +36,24 @@ const ROWS: [(&[u8], &[u8], usize, usize); 3] = [
     ),
 ];
 
-// What a rescue leaves of a device that is on, and what it tells.
-fn rescued(mut flash: MemFlash) -> (MemFlash, Result<Rescued, RescueFault>) {
+// The image that a rescue leaves of a device, and what it tells.
+fn rescued<F: Flash + Drop>(
+    rt: &impl Abort,
+    memory: Global,
+    mut flash: F,
+) -> (Vec<u8>, Result<Rescued, RescueFault>) {
     flash.power_on();
-    match rescue(flash) {
+    let (flash, told) = match rescue(flash) {
         Ok((store, told)) => (store.into_flash(), Ok(told)),
         Err((flash, fault)) => (flash, Err(fault)),
-    }
+    };
+    (text_of(rt, memory, &flash), told)
 }
 
 #[test]
 fn a_rescue_leaves_a_store(rt: HostRuntime) {
     for (image, wanted, bad_words, live) in ROWS {
-        let (flash, told) = rescued(device(&rt, rt.alloc(), image));
-        let text = text_of(&rt, rt.alloc(), &flash);
+        let (text, told) = rescued(&rt, rt.alloc(), device(&rt, rt.alloc(), image));
         same(&rt, image, text.as_slice(), wanted);
         same(&rt, image, told, Ok(Rescued { bad_words, live }));
     }
@@ -59,8 +63,7 @@ fn a_rescue_leaves_a_store(rt: HostRuntime) {
 #[test]
 fn a_rescue_that_is_refused(rt: HostRuntime) {
     for (image, fault) in REFUSED {
-        let (flash, told) = rescued(device(&rt, rt.alloc(), image));
-        let text = text_of(&rt, rt.alloc(), &flash);
+        let (text, told) = rescued(&rt, rt.alloc(), device(&rt, rt.alloc(), image));
         same(&rt, image, text.as_slice(), image);
         same(&rt, image, told, Err(fault));
     }

@@ -5,7 +5,7 @@ use ee_codec::Address;
 use ee_fakes::images::{TIDIED, TWO_MOVES, VOLUME};
 use ee_flash::{Flash, Fuse, MemFlash, Tear};
 use ee_settings::{Reading, Schema, TidyFault};
-use ee_store::{IndexedStore, Store, Variables, open_indexed};
+use ee_store::{IndexedStore, Variables, open_indexed};
 use std::alloc::Global;
 use std::process::Abort;
 
@@ -18,16 +18,7 @@ fn schema(rt: &impl Abort, memory: Global) -> Schema {
     Schema::from_table(memory, &table).expect(rt, "no schema")
 }
 
-// The store after two moves, of which a step is cut, if a fuse is armed.
-fn scanned(rt: &impl Abort, memory: Global, fuse: Option<Fuse>) -> Store<MemFlash> {
-    opened(rt, moved_twice(rt, memory, fuse))
-}
-
-// The same with an index.
-fn indexed(rt: &impl Abort, memory: Global, fuse: Option<Fuse>) -> IndexedStore<MemFlash> {
-    reopened(rt, memory, moved_twice(rt, memory, fuse))
-}
-
+// The device after two moves, of which a later step is cut, if a fuse is armed.
 fn moved_twice(rt: &impl Abort, memory: Global, fuse: Option<Fuse>) -> MemFlash {
     let mut flash = device(rt, memory, TWO_MOVES);
     if let Some(fuse) = fuse {
@@ -37,7 +28,7 @@ fn moved_twice(rt: &impl Abort, memory: Global, fuse: Option<Fuse>) -> MemFlash 
 }
 
 // The store with an index of a device, with power turned on.
-fn reopened(rt: &impl Abort, memory: Global, mut flash: MemFlash) -> IndexedStore<MemFlash> {
+fn indexed<F: Flash + Drop>(rt: &impl Abort, memory: Global, mut flash: F) -> IndexedStore<F> {
     flash.power_on();
     open_indexed(memory, flash).ok().expect(rt, "no store")
 }
@@ -50,37 +41,46 @@ fn is_stale<V: Variables>(memory: Global, schema: &Schema, store: &V) -> bool {
     entries.as_slice() == [1].as_slice() && schema.get(store, "volume") == Ok(Reading::Default(5))
 }
 
-// Whether the schema tidies so many addresses away, and is stale before it and behind it.
-fn tidies<V: Variables>(memory: Global, schema: &Schema, store: &mut V, count: u64) -> bool {
+// Whether the schema tidies one address away, and then none, and is stale before and behind it.
+fn tidies<V: Variables>(memory: Global, schema: &Schema, store: &mut V) -> bool {
     is_stale(memory, schema, store)
-        && schema.tidy(store) == Ok(count)
+        && schema.tidy(store) == Ok(1)
         && is_stale(memory, schema, store)
+        && schema.tidy(store) == Ok(0)
+        && is_stale(memory, schema, store)
+}
+
+// The image behind the tidying of a store without an index.
+fn tidied_by_scan<F: Flash + Drop>(
+    rt: &impl Abort,
+    memory: Global,
+    schema: &Schema,
+    flash: F,
+) -> Vec<u8> {
+    let mut store = opened(rt, flash);
+    same(rt, "scanned", tidies(memory, schema, &mut store), true);
+    text_of(rt, memory, &store.into_flash())
+}
+
+// The same of a store with one.
+fn tidied_by_index<F: Flash + Drop>(
+    rt: &impl Abort,
+    memory: Global,
+    schema: &Schema,
+    flash: F,
+) -> Vec<u8> {
+    let mut store = indexed(rt, memory, flash);
+    same(rt, "indexed", tidies(memory, schema, &mut store), true);
+    text_of(rt, memory, &store.into_flash())
 }
 
 #[test]
 fn a_second_schema(rt: HostRuntime) {
-    let schema = schema(&rt, rt.alloc());
-    let mut store = scanned(&rt, rt.alloc(), None);
-    for count in [1, 0] {
-        same(
-            &rt,
-            count,
-            tidies(rt.alloc(), &schema, &mut store, count),
-            true,
-        );
-    }
-    let text = text_of(&rt, rt.alloc(), &store.into_flash());
+    let memory = rt.alloc();
+    let schema = schema(&rt, memory);
+    let text = tidied_by_scan(&rt, memory, &schema, moved_twice(&rt, memory, None));
     same(&rt, "scanned", text.as_slice(), TIDIED);
-    let mut store = indexed(&rt, rt.alloc(), None);
-    for count in [1, 0] {
-        same(
-            &rt,
-            count,
-            tidies(rt.alloc(), &schema, &mut store, count),
-            true,
-        );
-    }
-    let text = text_of(&rt, rt.alloc(), &store.into_flash());
+    let text = tidied_by_index(&rt, memory, &schema, moved_twice(&rt, memory, None));
     same(&rt, "indexed", text.as_slice(), TIDIED);
 }
 
@@ -100,32 +100,37 @@ fn has_thirteen<V: Variables>(schema: &Schema, store: &mut V, one: Address) -> b
 }
 
 // Cuts the tidying of a store without an index, and opens it again.
-fn cut_scanned(rt: &impl Abort, memory: Global, schema: &Schema, fuse: Fuse) -> bool {
-    let mut store = scanned(rt, memory, Some(fuse));
+fn cut_scanned<F: Flash + Drop>(rt: &impl Abort, schema: &Schema, flash: F) -> bool {
+    let mut store = opened(rt, flash);
     let is_cut = is_cut(schema, &mut store);
     let mut store = opened(rt, store.into_flash());
     is_cut && has_thirteen(schema, &mut store, address(rt, 1))
 }
 
 // The same of a store with one.
-fn cut_indexed(rt: &impl Abort, memory: Global, schema: &Schema, fuse: Fuse) -> bool {
-    let mut store = indexed(rt, memory, Some(fuse));
+fn cut_indexed<F: Flash + Drop>(
+    rt: &impl Abort,
+    memory: Global,
+    schema: &Schema,
+    flash: F,
+) -> bool {
+    let mut store = indexed(rt, memory, flash);
     let is_cut = is_cut(schema, &mut store);
-    let mut store = reopened(rt, memory, store.into_flash());
+    let mut store = indexed(rt, memory, store.into_flash());
     is_cut && has_thirteen(schema, &mut store, address(rt, 1))
 }
 
 #[test]
 fn each_step_of_a_tidying_is_cut(rt: HostRuntime) {
-    let schema = schema(&rt, rt.alloc());
+    let memory = rt.alloc();
+    let schema = schema(&rt, memory);
     for after in 0..STEPS {
         for tear in [Tear::Nothing, Tear::Done, Tear::Torn, Tear::Mixed] {
             let fuse = Fuse { after, tear };
-            let found = (
-                cut_scanned(&rt, rt.alloc(), &schema, fuse),
-                cut_indexed(&rt, rt.alloc(), &schema, fuse),
-            );
-            same(&rt, fuse, found, (true, true));
+            let flash = moved_twice(&rt, memory, Some(fuse));
+            same(&rt, fuse, cut_scanned(&rt, &schema, flash), true);
+            let flash = moved_twice(&rt, memory, Some(fuse));
+            same(&rt, fuse, cut_indexed(&rt, memory, &schema, flash), true);
         }
     }
 }

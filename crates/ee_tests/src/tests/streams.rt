@@ -2,11 +2,11 @@
 use crate::tests::same;
 use ee_command_line::{MOST_BYTES, MOST_READS, ReadFault, Stopped, read_whole, write_whole};
 use ee_fakes::images::{FORMATTED, REPORT, SCRIPT, TWO_MOVES};
-use ee_fakes::{FailingReader, FailingWriter, Stop};
+use ee_fakes::{FailingReader, FailingWriter, LastValue, Stop};
 use ee_faults::ReplayFault;
-use ee_script::{Answer, Command, Serve, StreamFault, answer_reader};
+use ee_script::{StreamFault, answer_reader};
 use ee_shell::{replay, replay_reader};
-use std::alloc::{AllocError, Global};
+use std::alloc::Global;
 use std::io;
 use std::io::{ErrorKind, Read};
 use std::process::Abort;
@@ -81,22 +81,6 @@ fn a_bad_line_or_a_failed_read(rt: HostRuntime) {
     ] {
         let reader = reader(script, 1, fails_at, ErrorKind::Other);
         same(&rt, fails_at, is_replayed(rt.alloc(), reader), Err(fault));
-    }
-}
-
-/// Serves with the value that was written last, at any address.
-#[derive(Clone, Copy, Drop)]
-pub struct LastValue(pub u32);
-
-impl Serve for LastValue {
-    ghost serves = { λ _ _ _ _. Unit {0} };
-
-    fn serve(&mut self, command: Command) -> Result<Answer, AllocError> {
-        let Command::Write { value, .. } = command else {
-            return Ok(Answer::Value(self.0));
-        };
-        self.0 = value;
-        Ok(Answer::Moved)
     }
 }
 

@@ -59,12 +59,6 @@ impl<F: Flash, L: Lookup> Store<F, L> {
         torn_slots(&self.flash, &self.known.layout)
     }
 
-    /// Lets the look-up read anew what it keeps in lent memory. The store is on, as a condition, and
-    /// no step is taken.
-    pub fn read_anew(&mut self) {
-        self.known.lookup.read_anew(&self.flash, &self.known.layout);
-    }
-
     /// Writes the one value of a list.
     async fn write_one(&mut self, put: Put) -> Result<Written, WriteAllFault> {
         match self.write(put.address, put.value).await {

@@ -1,12 +1,11 @@
 //! Devices and dumps, Intel HEX, scripts, and what is put behind other bytes.
 use super::commands::{BASE, DUMP, gives};
-use crate::tests::streams::LastValue;
 use crate::tests::{device, shape};
 use ee_check::{Certificate, read_certificate, write_certificate};
 use ee_dump::intel_hex::{HexFault, read_hex, write_hex};
 use ee_dump::{DumpFault, Form, WriteFault, read_dump, write_dump};
-use ee_fakes::Refusing;
 use ee_fakes::images::{CERTIFICATE, FORMATTED, TWO_MOVES};
+use ee_fakes::{LastValue, Refusing};
 use ee_faults::{Fault, File, ReplayFault};
 use ee_flash::{MemFlash, Shape};
 use ee_image::{read_image, write_image};

@@ -178,14 +178,18 @@ fn are_live<A: Allocator>(rt: &impl Abort, live: &BTreeSet<Address, A>, numbers:
     live.len() == 2 && live.contains(&address(rt, first)) && live.contains(&address(rt, second))
 }
 
-fn started(alloc: &Refusing<Global>, rt: &impl Abort, memory: Global) -> Option<bool> {
-    let store = opened(rt, device(rt, memory, NINE_TWO_NINE));
+// Whether a store starts there.
+fn starts<V: Variables>(alloc: &Refusing<Global>, rt: &impl Abort, store: &V) -> Option<bool> {
     if !store.is_on() {
         return Some(false);
     }
-    let start = start_of(alloc, &store).ok()?;
+    let start = start_of(alloc, store).ok()?;
     let numbers = (start.slots(), start.fill());
     Some(numbers == (4, 3) && are_live(rt, start.live(), [2, 9]))
+}
+
+fn started(alloc: &Refusing<Global>, rt: &impl Abort, memory: Global) -> Option<bool> {
+    starts(alloc, rt, &opened(rt, device(rt, memory, NINE_TWO_NINE)))
 }
 
 // A start where address 9 is live.

@@ -1,13 +1,13 @@
 //! Devices, stores with an index, and events that drive a store. That their device is as it was
 //! where memory is refused is said by their clauses.
-use crate::tests::{address, device, same, shape};
+use crate::tests::{address, device, formatted, same, shape};
 use ee_codec::Address;
 use ee_fakes::images::ONE_MOVE;
 use ee_fakes::{ListFlash, Refusing};
 use ee_flash::{Flash, MemFlash};
 use ee_store::{
-    Answer, Event, IndexedFault, IndexedStore, Put, Store, Variables, WriteAllFault, WriteFault,
-    Written, drive, format, open_indexed,
+    Answer, Event, IndexedFault, IndexedStore, Put, Variables, WriteAllFault, WriteFault, Written,
+    drive, open_indexed,
 };
 use std::alloc::Global;
 use std::process::Abort;
@@ -71,12 +71,6 @@ pub fn events_driven(alloc: &Refusing<Global>, rt: &impl Abort, memory: Global) 
 /// How many addresses are written, each once: more than one node of the index holds.
 const COUNT: u16 = 40;
 
-// A new store with room for all of them.
-fn new_store(rt: &impl Abort, memory: Global) -> Store<MemFlash> {
-    let flash = MemFlash::blank(memory, shape(rt, 1, 60)).expect(rt, "no device");
-    format(flash).ok().expect(rt, "no store")
-}
-
 // What is written at one of them, by its number from 0.
 fn nth_put(rt: &impl Abort, number: u16) -> Put {
     put(rt, number.saturating_add(1), 1001 + u32::from(number))
@@ -109,8 +103,17 @@ fn are_written_at_once<V: Variables>(store: &mut V, puts: &[Put]) -> Option<bool
     }
 }
 
-pub fn index_opened(alloc: &Refusing<Global>, rt: &impl Abort, memory: Global) -> Option<bool> {
-    let mut store = new_store(rt, memory);
+/// A call of a store with an index.
+#[derive(Clone, Copy)]
+pub enum Task {
+    Open,
+    Write,
+    WriteAll,
+}
+
+// Whether a store opens with an index of all of them.
+fn is_opened<F: Flash + Drop>(alloc: &Refusing<Global>, rt: &impl Abort, flash: F) -> Option<bool> {
+    let mut store = formatted(rt, flash);
     same(rt, "written", are_written(rt, &mut store), Some(true));
     let mut flash = store.into_flash();
     flash.power_on();
@@ -122,18 +125,14 @@ pub fn index_opened(alloc: &Refusing<Global>, rt: &impl Abort, memory: Global) -
 }
 
 // A store with an index on the device before the first write, if there is memory for it.
-fn empty_index<'a>(
+fn empty_index<'a, F: Flash + Drop>(
     alloc: &'a Refusing<Global>,
     rt: &impl Abort,
-    memory: Global,
-) -> Option<IndexedStore<MemFlash, &'a Refusing<Global>>> {
-    let mut flash = new_store(rt, memory).into_flash();
+    flash: F,
+) -> Option<IndexedStore<F, &'a Refusing<Global>>> {
+    let mut flash = formatted(rt, flash).into_flash();
     flash.power_on();
     open_indexed(alloc, flash).ok()
-}
-
-pub fn index_written(alloc: &Refusing<Global>, rt: &impl Abort, memory: Global) -> Option<bool> {
-    are_written(rt, &mut empty_index(alloc, rt, memory)?)
 }
 
 // A list of all of them, each with its value.
@@ -145,13 +144,26 @@ fn all_puts(rt: &impl Abort, memory: Global) -> Vec<Put> {
     puts
 }
 
-pub fn index_written_at_once(
+// Whether a call does what is wanted on a blank device.
+fn is_done<F: Flash + Drop>(
+    task: Task,
     alloc: &Refusing<Global>,
     rt: &impl Abort,
     memory: Global,
+    flash: F,
 ) -> Option<bool> {
-    are_written_at_once(
-        &mut empty_index(alloc, rt, memory)?,
-        all_puts(rt, memory).as_slice(),
-    )
+    if let Task::Open = task {
+        return is_opened(alloc, rt, flash);
+    }
+    let mut store = empty_index(alloc, rt, flash)?;
+    if let Task::Write = task {
+        return are_written(rt, &mut store);
+    }
+    are_written_at_once(&mut store, all_puts(rt, memory).as_slice())
+}
+
+/// Whether it does what is wanted on a device with room for all of them.
+pub fn done(task: Task, alloc: &Refusing<Global>, rt: &impl Abort, memory: Global) -> Option<bool> {
+    let flash = MemFlash::blank(memory, shape(rt, 1, 60)).expect(rt, "no device");
+    is_done(task, alloc, rt, memory, flash)
 }

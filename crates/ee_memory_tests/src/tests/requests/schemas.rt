@@ -83,17 +83,28 @@ fn is_read<V: Variables>(
     }
 }
 
-/// Whether it gives what is wanted of the store after two moves.
-pub fn done(task: Task, alloc: &Refusing<Global>, rt: &impl Abort, memory: Global) -> Option<bool> {
-    let store = opened(rt, device(rt, memory, TWO_MOVES));
+// Whether it gives what is wanted of a store after two moves.
+fn is_given<V: Variables>(
+    task: Task,
+    alloc: &Refusing<Global>,
+    rt: &impl Abort,
+    memory: Global,
+    store: &V,
+) -> Option<bool> {
     let table = table(rt, memory);
     if let Task::Read = task {
-        return is_read(alloc, memory, &table, &store);
+        return is_read(alloc, memory, &table, store);
     }
     let schema = Schema::from_table(memory, &table).expect(rt, "no schema");
     match task {
-        Task::List => are_both(rt, schema.list(alloc, &store)),
-        Task::Entries => is_first(schema.stale(alloc, &store)),
-        _ => is_stale(schema.stale_values(alloc, &store)),
+        Task::List => are_both(rt, schema.list(alloc, store)),
+        Task::Entries => is_first(schema.stale(alloc, store)),
+        _ => is_stale(schema.stale_values(alloc, store)),
     }
+}
+
+/// Whether it gives what is wanted of the store after two moves.
+pub fn done(task: Task, alloc: &Refusing<Global>, rt: &impl Abort, memory: Global) -> Option<bool> {
+    let store = opened(rt, device(rt, memory, TWO_MOVES));
+    is_given(task, alloc, rt, memory, &store)
 }
