@@ -18,7 +18,7 @@ use ee_fakes::images::{CERTIFICATE, CLEANED, FORMATTED, SCRIPT, TIDIED, TWO_MOVE
 use ee_fakes::{FailingReader, Refusing};
 use ee_faults::{Fault, File};
 use plans::{NO_MOVE, ONE_SLOT, TWO_SLOTS, Task};
-use std::alloc::Global;
+use std::alloc::{Allocator, Global};
 use std::io::ErrorKind;
 use std::process::Abort;
 use texts::{
@@ -137,7 +137,12 @@ const CALLS: &[(Call, u64)] = &[
 ];
 
 /// Whether a call gives its usual answer, or `None` for want of memory.
-fn answer(rt: &impl Abort, memory: Global, call: Call, alloc: &Refusing<Global>) -> Option<bool> {
+fn answer<A: Allocator + Copy>(
+    rt: &impl Abort,
+    memory: Global,
+    call: Call,
+    alloc: A,
+) -> Option<bool> {
     match call {
         Call::BlankList => stores::blank_list(alloc, rt),
         Call::Drive => stores::events_driven(alloc, rt, memory),
@@ -159,7 +164,7 @@ fn answer(rt: &impl Abort, memory: Global, call: Call, alloc: &Refusing<Global>)
     }
 }
 
-fn script_read(alloc: &Refusing<Global>) -> Option<bool> {
+fn script_read<A: Allocator + Copy>(alloc: A) -> Option<bool> {
     let mut reader = FailingReader {
         rest: SCRIPT,
         most: 7,

@@ -2,8 +2,7 @@
 use super::plans::counts;
 use crate::tests::address;
 use ee_check::{Certificate, Change, Start, Stretch, check};
-use ee_fakes::Refusing;
-use std::alloc::Global;
+use std::alloc::{Allocator, Global};
 use std::collections::BTreeSet;
 use std::process::Abort;
 
@@ -26,7 +25,11 @@ fn thousand(rt: &impl Abort, memory: Global) -> Certificate {
 
 /// Behind a thousand changes the checker asks for memory once more, and goes on without
 /// where that is refused.
-pub fn thousand_checked(alloc: &Refusing<Global>, rt: &impl Abort, memory: Global) -> Option<bool> {
+pub fn thousand_checked<A: Allocator + Copy>(
+    alloc: A,
+    rt: &impl Abort,
+    memory: Global,
+) -> Option<bool> {
     let start = Start::new(1, 0, BTreeSet::new(memory)).expect(rt, "no start");
     let trace = vec![in memory; Change::Write(address(rt, 1)); 1101].expect(rt, "no trace");
     counts(check(alloc, &start, &trace, &thousand(rt, memory)), 1100)

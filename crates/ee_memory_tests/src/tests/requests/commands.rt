@@ -1,5 +1,4 @@
 //! The commands over bytes.
-use ee_fakes::Refusing;
 use ee_fakes::images::{
     CERTIFICATE, CLEANED, FORMATTED, ONE_MOVE, REPORT, SCRIPT, TIDIED, TWO_MOVES, VOLUME,
 };
@@ -148,12 +147,12 @@ pub const LISTED: &[u8] = b"1 13\n2 5\n";
 pub const NAMED: &[u8] = b"1 13 stale volume\n2 5\n";
 
 // What it gives. The tables of settings are read on the heap.
-fn text_of<'a>(
+fn text_of<A: Allocator + Copy>(
     text: Text,
-    alloc: &'a Refusing<Global>,
+    alloc: A,
     heap: Global,
     shape: Shape,
-) -> Result<Vec<u8, &'a Refusing<Global>>, Fault> {
+) -> Result<Vec<u8, A>, Fault> {
     match text {
         Text::Format => format_image(alloc, shape),
         Text::States => states_text(alloc, ONE_MOVE),
@@ -177,9 +176,9 @@ fn text_of<'a>(
 }
 
 /// Whether it gives this text.
-pub fn text_given(
+pub fn text_given<A: Allocator + Copy>(
     text: Text,
-    alloc: &Refusing<Global>,
+    alloc: A,
     heap: Global,
     wanted: &[u8],
 ) -> Option<bool> {
@@ -224,7 +223,7 @@ pub enum Change {
 }
 
 /// Whether it gives its image and its text. The tables of settings are read on the heap.
-pub fn change_given(change: Change, alloc: &Refusing<Global>, heap: Global) -> Option<bool> {
+pub fn change_given<A: Allocator + Copy>(change: Change, alloc: A, heap: Global) -> Option<bool> {
     let (given, image, text): (_, _, &[u8]) = match change {
         Change::Clean => (clean_image(alloc, ONE_MOVE), CLEANED, b"cleaned 1\n"),
         Change::Rescue => {
@@ -257,11 +256,11 @@ pub enum Replay {
 }
 
 // What it gives over an image.
-fn replayed<'a>(
+fn replayed<A: Allocator + Copy>(
     how: Replay,
-    alloc: &'a Refusing<Global>,
+    alloc: A,
     image: &[u8],
-) -> Result<Replayed<&'a Refusing<Global>>, ReplayFault> {
+) -> Result<Replayed<A>, ReplayFault> {
     let mut reader = SCRIPT;
     match how {
         Replay::Plain => replay(alloc, image, SCRIPT),
@@ -271,12 +270,12 @@ fn replayed<'a>(
 }
 
 /// Whether it makes the two moves.
-pub fn moves_made(how: Replay, alloc: &Refusing<Global>) -> Option<bool> {
+pub fn moves_made<A: Allocator + Copy>(how: Replay, alloc: A) -> Option<bool> {
     replays(replayed(how, alloc, FORMATTED), REPORT, TWO_MOVES)
 }
 
 /// Whether they are made on a device that is formatted for them.
-pub fn moves_tried(alloc: &Refusing<Global>) -> Option<bool> {
+pub fn moves_tried<A: Allocator + Copy>(alloc: A) -> Option<bool> {
     let tried = try_script(alloc, Shape::new(1, 6)?, SCRIPT);
     replays(tried, REPORT, TWO_MOVES)
 }
@@ -285,7 +284,7 @@ pub fn moves_tried(alloc: &Refusing<Global>) -> Option<bool> {
 const BLANK: &[u8] = b"ee 1 6\n0 - - - - - -\n0 - - - - - -\n";
 
 /// Whether the fault is that the image is not formatted.
-pub fn unformatted(how: Replay, alloc: &Refusing<Global>) -> Option<bool> {
+pub fn unformatted<A: Allocator + Copy>(how: Replay, alloc: A) -> Option<bool> {
     match replayed(how, alloc, BLANK) {
         Err(ReplayFault::Open(ScanFault::Unformatted)) => Some(true),
         Err(fault) => met(Fault::from(fault)),
@@ -294,7 +293,7 @@ pub fn unformatted(how: Replay, alloc: &Refusing<Global>) -> Option<bool> {
 }
 
 /// Ten writes of two addresses in all.
-pub fn sizes_given(alloc: &Refusing<Global>) -> Option<bool> {
+pub fn sizes_given<A: Allocator + Copy>(alloc: A) -> Option<bool> {
     let front = b"pages 1 slots 2 transfers 8 erases 4 least 4 limit 0 worn for all
 pages 2 slots 4 transfers 2 erases 1 least 1 limit 0 enough\n";
     match size_parts(alloc, 6, b"w 1 1\nw 2 2\nr 1\n", 3, 5) {
@@ -303,7 +302,7 @@ pages 2 slots 4 transfers 2 erases 1 least 1 limit 0 enough\n";
     }
 }
 
-pub fn fault_told(alloc: &Refusing<Global>, fault: Fault, line: &[u8]) -> Option<bool> {
+pub fn fault_told<A: Allocator + Copy>(alloc: A, fault: Fault, line: &[u8]) -> Option<bool> {
     match fault_line(alloc, &fault) {
         Ok(text) => Some(text.as_slice() == line),
         Err(_) => None,

@@ -5,7 +5,6 @@ use ee_check::{
     write_certificate,
 };
 use ee_codec::Address;
-use ee_fakes::Refusing;
 use ee_fakes::images::CERTIFICATE;
 use ee_plan::{Demand, Plan, PlanFault, Rounds, RoundsFault, plan, start_of};
 use ee_store::Variables;
@@ -66,7 +65,12 @@ pub enum Task {
 }
 
 /// Whether it gives what was worked.
-pub fn done(task: Task, alloc: &Refusing<Global>, rt: &impl Abort, memory: Global) -> Option<bool> {
+pub fn done<A: Allocator + Copy>(
+    task: Task,
+    alloc: A,
+    rt: &impl Abort,
+    memory: Global,
+) -> Option<bool> {
     match task {
         Task::Plan(worked) => planned(alloc, rt, memory, worked),
         Task::Check(worked) => checked(alloc, rt, memory, worked),
@@ -109,8 +113,8 @@ fn is_worked<A: Allocator>(memory: Global, plan: &Plan<A>, worked: &Worked) -> b
         && has_text(memory, &plan.certificate, worked.certificate)
 }
 
-fn planned(
-    alloc: &Refusing<Global>,
+fn planned<A: Allocator + Copy>(
+    alloc: A,
     rt: &impl Abort,
     memory: Global,
     worked: &Worked,
@@ -135,8 +139,8 @@ pub fn counts(checked: Result<u64, CheckFault>, wanted: u64) -> Option<bool> {
     }
 }
 
-fn checked(
-    alloc: &Refusing<Global>,
+fn checked<A: Allocator + Copy>(
+    alloc: A,
     rt: &impl Abort,
     memory: Global,
     worked: &Worked,
@@ -147,7 +151,7 @@ fn checked(
     counts(checked, worked.moments.len() as u64)
 }
 
-fn read(alloc: &Refusing<Global>, memory: Global, text: &[u8]) -> Option<bool> {
+fn read<A: Allocator + Copy>(alloc: A, memory: Global, text: &[u8]) -> Option<bool> {
     match read_certificate(alloc, text) {
         Ok(certificate) => Some(has_text(memory, &certificate, text)),
         Err(TextFault::Memory) => None,
@@ -156,7 +160,7 @@ fn read(alloc: &Refusing<Global>, memory: Global, text: &[u8]) -> Option<bool> {
 }
 
 // Ten writes of two addresses in all, on two slots.
-fn rounds_counted(alloc: &Refusing<Global>, rt: &impl Abort, memory: Global) -> Option<bool> {
+fn rounds_counted<A: Allocator + Copy>(alloc: A, rt: &impl Abort, memory: Global) -> Option<bool> {
     let changes = [Change::Write(address(rt, 1)), Change::Write(address(rt, 2))];
     let trace = changes.to_vec(alloc).ok()?;
     match Rounds::new(alloc, trace, 5) {
@@ -179,7 +183,7 @@ fn are_live<A: Allocator>(rt: &impl Abort, live: &BTreeSet<Address, A>, numbers:
 }
 
 // Whether a store starts there.
-fn starts<V: Variables>(alloc: &Refusing<Global>, rt: &impl Abort, store: &V) -> Option<bool> {
+fn starts<A: Allocator + Copy, V: Variables>(alloc: A, rt: &impl Abort, store: &V) -> Option<bool> {
     if !store.is_on() {
         return Some(false);
     }
@@ -188,7 +192,7 @@ fn starts<V: Variables>(alloc: &Refusing<Global>, rt: &impl Abort, store: &V) ->
     Some(numbers == (4, 3) && are_live(rt, start.live(), [2, 9]))
 }
 
-fn started(alloc: &Refusing<Global>, rt: &impl Abort, memory: Global) -> Option<bool> {
+fn started<A: Allocator + Copy>(alloc: A, rt: &impl Abort, memory: Global) -> Option<bool> {
     starts(alloc, rt, &opened(rt, device(rt, memory, NINE_TWO_NINE)))
 }
 
@@ -209,13 +213,17 @@ fn added(change: Result<(), AllocError>, count: u64) -> Option<bool> {
     }
 }
 
-fn live_changed(alloc: &Refusing<Global>, rt: &impl Abort, memory: Global) -> Option<bool> {
+fn live_changed<A: Allocator + Copy>(alloc: A, rt: &impl Abort, memory: Global) -> Option<bool> {
     let mut live = start_of_nine(rt, memory).live_in(alloc).ok()?;
     let change = Change::Write(address(rt, 2)).make(&mut live);
     added(change, live.len() as u64)
 }
 
-fn live_set_changed(alloc: &Refusing<Global>, rt: &impl Abort, memory: Global) -> Option<bool> {
+fn live_set_changed<A: Allocator + Copy>(
+    alloc: A,
+    rt: &impl Abort,
+    memory: Global,
+) -> Option<bool> {
     let mut live = LiveSet::of(alloc, &start_of_nine(rt, memory), 1).ok()?;
     let change = live.make(Change::Write(address(rt, 2)));
     added(change, live.len())
@@ -239,12 +247,16 @@ fn ledger(rt: &impl Abort, memory: Global, image: &[u8]) -> Ledger {
     Ledger::of(memory, &device(rt, memory, image)).expect(rt, "no ledger")
 }
 
-fn ledger_given(alloc: &Refusing<Global>, rt: &impl Abort, memory: Global) -> Option<bool> {
+fn ledger_given<A: Allocator + Copy>(alloc: A, rt: &impl Abort, memory: Global) -> Option<bool> {
     let ledger = Ledger::of(alloc, &device(rt, memory, WORN)).ok()?;
     Some(has_wear(&ledger, 8, 3, 5))
 }
 
-fn difference_given(alloc: &Refusing<Global>, rt: &impl Abort, memory: Global) -> Option<bool> {
+fn difference_given<A: Allocator + Copy>(
+    alloc: A,
+    rt: &impl Abort,
+    memory: Global,
+) -> Option<bool> {
     let before = ledger(rt, memory, LESS_WORN);
     match ledger(rt, memory, WORN).since(alloc, &before) {
         Ok(since) => Some(has_wear(&since, 2, 0, 2)),

@@ -1,6 +1,5 @@
 //! A schema that is read, and what is stale and what is listed by it.
 use crate::tests::{address, device, opened};
-use ee_fakes::Refusing;
 use ee_fakes::images::{TWO_MOVES, VOLUME};
 use ee_settings::{Held, ListFault, Listed, Schema, SchemaFault, Stale, StaleFault};
 use ee_store::Variables;
@@ -70,8 +69,8 @@ fn are_both<A: Allocator>(
 }
 
 // Whether a table is read as the schema.
-fn is_read<V: Variables>(
-    alloc: &Refusing<Global>,
+fn is_read<A: Allocator + Copy, V: Variables>(
+    alloc: A,
     memory: Global,
     table: &Table,
     store: &V,
@@ -84,9 +83,9 @@ fn is_read<V: Variables>(
 }
 
 // Whether it gives what is wanted of a store after two moves.
-fn is_given<V: Variables>(
+fn is_given<A: Allocator + Copy, V: Variables>(
     task: Task,
-    alloc: &Refusing<Global>,
+    alloc: A,
     rt: &impl Abort,
     memory: Global,
     store: &V,
@@ -104,7 +103,12 @@ fn is_given<V: Variables>(
 }
 
 /// Whether it gives what is wanted of the store after two moves.
-pub fn done(task: Task, alloc: &Refusing<Global>, rt: &impl Abort, memory: Global) -> Option<bool> {
+pub fn done<A: Allocator + Copy>(
+    task: Task,
+    alloc: A,
+    rt: &impl Abort,
+    memory: Global,
+) -> Option<bool> {
     let store = opened(rt, device(rt, memory, TWO_MOVES));
     is_given(task, alloc, rt, memory, &store)
 }

@@ -2,17 +2,17 @@
 //! where memory is refused is said by their clauses.
 use crate::tests::{address, device, formatted, same, shape};
 use ee_codec::Address;
+use ee_fakes::ListFlash;
 use ee_fakes::images::ONE_MOVE;
-use ee_fakes::{ListFlash, Refusing};
 use ee_flash::{Flash, MemFlash};
 use ee_store::{
     Answer, Event, IndexedFault, IndexedStore, Put, Variables, WriteAllFault, WriteFault, Written,
     drive, open_indexed,
 };
-use std::alloc::Global;
+use std::alloc::{Allocator, Global};
 use std::process::Abort;
 
-pub fn blank_list(alloc: &Refusing<Global>, rt: &impl Abort) -> Option<bool> {
+pub fn blank_list<A: Allocator + Copy>(alloc: A, rt: &impl Abort) -> Option<bool> {
     let size = shape(rt, 2, 6);
     match ListFlash::blank(alloc, size, &[]) {
         Ok(flash) => Some(flash.shape() == size && flash.is_on() && flash.cuts() == 0),
@@ -56,7 +56,11 @@ const ANSWERS: [Answer; 10] = [
     Answer::Value(Some(14)),
 ];
 
-pub fn events_driven(alloc: &Refusing<Global>, rt: &impl Abort, memory: Global) -> Option<bool> {
+pub fn events_driven<A: Allocator + Copy>(
+    alloc: A,
+    rt: &impl Abort,
+    memory: Global,
+) -> Option<bool> {
     let puts = [put(rt, 2, 15), put(rt, 1, 14)];
     match drive(
         alloc,
@@ -112,7 +116,11 @@ pub enum Task {
 }
 
 // Whether a store opens with an index of all of them.
-fn is_opened<F: Flash + Drop>(alloc: &Refusing<Global>, rt: &impl Abort, flash: F) -> Option<bool> {
+fn is_opened<A: Allocator + Copy, F: Flash + Drop>(
+    alloc: A,
+    rt: &impl Abort,
+    flash: F,
+) -> Option<bool> {
     let mut store = formatted(rt, flash);
     same(rt, "written", are_written(rt, &mut store), Some(true));
     let mut flash = store.into_flash();
@@ -125,11 +133,11 @@ fn is_opened<F: Flash + Drop>(alloc: &Refusing<Global>, rt: &impl Abort, flash: 
 }
 
 // A store with an index on the device before the first write, if there is memory for it.
-fn empty_index<'a, F: Flash + Drop>(
-    alloc: &'a Refusing<Global>,
+fn empty_index<A: Allocator + Copy, F: Flash + Drop>(
+    alloc: A,
     rt: &impl Abort,
     flash: F,
-) -> Option<IndexedStore<F, &'a Refusing<Global>>> {
+) -> Option<IndexedStore<F, A>> {
     let mut flash = formatted(rt, flash).into_flash();
     flash.power_on();
     open_indexed(alloc, flash).ok()
@@ -145,9 +153,9 @@ fn all_puts(rt: &impl Abort, memory: Global) -> Vec<Put> {
 }
 
 // Whether a call does what is wanted on a blank device.
-fn is_done<F: Flash + Drop>(
+fn is_done<A: Allocator + Copy, F: Flash + Drop>(
     task: Task,
-    alloc: &Refusing<Global>,
+    alloc: A,
     rt: &impl Abort,
     memory: Global,
     flash: F,
@@ -163,7 +171,12 @@ fn is_done<F: Flash + Drop>(
 }
 
 /// Whether it does what is wanted on a device with room for all of them.
-pub fn done(task: Task, alloc: &Refusing<Global>, rt: &impl Abort, memory: Global) -> Option<bool> {
+pub fn done<A: Allocator + Copy>(
+    task: Task,
+    alloc: A,
+    rt: &impl Abort,
+    memory: Global,
+) -> Option<bool> {
     let flash = MemFlash::blank(memory, shape(rt, 1, 60)).expect(rt, "no device");
     is_done(task, alloc, rt, memory, flash)
 }

@@ -4,8 +4,8 @@ use crate::tests::{device, shape};
 use ee_check::{Certificate, read_certificate, write_certificate};
 use ee_dump::intel_hex::{HexFault, read_hex, write_hex};
 use ee_dump::{DumpFault, Form, WriteFault, read_dump, write_dump};
+use ee_fakes::LastValue;
 use ee_fakes::images::{CERTIFICATE, FORMATTED, TWO_MOVES};
-use ee_fakes::{LastValue, Refusing};
 use ee_faults::{Fault, File, ReplayFault};
 use ee_flash::{MemFlash, Shape};
 use ee_image::{read_image, write_image};
@@ -13,7 +13,7 @@ use ee_script::{
     Answer, ScriptFault, Session, StreamFault, answer_reader, answer_script, push_answer,
 };
 use ee_text::{push_number, push_number_behind};
-use std::alloc::{AllocError, Global};
+use std::alloc::{AllocError, Allocator, Global};
 use std::process::Abort;
 
 /// What makes a device.
@@ -27,11 +27,11 @@ pub enum Device {
 /// No word is written.
 pub const BLANK: &[u8] = b"ee 1 6\n0 - - - - - -\n0 - - - - - -\n";
 
-fn device_of<'a>(
+fn device_of<A: Allocator + Copy>(
     what: Device,
-    alloc: &'a Refusing<Global>,
+    alloc: A,
     shape: Shape,
-) -> Result<MemFlash<&'a Refusing<Global>>, ReplayFault> {
+) -> Result<MemFlash<A>, ReplayFault> {
     match what {
         Device::Blank => Ok(MemFlash::blank(alloc, shape)?),
         Device::Image => Ok(read_image(alloc, TWO_MOVES)?),
@@ -44,9 +44,9 @@ fn device_of<'a>(
 }
 
 /// Whether the device has this image.
-pub fn device_made(
+pub fn device_made<A: Allocator + Copy>(
     what: Device,
-    alloc: &Refusing<Global>,
+    alloc: A,
     rt: &impl Abort,
     memory: Global,
     image: &[u8],
@@ -82,9 +82,7 @@ pub const FIRST_HEX: &[u8] = b":020000040807EB
 pub const ANSWERS: &[u8] = b"moved\n10\n";
 
 // These in two pieces.
-fn in_pieces<'a>(
-    alloc: &'a Refusing<Global>,
-) -> Result<Vec<u8, &'a Refusing<Global>>, ScriptFault> {
+fn in_pieces<A: Allocator + Copy>(alloc: A) -> Result<Vec<u8, A>, ScriptFault> {
     let session = Session::new(alloc, LastValue(0)).feed(b"w 1 10\nr")?;
     let (_, report) = session.feed(b" 2\n")?.finish()?;
     Ok(report)
@@ -92,11 +90,11 @@ fn in_pieces<'a>(
 
 // What is given as bytes. A fault that the call can't meet here is told as any that
 // is no want of memory.
-fn bytes_of<'a>(
+fn bytes_of<A: Allocator + Copy>(
     what: Bytes,
-    alloc: &'a Refusing<Global>,
+    alloc: A,
     flash: &MemFlash,
-) -> Result<Vec<u8, &'a Refusing<Global>>, Fault> {
+) -> Result<Vec<u8, A>, Fault> {
     let mut script = b"w 1 10\nr 2\n".as_slice();
     match what {
         Bytes::Dump => match write_dump(alloc, Form::Words, flash) {
@@ -121,9 +119,9 @@ fn bytes_of<'a>(
 }
 
 /// Whether they are these.
-pub fn bytes_given(
+pub fn bytes_given<A: Allocator + Copy>(
     what: Bytes,
-    alloc: &Refusing<Global>,
+    alloc: A,
     rt: &impl Abort,
     memory: Global,
     wanted: &[u8],
@@ -162,9 +160,9 @@ transfers 2
 ";
 
 // Puts it behind what there is.
-fn push(
+fn push<A: Allocator + Copy>(
     what: Pushed,
-    out: &mut Vec<u8, &Refusing<Global>>,
+    out: &mut Vec<u8, A>,
     flash: &MemFlash,
     certificate: &Certificate,
 ) -> Result<(), AllocError> {
@@ -187,9 +185,9 @@ fn stays(what: Pushed, out: &[u8], wanted: &[u8]) -> bool {
 }
 
 /// Whether it stands behind them, which stay as they were.
-pub fn is_pushed(
+pub fn is_pushed<A: Allocator + Copy>(
     what: Pushed,
-    alloc: &Refusing<Global>,
+    alloc: A,
     rt: &impl Abort,
     memory: Global,
     wanted: &[u8],
