@@ -12,8 +12,8 @@ use ee_pages::ScanFault;
 use ee_script::ScriptFault;
 use ee_wear::SinceFault;
 use std::alloc::{AllocError, Allocator};
+use std::error::Error;
 use std::fmt;
-use thiserror::Error;
 
 /// A file that the program reads; the script may be standard input.
 #[derive(Clone, Copy, Debug, PartialEq, Eq)]
@@ -47,133 +47,92 @@ impl fmt::Display for File {
 }
 
 /// What keeps the program from its work.
-#[derive(Clone, Copy, Debug, Error)]
+#[derive(Clone, Copy, Debug)]
 pub enum Fault {
     /// Opening or reading failed, or the most read calls were made.
-    #[error("cannot read {0}")]
     CannotRead(File),
     /// More bytes than are read of one file.
-    #[error("{0} too long")]
     TooLong(File),
     /// Opening or writing the image's file failed.
-    #[error("cannot write image")]
     CannotWriteImage,
     /// The image's file is not the one that was read, or another run is writing it.
-    #[error("image changed")]
     ImageChanged,
     /// Opening or writing the dump's file failed.
-    #[error("cannot write dump")]
     CannotWriteDump,
     /// Writing to standard output failed.
-    #[error("cannot write output")]
     CannotWriteOutput,
     /// The first bad line, counted from 1.
-    #[error("{file} line {line}")]
     BadLine { file: File, line: u64 },
     /// The first line says no size of a device.
-    #[error("{0} shape")]
     BadShape(File),
     /// Every word of the image is erased.
-    #[error("image unformatted")]
     Unformatted,
     /// No set of the image is live.
-    #[error("image no live set")]
     NoLiveSet,
     /// Both sets of the image are live, with one generation.
-    #[error("image two live sets")]
     TwoLive,
     /// The first word of the live set that may not stand in its place, by its page and its place.
-    #[error("image foreign word {page} {at}")]
     Foreign { page: usize, at: usize },
     /// The settings file is no TOML.
-    #[error("settings text")]
     SettingsText,
     /// The name of this entry, counted from 1 by rising name, is none that a setting may have.
-    #[error("settings entry {0} bad name")]
     BadName(u64),
     /// This entry is no table of the four whole numbers of a setting.
-    #[error("settings entry {0} bad field")]
     BadField(u64),
     /// The numbers of this entry are not those of a setting.
-    #[error("settings entry {0} bad range")]
     BadRange(u64),
     /// An earlier entry has the address of this one.
-    #[error("settings entry {0} same address")]
     SameAddress(u64),
     /// No setting has the name.
-    #[error("unknown name")]
     UnknownName,
     /// The value is not in the range of the setting.
-    #[error("out of range {min} {max}")]
     OutOfRange { min: u32, max: u32 },
     /// The address has no value, and as many addresses have one as there are slots.
-    #[error("full")]
     Full,
     /// A transfer is needed, and no generation is left for it.
-    #[error("spent")]
     Spent,
     /// No set of the image is begun: it has nothing that could be rescued.
-    #[error("nothing to rescue")]
     NothingToRescue,
     /// This change of the trace, counted from 1, is the first that makes more addresses live
     /// than there are slots.
-    #[error("not fitting {0}")]
     NotFitting(u64),
     /// The certificate's header is not that of the start and the trace.
-    #[error("wrong start")]
     WrongStart,
     /// This stretch of the certificate, counted from 1, does not end behind the one before it, or
     /// it ends behind the trace.
-    #[error("not rising {0}")]
     NotRising(u64),
     /// This stretch states another number of used slots than there are where it begins.
-    #[error("wrong from {0}")]
     WrongFrom(u64),
     /// This stretch has no more changes than there are free slots.
-    #[error("not forced {0}")]
     NotForced(u64),
     /// The images have not as many pages.
-    #[error("other shape")]
     OtherShape,
     /// This page, counted from 0 and the lowest of its kind, has less wear than before.
-    #[error("wear backwards {0}")]
     Backwards(usize),
     /// No number of pages bears so many runs.
-    #[error("no size is enough")]
     NoSizeEnough,
     /// The dump has not as many bytes as a part of the size has.
-    #[error("dump length")]
     DumpLength,
     /// The first word of the dump whose two numbers sum to less than all ones, by its
     /// page and its place.
-    #[error("dump pair {page} {at}")]
     LowPair { page: usize, at: usize },
     /// The first torn word of the image, by its page and its place: no dump has one.
-    #[error("torn word {page} {at}")]
     TornWord { page: usize, at: usize },
     /// The part would reach past the addresses of 32 bits.
-    #[error("base")]
     Base,
     /// The values file is no TOML.
-    #[error("values text")]
     ValuesText,
     /// What this entry of the values, counted from 1 by rising name, has is no whole number.
-    #[error("values entry {0} bad field")]
     BadValue(u64),
     /// No setting has the name of this entry of the values.
-    #[error("values entry {0} unknown name")]
     UnknownValue(u64),
     /// The value of this entry is not in the range of the setting.
-    #[error("values entry {entry} out of range {min} {max}")]
     ValueOutOfRange { entry: u64, min: u32, max: u32 },
     /// The setting of this entry has no value, and as many addresses have one as there are slots.
-    #[error("values entry {0} full")]
     FullAt(u64),
     /// At this entry no slot is free, and no generation is left for a transfer.
-    #[error("values entry {0} spent")]
     SpentAt(u64),
     /// Memory ran out.
-    #[error("out of memory")]
     Memory,
 }
 
@@ -293,6 +252,22 @@ impl Fault {
         }
     }
 }
+
+/// What its line says behind `ee: `.
+impl fmt::Display for Fault {
+    ghost use Rattle.std.specs.Prelude.{Some};
+    ghost use Rattle.ee_faults.specs.Fault.{cause};
+
+    ghost output = { λ fault. Some (cause fault) };
+
+    #[tactic(auto, unfolding(crate::specs::Beside::AreLineWords))]
+    fn fmt<W: fmt::Write>(&self, f: &mut fmt::Formatter<W>) -> fmt::Result {
+        let (before, words, behind) = (self.before(), self.words(), self.behind());
+        write!(f, "{before}{words}{behind}")
+    }
+}
+
+impl Error for Fault {}
 
 impl From<ScanFault> for Fault {
     ghost use Rattle.std.specs.Prelude.{◌≡◌};

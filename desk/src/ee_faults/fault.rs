@@ -11,6 +11,7 @@ use crate::ee_pages::ScanFault;
 use crate::ee_script::ScriptFault;
 use crate::ee_wear::SinceFault;
 use crate::rattle::alloc::{AllocError, Allocator};
+use crate::rattle::error::Error;
 use crate::rattle::fmt;
 
 /// A file that the program reads; the script may be standard input.
@@ -234,6 +235,16 @@ impl Fault {
         }
     }
 }
+
+/// What its line says behind `ee: `.
+impl fmt::Display for Fault {
+    fn fmt(&self, f: &mut fmt::Formatter<'_>) -> fmt::Result {
+        let (before, words, behind) = (self.before(), self.words(), self.behind());
+        write!(f, "{before}{words}{behind}")
+    }
+}
+
+impl Error for Fault {}
 
 impl From<ScanFault> for Fault {
     fn from(fault: ScanFault) -> Fault {

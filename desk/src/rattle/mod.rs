@@ -17,7 +17,7 @@ pub mod string;
 pub mod toml;
 pub mod vec;
 
-pub use std::{fmt, mem, ops, process};
+pub use std::{error, fmt, mem, ops, process};
 
 pub mod io {
     pub use super::rt::writer;
