@@ -18,14 +18,19 @@ pub fn count_live<F: Flash, A: Allocator>(
         words: vec![in alloc; 0; 1024]?,
     };
     let first = first_page(flash, layout.side);
+    let end = end_of_used(flash, layout);
     let mut live: usize = 0;
-    for page in (0..2 * flash.shape().pages()).rev() {
-        if first <= page && page <= layout.current {
-            let used = used_behind(flash, layout, page - first);
-            live = live.saturating_add(count_in_page(flash, page, used, &mut told));
-        }
+    for page in (first..end).rev() {
+        let used = used_behind(flash, layout, page - first);
+        live = live.saturating_add(count_in_page(flash, page, used, &mut told));
     }
     Ok(live)
+}
+
+/// The page behind the last that is used of the live set, no further than the device goes.
+fn end_of_used<F: Flash>(flash: &F, layout: &Layout) -> usize {
+    let pages = 2 * flash.shape().pages();
+    pages.min(layout.current.saturating_add(1))
 }
 
 /// How many slots are used in the page behind so many pages of the live set.
@@ -83,15 +88,14 @@ impl<A: Allocator> Told<A> {
 /// How many slots a look for the value of an address goes through, from the newest down.
 pub fn look_count<F: Flash>(flash: &F, layout: &Layout, address: Address) -> usize {
     let first = first_page(flash, layout.side);
+    let end = end_of_used(flash, layout);
     let mut looks: usize = 0;
-    for page in (0..2 * flash.shape().pages()).rev() {
-        if first <= page && page <= layout.current {
-            let used = used_behind(flash, layout, page - first);
-            let (passed, is_found) = looks_in_page(flash, page, used, address);
-            looks = looks.saturating_add(passed);
-            if is_found {
-                return looks;
-            }
+    for page in (first..end).rev() {
+        let used = used_behind(flash, layout, page - first);
+        let (passed, is_found) = looks_in_page(flash, page, used, address);
+        looks = looks.saturating_add(passed);
+        if is_found {
+            return looks;
         }
     }
     looks
