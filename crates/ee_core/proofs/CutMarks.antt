@@ -1,7 +1,7 @@
 -- What is drawn where power was cut in setting marks, and in an append.
 use Rattle.ee_core.proofs.Base.{rules, ◌≡◌, inr, ℕ, ◌+◌, ◌-◌, ◌<◌, ◌≤◌, Bool, false, true, refl, sym, subst, ap, ◌∙◌, arith, ◌&&◌, nat_lt, not, Device, IsFormed, page_at, GoesOn, Size, Held, IsPageOf, IsLive, is_blank, is_marked, first_page, other, page_of_slot, place_of_slot, Side, Active, Erasing, Valid, IsSameBut, IsSameSet, KeepsMarks, SetsMark, Stays, IsDrawnPartly, PutsPartly, SetsPartly, IsOldMarked, last_used, ShowsCutMarks, IsDrawn, Picture, is_used, marked_to, picture_of, retired_pages, with_change}
 use Rattle.ee_core.proofs.Cuts.{IsOnTheWay, drawn_before, drawn_between, drawn_whole, mark_drawn_partly, put_partly}
-use Rattle.ee_core.proofs.Drawings.{active_last, mark_drawn, drawn_as, retired_more, same_drawn, valid_drawn, valid_more, valid_to, with_word-elsewhere}
+use Rattle.ee_core.proofs.Drawings.{active_last, mark_drawn, drawn_as, retired_more, same_drawn, valid_drawn, valid_more, valid_to, with_mark, with_word-elsewhere}
 use Rattle.ee_core.proofs.AfterCalls.{goes_on_both, goes_on_same}
 use Rattle.ee_core.proofs.LiveMarks.{IsPageDone, MarksPage, done_already, done_more, stays_both}
 use Rattle.ee_core.proofs.MarkedSets.{live_stays, retired_next, retired_start, retired_to}
@@ -41,7 +41,12 @@ pub active_partly : (side : Side) (mid new : Device) (last : ℕ) (picture : Pic
     → IsDrawn side mid (valid_to last picture)
     → IsDrawnPartly side new picture (marked_to last picture)
 active_partly _ _ new last picture formed sizes h sets drawn =
-    search (rules, drawn_between, valid_way, active_last, mark_drawn_partly, drawn)
+    drawn_between _ new _ _ _ _
+    (λ page at _ _. (
+      valid_way last last picture page at (omega arith),
+      inr (active_last last picture page at),
+    ))
+    (mark_drawn_partly _ _ _ last Active _ formed sizes h drawn sets)
 
 pub retired_partly : (side : Side) (old mid new : Device) (k : ℕ) → IsFormed mid
     → new.size ≡ mid.size → k < mid.size.pages → is_used side old k ≡ true
@@ -103,11 +108,15 @@ pub opens_partly_then : (side : Side) (old mid new : Device) (k : ℕ) → IsFor
 opens_partly_then side old mid new k formed mid_formed first_sizes second_sizes h before valid
     active =
     let picture = picture_of side old in
-    let used =
-    drawn_as _ mid _ _
+    let used : IsDrawn side mid (valid_to (k + 1) picture) =
+    drawn_as side mid (with_mark k Valid (valid_to k picture)) (valid_to (k + 1) picture)
     (mark_drawn _ _ _ k Valid _ formed first_sizes (omega arith) (valid_drawn _ old k before) valid)
     (λ p at _ _. valid_more k picture p at) in
-    search (rules, active_partly)
+    let there =
+    subst (λ size. SetsPartly (first_page size side + (k + 1)) Active mid new) (sym first_sizes)
+    active in
+    active_partly side mid new (k + 1) picture mid_formed second_sizes
+    (omega (arith, ap (λ size. size.pages) first_sizes)) there used
 
 -- the marks are on the way to the change
 marks_way : (size : Size) (fill number : ℕ) (picture : Picture) (page at : ℕ)
@@ -183,7 +192,9 @@ module _ (side : Side) (generation : ℕ) (old : Device) (first pages : ℕ)
   module _ (mid : Device) (page : ℕ) (formed : IsFormed mid) (from : first ≤ page)
       (below : page < first + pages) (so_far : MarkedTo old mid side generation first page) where
     in_set : IsPageOf mid.size (other side) page
-    in_set = search (rules, page_reached)
+    in_set =
+        page_reached (other side) old mid first pages page first_is pages_is
+        so_far.stays.keeps.same_size from below
 
     within : page - first < mid.size.pages
     within = omega (arith, ap (λ size. size.pages) so_far.stays.keeps.same_size)
@@ -197,12 +208,14 @@ module _ (side : Side) (generation : ℕ) (old : Device) (first pages : ℕ)
     marked_next new new_formed step = record {
       stays = stays_both _ _ _ _ _ so_far.stays step.stays;
       marks = λ p mark was. step.marks p mark (so_far.marks p mark was);
-      done = search (rules, done_more);
-      no_step = search (rules, was_done);
+      done = done_more first page mid new from so_far.done step.others step.done;
+      no_step = λ marked. step.no_step (was_done marked) ∙ so_far.no_step marked;
       drawn =
           retired_next _ old _ first_is _ _ _ _ _ formed so_far.stays.keeps.same_size from within
           (so_far.rest page (omega arith)) step so_far.drawn;
-      live = search (rules, live_stays, in_set);
+      live =
+          live_stays side old mid new page formed new_formed step.stays.keeps.same_size in_set
+          step.others so_far.live;
       rest = λ k h. step.others k (λ e. omega arith) ∙ so_far.rest k (omega arith);
       power = goes_on_both _ _ _ so_far.power step.power;
     }

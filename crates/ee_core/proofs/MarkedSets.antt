@@ -1,6 +1,6 @@
 -- The pictures of both sets while an opening sets the marks, page after page.
-use Rattle.ee_core.proofs.Base.{rules, ◌≡◌, inl, inr, ℕ, ◌+◌, ◌-◌, ◌<◌, ◌≤◌, true, sym, subst, ap, ◌∙◌, arith, ◌&&◌, not, nat_lt, cases_Bool, Device, IsFormed, page_at, Held, IsPageOf, is_blank, is_marked, first_page, other, page_of_slot, place_of_slot, Side, Active, Erasing, Valid, other_twice, IsSameBut, IsSameSet, PutsWord, SetsMark, IsDrawn, Picture, is_used, marked_to, picture_of, retired_pages, with_change}
-use Rattle.ee_core.proofs.Drawings.{active_last, drawn_as, drawn_same, mark_drawn, put_drawn, retired_all, retired_more, retired_none, retired_past, same_drawn, valid_drawn, valid_more, valid_none, valid_to}
+use Rattle.ee_core.proofs.Base.{rules, ◌≡◌, inl, inr, ℕ, ◌+◌, ◌-◌, ◌<◌, ◌≤◌, true, sym, subst, ap, ◌∙◌, arith, ◌&&◌, not, nat_lt, cases_Bool, Device, IsFormed, page_at, Size, Held, IsPageOf, is_blank, is_marked, first_page, other, page_of_slot, place_of_slot, Side, Active, Erasing, Valid, other_twice, IsSameBut, IsSameSet, PutsWord, SetsMark, IsDrawn, Picture, is_used, marked_to, picture_of, retired_pages, with_change}
+use Rattle.ee_core.proofs.Drawings.{active_last, drawn_as, drawn_same, mark_drawn, put_drawn, retired_all, retired_more, retired_none, retired_past, same_drawn, valid_drawn, valid_more, valid_none, valid_to, with_mark}
 use Rattle.ee_core.proofs.LiveMarks.{MarksPage}
 use Rattle.ee_core.proofs.SetPages.{same_other, same_page}
 
@@ -119,7 +119,14 @@ opens_next side old mid new k formed mid_formed first_sizes second_sizes h befor
     drawn_as _ mid _ _
     (mark_drawn _ _ _ k Valid _ formed first_sizes (omega arith) (valid_drawn _ old k before) valid)
     (λ p at _ _. valid_more k picture p at) in
-    search (rules, drawn_as, mark_drawn, active_last)
+    let there =
+    subst (λ size. SetsMark (first_page size side + (k + 1)) Active mid new) (sym first_sizes)
+    active in
+    drawn_as side new (with_mark (k + 1) Active (valid_to (k + 1) picture))
+    (marked_to (k + 1) picture)
+    (mark_drawn side mid new (k + 1) Active (valid_to (k + 1) picture) mid_formed second_sizes
+    (omega (arith, ap (λ size. size.pages) first_sizes)) used there)
+    (λ p at _ _. active_last (k + 1) picture p at)
 
 -- and a change in the first free slot
 pub appends_word : (side : Side) (old mid new : Device) (fill number : ℕ) → mid.size ≡ old.size
@@ -129,4 +136,7 @@ pub appends_word : (side : Side) (old mid new : Device) (fill number : ℕ) → 
     (Held number) mid new
     → IsDrawn side new (with_change old.size fill number (picture_of side old))
 appends_word side _ mid new fill number first_sizes second_sizes drawn puts =
-    search (rules, put_drawn)
+    let there =
+    subst (λ (size : Size). PutsWord (first_page mid.size side + page_of_slot size fill)
+    (place_of_slot size fill) (Held number) mid new) first_sizes puts in
+    put_drawn side mid new _ _ (Held number) _ second_sizes drawn there
