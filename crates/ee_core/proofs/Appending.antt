@@ -42,10 +42,10 @@ module _ (old new : Device) (layout : Layout) (found : IsLayout old layout)
   step slot = slot_step old.size layout.side slot (number_written change)
 
   can_take : CanTake (step layout.fill) old
-  can_take = search (rules, page_in_device, page_in_range, place_in_range, slot_erased)
+  can_take = search (page_in_device, page_in_range, place_in_range, slot_erased)
 
   taken : MayFollow (step layout.fill) old new → IsStep (step layout.fill) old new
-  taken follows = search (rules, can_take)
+  taken follows = search can_take
 
   at_fill : MayFollow (step layout.fill) old new
       → IsStep (step (fill_of (slots_of (set_of layout.side old)))) old new
@@ -60,7 +60,7 @@ module _ (old new : Device) (layout : Layout) (found : IsLayout old layout)
   outcome follows = push_takes _ _ _ _ _ _ found.live free_there spells (at_fill follows)
 
   keeps_marks : MayFollow (step layout.fill) old new → KeepsMarks old new
-  keeps_marks follows = search (rules, slot_keeps_marks, taken)
+  keeps_marks follows = search (slot_keeps_marks, taken)
 
   pub pushed : IsOn old → new ≡ device_after (step layout.fill) old → Pushed old new layout change
   pushed on done =

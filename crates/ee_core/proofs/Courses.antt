@@ -1,5 +1,5 @@
 -- Live addresses that are gone over in batches.
-use Rattle.ee_core.proofs.Base.{◌≡◌, inl, inr, ℕ, ◌+◌, ◌<◌, ◌≤◌, Option, Some, None, List, [], ◌∷◌, length, drop, take, get_or, refl, sym, subst, ap, ◌∙◌, arith, suc, zero, cases_lt, drop_all, drop_more, All-head, All-tail, All, IfSome, IsAddress, Map, AreLiveThrough, IsNextLive, IsNoneLive, last_of, rules}
+use Rattle.ee_core.proofs.Base.{◌≡◌, inl, inr, ℕ, ◌+◌, ◌<◌, ◌≤◌, Option, Some, None, List, [], ◌∷◌, length, drop, take, get_or, refl, sym, subst, ap, ◌∙◌, arith, suc, zero, cases_lt, drop_all, drop_more, All-head, All-tail, All, IfSome, IsAddress, Map, AreLiveThrough, IsNextLive, IsNoneLive, last_of}
 use Rattle.ee_core.specs.Course.{GoesOver}
 
 module _ (map : Map) (from above : ℕ) (none : IsNoneLive map from (Some above)) where
@@ -45,7 +45,7 @@ module _ (map : Map) (from above : ℕ) (none : IsNoneLive map from (Some above)
     further = further_behind through live.further;
   }
   live_behind (first ∷ _) through live = record {
-    next = search (rules, next_behind);
+    next = search next_behind;
     rest = live.rest;
     further = further_behind through live.further;
   }
@@ -69,7 +69,7 @@ first_ready map above _ _ ready through is over =
     in (
       all.next.0,
       All-head (λ found. IsAddress found.0) _ _ all.proper,
-      record { next = all.next.1; rest = all.rest; proper = search (rules, All-tail) },
+      record { next = all.next.1; rest = all.rest; proper = search All-tail },
     )
 
 -- what taking the next address that is ready gives and leaves
@@ -99,7 +99,7 @@ one_taken map above items _ through n found same h is over =
     let all =
     first_ready map above found (drop (n + 1) items) (drop n items) through
     (drop_more _ n _ within ∙ ap (λ one. one ∷ drop (n + 1) items) (sym here)) over in
-    record { next = all.0; proper = all.1; moved = moved; over = search (rules, moved) }
+    record { next = all.0; proper = all.1; moved = moved; over = search moved }
 
 -- a further batch, where all of one was given
 pub further : (map : Map) (after : ℕ) (items more : List (ℕ × ℕ)) (through last : Option ℕ)

@@ -33,7 +33,7 @@ cut_state _ _ _ _ (inr (inr e)) = inr (ap (λ s. s.map) e)
 pub cut_map : (old new : Device) (change : Change) → IsCutChange old change new
     → ((state_of new).map ≡ (state_of old).map)
     ⊎ ((state_of new).map ≡ map_after change (state_of old).map)
-cut_map old new change cut = search (rules, cut_state, cut_cases)
+cut_map old new change cut = search (cut_state, cut_cases)
 
 moved_or_not : (old new : State) (pages left : ℕ) (changes : List Change)
     → IsCutMove pages left old changes new

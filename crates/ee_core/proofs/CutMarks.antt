@@ -74,7 +74,7 @@ pub cut_live : (side : Side) (old new : Device) → new.size ≡ old.size
     → IsDrawnPartly side new (picture_of side old)
     (marked_to (last_used old side) (picture_of side old))
     → IsSameSet (other side) old new → ShowsCutMarks old new side
-cut_live _ _ _ sizes live same = search (rules, drawn_before, same_drawn)
+cut_live _ _ _ sizes live same = search (drawn_before, same_drawn)
 
 -- or of the other one
 pub cut_old : (side : Side) (old mid new : Device) → mid.size ≡ old.size → new.size ≡ mid.size

@@ -189,7 +189,7 @@ pub format_cut : (start old new : Device) → Wears (not_blank_pages start) star
     → SetsPartly 0 (Receive 1) old new → FormatsPartly start new
 format_cut _ old new wear formed sizes all sets = record {
   wear = wear;
-  first_set = search (rules, filled_partly, open_partly, blank_drawn, All-take);
+  first_set = search (filled_partly, open_partly, blank_drawn, All-take);
   second_set = λ page at h within.
       put_apart_partly Second _ _ 0 0 _ sizes (first_page_of _ formed) sets page at h within
       ∙ blank_drawn Second _ formed (All-drop (λ page. is_blank page ≡ true) _ _ all) page at

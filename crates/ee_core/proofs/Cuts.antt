@@ -101,7 +101,7 @@ mark_drawn_partly side old new k mark picture formed sizes h drawn sets =
 pub put_apart_partly : (side : Side) (old new : Device) (page at : ℕ) (word : Word)
     → new.size ≡ old.size → IsPageOf old.size (other side) page → PutsPartly page at word old new
     → IsDrawn side new (picture_of side old)
-put_apart_partly _ old new page at word sizes of puts = search (rules, put_apart, puts_now)
+put_apart_partly _ old new page at word sizes of puts = search (put_apart, puts_now)
 
 -- a word on the way of a call: as before, or as the whole call leaves it
 abbrev pub IsOnTheWay : Word → Word → Word → Type 0

@@ -53,7 +53,7 @@ module _ (old new : Device) (side : Side) (generation : ℕ)
   none_counted = search (rules, map_said, none_live)
 
   no_words_left : moved_words each_forgotten (state_of old).map ≡ []
-  no_words_left = search (rules, map_said, none_moved)
+  no_words_left = search (map_said, none_moved)
 
   module _ (first second : Change) (more : List Change)
       (same : each_forgotten ≡ first ∷ second ∷ more) where
@@ -61,7 +61,7 @@ module _ (old new : Device) (side : Side) (generation : ℕ)
     all = first ∷ second ∷ more
 
     all_counted : live_in (changed_by all (state_of old).map) ≡ 0
-    all_counted = search (rules, none_counted)
+    all_counted = search none_counted
 
     all_moves : Empties old new → ShowsCleared old new side generation → Moves old all new
     all_moves done shows = record {
@@ -87,7 +87,7 @@ module _ (old new : Device) (side : Side) (generation : ℕ)
     }
 
 pub clear_moves : (old new : Device) → Empties old new → Moves old each_forgotten new
-clear_moves old new done = search (rules, two_first, all_moves)
+clear_moves old new done = search (two_first, all_moves)
 
 -- after a cut the map is as it was, or each address is forgotten, and nothing has a value
 pub cut_clearing : (old new : Device) → IsCutClear old new

@@ -26,7 +26,7 @@ module _ (pages : List (List Word)) (first k page : ℕ) (old mid new : Device)
 
   pub wears_next : Wears (named page (page_at mid page)) mid new
       → Wears (not_blank_from first (take (k + 1) pages)) old new
-  wears_next now = search (rules, not_blank_more, here, wears_both)
+  wears_next now = search (not_blank_more, here, wears_both)
 
   -- power was cut in erasing it
   pub wears_to : is_blank (page_at mid page) ≡ false → Wears (page ∷ []) mid new

@@ -7,7 +7,7 @@ use Rattle.ee_core.proofs.Wears.{cut_page_wears, page_wears}
 module _ (page : ℕ) (old new : Device) (side : Side) (formed : IsFormed old)
     (at : IsPageOf old.size (other side) page) where
   erasing : MayFollow (Erase page) old new → IsStep (Erase page) old new
-  erasing follows = search (rules, page_of_device)
+  erasing follows = search page_of_device
 
   keeps : MayFollow (Erase page) old new → KeepsSide old new side
   keeps follows = other_set_keeps_side _ _ _ _ (erasing follows) at tt

@@ -34,7 +34,7 @@ then_partly _ mid new layout _ _ _ more _ first second = search (rules, keeps_si
 -- some words in part are more words in part
 partly_filled : (old new : Device) (layout : Layout) (count : ℕ) (words rest : List Word)
     → FilledPartly old new layout count words → FilledPartly old new layout count (words ++ rest)
-partly_filled _ _ _ _ _ rest partly = search (rules, partly_longer)
+partly_filled _ _ _ _ _ rest partly = search partly_longer
 
 -- the live addresses are copied behind what stands there, but for those that changes name
 module _ (old : Device) (layout : Layout) (place : Place) (changes : List Change) where
@@ -56,8 +56,8 @@ module _ (old : Device) (layout : Layout) (place : Place) (changes : List Change
   none_filled at only = record {
     keeps = keeps_side_same _ _ at.filling.formed;
     filling = at.filling;
-    map_is = search (rules, at_first, meaning-zero);
-    adds = search (rules, no_words, adds_none);
+    map_is = search (at_first, meaning-zero);
+    adds = search (no_words, adds_none);
     as_many = omega (arith, ap length (no_words map changes));
     wear = refl;
   }
@@ -170,12 +170,12 @@ module _ (puts : List listed.Put) (count : ℕ) (put : listed.Put) (within : cou
 
   pub words_more : words_to puts (count + 1)
       ≡ words_to puts count ++ (Held (element put.address put.value) ∷ [])
-  words_more = search (rules, one_put_more, puts-append, words-append)
+  words_more = search (one_put_more, puts-append, words-append)
 
   map_more_on : (map : Map)
       → changed_by (puts_of (take (count + 1) puts)) map
       ≡ map_after (Put put.address put.value) (changed_by (puts_of (take count puts)) map)
-  map_more_on _ = search (rules, one_put_more, puts-append, changed_by-append)
+  map_more_on _ = search (one_put_more, puts-append, changed_by-append)
 
   pub map_more : map_of_first puts (count + 1)
       ≡ map_after (Put put.address put.value) (map_of_first puts count)
@@ -201,7 +201,7 @@ module _ (old : Device) (layout : Layout) (puts : List listed.Put) where
       Filled old now layout 0 (words_to puts count) (map_of_first puts count) slot
 
   pub none_put : IsNewlyOpened old layout → FilledBy 0 old 0
-  none_put opened = search (rules, keeps_side_same, adds_none)
+  none_put opened = search (keeps_side_same, adds_none)
 
   module _ (count : ℕ) (put : listed.Put) (mid new : Device) (slot : ℕ)
       (within : count < length puts) (is : put ≡ get_or puts count put)
@@ -327,7 +327,7 @@ module _ (old new : Device) (layout : Layout) (puts : List listed.Put) where
       → FilledPartly old new layout slot (elements_of (map_without (puts_of puts) map))
       → FilledPartly old new layout slot
       (elements_of (map_without (changes_of_puts puts forgets) map))
-  others_carried_partly forgets slot map partly = search (rules, carried_without)
+  others_carried_partly forgets slot map partly = search carried_without
 
 -- the changes come first, and then the other addresses
 module _ (changes : List Change) (old mid new : Device) (layout : Layout) (slot : ℕ)
@@ -388,7 +388,7 @@ module _ (changes : List Change) (old mid new : Device) (layout : Layout) (slot 
 pub first_partly : (changes : List Change) (old new : Device) (layout : Layout) (map : Map)
     → FilledPartly old new layout 0 (put_words changes)
     → FilledPartly old new layout 0 (moved_words changes map)
-first_partly changes old new layout map partly = search (rules, partly_filled)
+first_partly changes old new layout map partly = search partly_filled
 
 -- the values that are put find room
 pub puts_fit : (puts : List listed.Put) (forgets : Bool) (values : List listed.Put) (map : Map)

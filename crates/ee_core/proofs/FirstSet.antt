@@ -55,7 +55,7 @@ module _ (blank mid : Device) (formed : IsFormed blank)
   pub alone : committed_generation (set_of Second mid) ≡ None
   alone =
       let word = erased_word _ (unmarked blank blank.size.pages Active formed all (omega arith)) in
-      search (rules, same_second, erased_commits, first_word)
+      search (same_second, erased_commits, first_word)
 
   module _ (new : Device) (mid_on : IsOn mid)
       (done : new ≡ device_after (marking 0 Active) mid) where
@@ -72,7 +72,7 @@ module _ (blank mid : Device) (formed : IsFormed blank)
     no_slot n = zero-div n
 
     first_is_last : last_used new First ≡ 0
-    first_is_last = search (rules, no_fill, no_slot)
+    first_is_last = search (no_fill, no_slot)
 
     second_still_blank : All (λ words. is_blank words ≡ true) (set_of Second new)
     second_still_blank =

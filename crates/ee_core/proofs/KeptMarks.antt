@@ -8,7 +8,7 @@ fill_fits side device formed = search (rules, length-filter, count_by-le-length,
 
 pub last_in_range : (side : Side) (device : Device) → IsFormed device
     → last_used device side < device.size.pages
-last_in_range side device formed = search (rules, page_in_range, slot_below, fill_fits)
+last_in_range side device formed = search (page_in_range, slot_below, fill_fits)
 
 -- a page with the same words has the same marks
 marked_so : (old new : Device) (before after : ℕ) (mark : Mark)
@@ -50,7 +50,7 @@ pub cleaned_marked : (side : Side) (erased : ℕ) (old new : Device) → IsForme
     → new.size ≡ old.size → IsSameSet side old new → IsSameBut erased old new
     → is_blank (page_at new erased) ≡ true → IsMarked old side → IsMarked new side
 cleaned_marked _ _ old new formed sizes same others blank was =
-    search (rules, live_marks_stay, blank_or_marked)
+    search (live_marks_stay, blank_or_marked)
 
 -- After one slot more the page of that slot is the last used one.
 live_now : (side : Side) (fill : ℕ) (mid new : Device) → new.size ≡ mid.size
@@ -77,6 +77,6 @@ pub appended_marked : (side : Side) (fill : ℕ) (old mid new : Device) → IsFo
 appended_marked side fill old mid new formed first_sizes second_sizes grown ready marks first_same
     second_same was =
     record {
-      live = search (rules, live_now);
+      live = search live_now;
       old = search (rules, old_marks_stay);
     }

@@ -21,7 +21,7 @@ last_is layout device is = search rules
 
 pub last_in_range : (layout : Layout) (device : Device) → IsLayout device layout
     → last_used device layout.side < device.size.pages
-last_in_range layout device is = search (rules, page_in_range, slot_below, fill_fits)
+last_in_range layout device is = search (page_in_range, slot_below, fill_fits)
 
 pub current_below : (layout : Layout) (device : Device) → IsLayout device layout
     → layout.current < 128

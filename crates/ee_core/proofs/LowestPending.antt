@@ -18,8 +18,8 @@ module _ (old new : Device) (side searched : Side) (generation page : ℕ)
 
   pub erases_lowest : is_blank (page_at new page) ≡ true → IsLive old side generation
       → KeepsLiveSet old new side generation → ErasesLowest old new
-  erases_lowest blank found keeps = search (rules, waited_first, is_lowest)
+  erases_lowest blank found keeps = search (waited_first, is_lowest)
 
   pub keeps_all_but_lowest : IsPartlyErased (page_at old page) (page_at new page)
       → KeepsAllButLowest old new
-  keeps_all_but_lowest partly = search (rules, is_lowest)
+  keeps_all_but_lowest partly = search is_lowest

@@ -42,7 +42,7 @@ module _ (old new : Device) (side : Side) (generation : ℕ) (live : IsLive old 
 
   pending_stays : IsLive new side generation → new.size ≡ old.size → IsSameSet (other side) old new
       → pending_pages new ≡ pending_pages old
-  pending_stays now sizes same = search (rules, pending_was)
+  pending_stays now sizes same = search pending_was
 
   pub state_appended : (change : Change)
       → TakesSlot old new side generation (map_after change (meaning (slots_of (set_of side old))))
@@ -55,7 +55,7 @@ module _ (old new : Device) (side : Side) (generation : ℕ) (live : IsLive old 
 
   state_same : KeepsLiveSet old new side generation → IsSameSet (other side) old new
       → state_of new ≡ state_of old
-  state_same keeps same = search (rules, state_is, same_states)
+  state_same keeps same = search (state_is, same_states)
 
   pub shows_appended : (change : Change) (fill number : ℕ)
       → fill ≡ fill_of (slots_of (set_of side old))
@@ -115,7 +115,7 @@ module _ (old new : Device) (side : Side) (generation : ℕ) (live : IsLive old 
       → IsSameSet (other side) old new → new.wear ≡ old.wear → ShowsAppended old change new side
       → Appends old change new
   appends _ proceeds goes_on free takes same wear shows =
-      search (rules, fill_was, state_is, state_appended, pending_stays)
+      search (fill_was, state_is, state_appended, pending_stays)
 
   cut_append : (change : Change) → IsSameSet (other side) old new
       → MayTakeSlot old new side generation change
@@ -181,7 +181,7 @@ module _ (old new : Device) (side : Side) (generation : ℕ) (live : IsLive old 
         record {
           proceeds = proceeds;
           cut = cut;
-          state_is = search (rules, cut_move);
+          state_is = search cut_move;
           words = search rules;
         }
 
@@ -256,7 +256,7 @@ commit_proper false _ _ e = cc
 -- the generation of a live set is proper
 pub generation_proper : (device : Device) (side : Side) (generation : ℕ)
     → IsLive device side generation → IsGeneration generation
-generation_proper device side generation live = search (rules, commit_proper, live_commits)
+generation_proper device side generation live = search (commit_proper, live_commits)
 
 -- where a transfer is accepted, a generation is left for it
 module _ (device : Device) (side : Side) (generation : ℕ)

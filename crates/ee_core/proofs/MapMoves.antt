@@ -88,7 +88,7 @@ module _ (old opened : Device) (layout : Layout) (opens : IsOpened old opened la
           filling = fills.filling;
           map_is = fills.map_is;
           as_many = omega arith;
-          each_once = search (rules, same_map);
+          each_once = search same_map;
           holds = fills.adds.new_pages [] refl opens.holds;
           wear = wears_still _ _ _ _ opens.wear fills.wear;
         }
@@ -135,7 +135,7 @@ module _ (old filled new : Device) (layout : Layout) (changes : List Change) (wo
     moved = has_moved done.same_set done.committed;
     as_many = fills.as_many;
     each_once = fills.each_once;
-    new_pages = search (rules, commits);
+    new_pages = search commits;
     live_pages = search (rules, same_drawn);
     wear = wears_still _ _ _ _ fills.wear done.wear;
   }

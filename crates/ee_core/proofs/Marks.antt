@@ -111,7 +111,7 @@ old_mark_stays page old new _ _ live of written (inr taken) =
             | inr more ↦ more
           ])
           ∙ sym written);
-      same_wear = search (rules, program_keeps_wear);
+      same_wear = search program_keeps_wear;
     }
 
 -- a page of a set is one of the device

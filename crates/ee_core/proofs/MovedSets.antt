@@ -134,7 +134,7 @@ module _ (old mid new : Device) (formed : IsFormed old) (mid_formed : IsFormed m
     (all : All (λ page. is_blank page ≡ true) old.image) (receives : SetsMark 0 (Receive 1) old mid)
     (active : SetsMark 0 Active mid new) where
   pub formats_first : IsDrawn First new (filled_set new.size 1 [])
-  formats_first = search (rules, empty_set, commits, opens_blank, All-take)
+  formats_first = search (empty_set, commits, opens_blank, All-take)
 
   pub formats_second : IsDrawn Second new blank_picture
   formats_second page at h within =

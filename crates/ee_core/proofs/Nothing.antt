@@ -58,7 +58,7 @@ forgotten_at first (suc more) change map (suc place) within is none =
 pub forgotten_has : (first count : ℕ) (change : Change) (map : Map)
     → Contains (forgets_from first count) change → ((address : ℕ) → map address ≡ None)
     → HasChange change map
-forgotten_has first count change map kept none = search (rules, forgotten_at)
+forgotten_has first count change map kept none = search forgotten_at
 
 -- ---- the words
 
@@ -80,4 +80,4 @@ no_elements _ zero _ = refl
 no_elements map (suc count) none = rw (no_elements map count none, none (suc count)) refl
 
 pub none_moved : (slots : List Word) → moved_words each_forgotten (meaning slots) ≡ []
-none_moved slots = search (rules, without_is, no_elements, all_forgotten, none_put)
+none_moved slots = search (without_is, no_elements, all_forgotten, none_put)

@@ -170,4 +170,4 @@ module _ (old : Device) (layout : Layout) (found : IsLayout old layout)
 
   pub first_other : (mid : Device) → Stays old mid layout.side layout.generation
       → IsSameBut layout.current old mid → IsSameSet (other layout.side) old mid
-  first_other _ stays others = search (rules, same_other, current_of)
+  first_other _ stays others = search (same_other, current_of)

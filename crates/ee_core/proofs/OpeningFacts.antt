@@ -11,11 +11,11 @@ module _ (layout : Layout) (old new : Device) (is : IsLayout old layout)
     (stays : Stays old new layout.side layout.generation) where
   pub opens : IsMarked new layout.side → ShowsMarks old new layout.side
       → (IsMarked old layout.side → new ≡ old) → GoesOn old new → Opens old new
-  opens marked shows no_step on = search (rules, finished_from, state_stays)
+  opens marked shows no_step on = search (finished_from, state_stays)
 
   pub opening_cut : (IsMarked old layout.side → ⊥) → ShowsCutMarks old new layout.side
       → IsCut old new → IsCutOpening old new
-  opening_cut left shows cut = search (rules, state_stays)
+  opening_cut left shows cut = search state_stays
 
 -- a new store whose live set is the first has it with generation 1
 live_first : (layout : Layout) (new : Device) → IsLayout new layout → layout.side ≡ First
@@ -31,4 +31,4 @@ pub formats : (layout : Layout) (old new : Device) → IsLayout new layout → l
     → IsDrawn First new (filled_set new.size 1 []) → IsDrawn Second new blank_picture
     → Wears (not_blank_pages old) old new → GoesOn old new → IsFormatted old new
 formats layout _ new is first marked state first_set second_set wear on =
-    search (rules, format_store, live_first)
+    search (format_store, live_first)

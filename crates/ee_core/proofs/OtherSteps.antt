@@ -28,7 +28,7 @@ module _ (old new : Device) (side : Side) (generation count number : ℕ)
     (free : count < slot_count old.size) (below : number < all_ones)
     (follows : MayFollow (slot_step old.size (other side) count number) old new) where
   pub slot_taken : IsStep (slot_step old.size (other side) count number) old new
-  slot_taken = search (rules, page_in_device, page_in_range, place_in_range, free_slot)
+  slot_taken = search (page_in_device, page_in_range, place_in_range, free_slot)
 
   pub slot_keeps : KeepsSide old new side
   slot_keeps = (other_set_keeps_side _ _ _ _ slot_taken
@@ -71,7 +71,7 @@ module _ (old new : Device) (side : Side) (generation count : ℕ)
   receive_taken : is_marked old here word ≡ false → MayFollow (marking here word) old new
       → IsStep (marking here word) old new
   receive_taken erased follows =
-      search (rules, mark_taken, page_in_device, page_in_range, receive_below)
+      search (mark_taken, page_in_device, page_in_range, receive_below)
 
   receive_keeps : is_marked old here word ≡ false → MayFollow (marking here word) old new
       → KeepsSide old new side
@@ -169,7 +169,7 @@ module _ (old new : Device) (side : Side) (generation : ℕ) (formed : IsFormed 
 
   opening_taken : MayFollow (marking first opening) old new → IsStep (marking first opening) old new
   opening_taken follows =
-      search (rules, mark_taken, first_in_device, receive_below, opening_unmarked)
+      search (mark_taken, first_in_device, receive_below, opening_unmarked)
 
   pub opening_keeps : (page : ℕ) → page ≡ first → MayFollow (marking page opening) old new
       → KeepsSide old new side
@@ -199,7 +199,7 @@ module _ (old new : Device) (side : Side) (generation count : ℕ)
 
   active_taken : MayFollow (marking front_page Active) old new
       → IsStep (marking front_page Active) old new
-  active_taken follows = search (rules, mark_taken, first_in_device, active_below, active_unmarked)
+  active_taken follows = search (mark_taken, first_in_device, active_below, active_unmarked)
 
   pub active_commits : (page : ℕ) → page ≡ front_page → MayFollow (marking page Active) old new
       → (set_of side new ≡ set_of side old)

@@ -89,7 +89,7 @@ stays old new sizes live_is same_pending no_wear =
     }
 
 appends : (old new : Device) (change : Change) → Appends old change new → Ages false old new
-appends old new _ done = search (rules, stays)
+appends old new _ done = search stays
 
 moves : (old new : Device) (changes : List Change) → Moves old changes new → Ages true old new
 moves old new _ done =
@@ -227,7 +227,7 @@ wears_at_most _ _ _ new all = search (rules, waits, few_wait)
 pub each_page_wears_every_second_transfer_lem : (calls : List Call) (old new : Device) (page : ℕ)
     → IsWholeRun calls old new → WearsAtMost (transfers calls) page old new
 each_page_wears_every_second_transfer_lem calls old new page whole =
-    search (rules, wears_at_most, aged)
+    search (wears_at_most, aged)
 
 pub no_page_wears_more_lem : (calls : List Call) (old new : Device) (page : ℕ)
     → IsWholeRun calls old new → IsLegal old → (state_of old).pending ≡ 0

@@ -28,7 +28,7 @@ module _ (cuts : ℕ) (left : Option ℕ) (on : Bool) (device : Device) where
     legal_powered legal = (legal.0, legal.1, live_powered legal.0 legal.1 legal.2)
 
 pub legal_on : (device : Device) → IsLegal device → IsLegal (with_power_on device)
-legal_on device legal = search (rules, legal_powered)
+legal_on device legal = search legal_powered
 
 pub state_in_on : (device : Device) (live : Option (Side × ℕ))
     → state_in (with_power_on device) live ≡ state_in device live

@@ -1,5 +1,5 @@
 -- What laws of this crate need: without the named premise they would be false, and here is where.
-use Rattle.ee_core.proofs.Base.{◌+◌, ◌/◌, ◌<◌, ◌≤◌, ℕ, true, Ok, Err, List, [], ◌∷◌, get_or, refl, ap, sym, ◌∙◌, arith, true≢false, get_or-set_same, All-cons, All-nil, Device, wear_at, GoesOn, page_count, one_more, IsLegal, Cleans, Writes, CountsWear, rules}
+use Rattle.ee_core.proofs.Base.{◌+◌, ◌/◌, ◌<◌, ◌≤◌, ℕ, true, Ok, Err, List, [], ◌∷◌, get_or, refl, ap, sym, ◌∙◌, arith, true≢false, get_or-set_same, All-cons, All-nil, Device, wear_at, GoesOn, page_count, one_more, IsLegal, Cleans, Writes, CountsWear}
 use Rattle.ee_core.specs.Runs.{Call, Cleaned, IsRun, IsWholeRun, Wrote, transfers}
 use Rattle.ee_core.specs.declared.variables.WriteFault.TheVariants as write
 
@@ -31,7 +31,7 @@ no_page_wears_more_needs_none_waiting law old new legal counts cleaned =
     law (Cleaned (Ok true) ∷ []) old new page
     (record {
       run = (new, cleaned, refl);
-      without_cuts = search (rules, All-cons, All-nil);
+      without_cuts = search (All-cons, All-nil);
     }) legal (omega arith) in
     let below = counts page 0 within in
     let more =

@@ -45,7 +45,7 @@ holds_on : (device old : Device) → Holds device old → Holds (with_power_on d
 holds_on device _ holds = record {
   side = holds.side;
   generation = holds.generation;
-  held = search (rules, held_on);
+  held = search held_on;
   same_map = search (rules, map_on);
 }
 
@@ -136,7 +136,7 @@ module _ (old changed : Device) (side : Side) (generation page at : ℕ) (word :
       ]
 
   had : (address : ℕ) → meaning (slots_of (set_of side old)) address ≡ (state_of old).map address
-  had address = search (rules, state_is)
+  had address = search state_is
 
   pub one_word_costs_no_more : PutsInSet old changed side page at word → WentBad at word
       → (page ≡ 0 → at < 2 → (is_written word ≡ true) × IsToldApart old side × (cuts ≡ []))

@@ -44,7 +44,7 @@ module _ (slots : ℕ) (state : State) where
 pub several_proceed : (device : Device) (puts : List listed.Put) → IsOn device → 1 < length puts
     → live_in (changed_by (puts_of puts) (state_of device).map) ≤ capacity device
     → ¬ ((state_of device).generation ≡ greatest_generation) → Proceeds device (puts_of puts)
-several_proceed _ puts on several fits left = search (rules, some_place, some_generation)
+several_proceed _ puts on several fits left = search (some_place, some_generation)
 
 -- ---- how many addresses have a value with them
 

@@ -138,7 +138,7 @@ not_used true e = refl
 not_used false e = absurd (cc e)
 
 blank_state : (words : List Word) → is_blank words ≡ true → state_of_words words ≡ Unused
-blank_state _ blank = search (rules, blank_word)
+blank_state _ blank = search blank_word
 
 -- where a page may not be erased, its words stay
 kept_word : (waits : ℕ → Bool) (picture : Picture) (page at : ℕ) → waits page ≡ false

@@ -125,7 +125,7 @@ torn_startable mid new taken torn startable =
     (get_or-set_same mid.image 0 (set (page_at mid 0) 1 Torn) [] (omega arith))
     ∙ get_or-set_same (page_at mid 0) 1 Torn Erased (omega arith) in
     record {
-      uncommitted = search (rules, torn_commits, step_changes_one_page, step_keeps_formed);
+      uncommitted = search (torn_commits, step_changes_one_page, step_keeps_formed);
       none_held = search (rules, held_before);
     }
 
@@ -246,7 +246,7 @@ only_cut _ _ (Scan _) (inl startable) fails = absurd (fails.0 startable)
 only_cut _ _ (Scan fault) (inr before) fails = absurd (legal_is_good _ fault before.legal fails.1)
 
 starts_empty : (device : Device) → IsStarting device → StartsEmpty device
-starts_empty device starting = search (rules, empty_store, only_cut)
+starts_empty device starting = search (empty_store, only_cut)
 
 one_left_less : (more left : ℕ) (cuts_left : Option ℕ)
     → Some left ≡ option_map (λ n. n + 1) cuts_left

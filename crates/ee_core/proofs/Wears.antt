@@ -96,12 +96,12 @@ times_few (here ∷ pages) page =
 -- ---- wears of devices
 
 pub wears_none : (old new : Device) → new.wear ≡ old.wear → Wears [] old new
-wears_none old _ same = search (rules, All-nil)
+wears_none old _ same = search All-nil
 
 -- an erase of a page that was begun
 pub page_wears : (page : ℕ) (old new : Device) → page < length old.wear
     → new.wear ≡ (with_page_erased page old).wear → Wears (page ∷ []) old new
-page_wears _ _ _ h wear = search (rules, All-cons, All-nil)
+page_wears _ _ _ h wear = search (All-cons, All-nil)
 
 -- so is an erase that was cut with the power on
 pub cut_page_wears : (page : ℕ) (old new : Device) → page < length old.wear
@@ -139,7 +139,7 @@ pub wear_adds : (a b : ℕ) (old mid new : Device) → WearRises a old mid → W
 wear_adds a b old mid new first second = record {
   pages = first.pages ++ second.pages;
   count = omega (arith, length-append first.pages second.pages);
-  wears = search (rules, wears_both);
+  wears = search wears_both;
 }
 
 -- In all, wear rose by as many as were erased, where no page of the device now was erased as

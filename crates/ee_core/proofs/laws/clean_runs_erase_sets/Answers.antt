@@ -1,6 +1,5 @@
-use Rattle.ee_core.proofs.Base.{rules}
 use Rattle.ee_core.proofs.Running.{clean_runs_erase_sets_lem}
 use Rattle.ee_core.proofs.laws.clean_runs_erase_sets.Goals as goal
 
 pub returns : goal.returns
-returns c = search (rules, clean_runs_erase_sets_lem)
+returns c = search clean_runs_erase_sets_lem

@@ -1,6 +1,5 @@
-use Rattle.ee_core.proofs.Base.{rules}
 use Rattle.ee_core.proofs.Running.{each_transfer_erases_a_set_lem}
 use Rattle.ee_core.proofs.laws.each_transfer_erases_a_set.Goals as goal
 
 pub returns : goal.returns
-returns c = search (rules, each_transfer_erases_a_set_lem)
+returns c = search each_transfer_erases_a_set_lem

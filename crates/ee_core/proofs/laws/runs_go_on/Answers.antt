@@ -1,6 +1,5 @@
-use Rattle.ee_core.proofs.Base.{rules}
 use Rattle.ee_core.proofs.Running.{runs_go_on_lem}
 use Rattle.ee_core.proofs.laws.runs_go_on.Goals as goal
 
 pub returns : goal.returns
-returns c = search (rules, runs_go_on_lem)
+returns c = search runs_go_on_lem

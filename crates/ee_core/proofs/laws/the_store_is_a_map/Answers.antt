@@ -1,6 +1,5 @@
-use Rattle.ee_core.proofs.Base.{rules}
 use Rattle.ee_core.proofs.Running.{the_store_is_a_map_lem}
 use Rattle.ee_core.proofs.laws.the_store_is_a_map.Goals as goal
 
 pub returns : goal.returns
-returns c = search (rules, the_store_is_a_map_lem)
+returns c = search the_store_is_a_map_lem

@@ -1,4 +1,4 @@
-use Rattle.ee_core.proofs.Base.{refl, ◌∙◌, other, last_used, rules}
+use Rattle.ee_core.proofs.Base.{refl, ◌∙◌, other, last_used}
 use Rattle.ee_core.proofs.AfterCalls.{ends_later, goes_on_both, goes_on_same, never_on_ok, not_ok}
 use Rattle.ee_core.proofs.LiveMarks.{layout_stays, live_marks_kept, old_marks_kept, stays_both}
 use Rattle.ee_core.proofs.MarkedSets.{shows}
@@ -7,7 +7,7 @@ use Rattle.ee_core.proofs.Making.{always_on_err}
 use Rattle.ee_core.proofs.marking.finish.Goals as goal
 
 pub mark_old_set-requires : goal.mark_old_set-requires
-mark_old_set-requires g c = search (rules, layout_stays)
+mark_old_set-requires g c = search layout_stays
 
 pub returns-in_err-mark_live_set : goal.returns-in_err-mark_live_set
 returns-in_err-mark_live_set g c =

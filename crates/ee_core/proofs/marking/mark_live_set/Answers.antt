@@ -67,10 +67,10 @@ mark_live-requires-2-clause-behind g c =
     (layout_stays c.args.layout.now old mid c.requires c.pages.invariant.stays) (inl refl)
 
 pub mark_live-requires-clause-layout : goal.mark_live-requires-clause-layout
-mark_live-requires-clause-layout g c = search (rules, layout_stays)
+mark_live-requires-clause-layout g c = search layout_stays
 
 pub mark_live-requires-2-clause-layout : goal.mark_live-requires-2-clause-layout
-mark_live-requires-2-clause-layout g c = search (rules, layout_stays)
+mark_live-requires-2-clause-layout g c = search layout_stays
 
 pub pages-init : goal.pages-init
 pages-init g c = search (rules, same_stays, valid_start, goes_on_same)

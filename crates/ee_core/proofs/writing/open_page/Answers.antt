@@ -166,7 +166,7 @@ mark_live-requires-2-clause-from g c =
     )
 
 pub mark_live-requires-2-clause-layout : goal.mark_live-requires-2-clause-layout
-mark_live-requires-2-clause-layout g c = search (rules, layout_stays)
+mark_live-requires-2-clause-layout g c = search layout_stays
 
 pub overflow_add-layout : goal.overflow_add-layout
 overflow_add-layout g c =

@@ -27,7 +27,7 @@ pub transfer-requires-clause-proceeds : goal.transfer-requires-clause-proceeds
 transfer-requires-clause-proceeds g c = search (rules, several_proceed)
 
 pub transfer-requires-clause-needed : goal.transfer-requires-clause-needed
-transfer-requires-clause-needed g c = search (rules, needs_transfer)
+transfer-requires-clause-needed g c = search needs_transfer
 
 pub returns-in_default-make_room-clause-writes : goal.returns-in_default-make_room-clause-writes
 returns-in_default-make_room-clause-writes g c = search (rules, several_proceed)
