@@ -4,7 +4,6 @@
 //! it drops what it owns, and each such path costs the prover time. So does each generic call that
 //! names a device's type. So what a test does with a store is generic over the device, and the test
 //! makes one call of it.
-mod commands;
 mod counted;
 mod cuts;
 mod driving;
