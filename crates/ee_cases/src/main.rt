@@ -27,16 +27,16 @@ mod workloads;
 
 use std::process::ExitCode;
 use std::{env, fs, io};
-use typing::Typist;
+use typing::typed;
 use workloads::{show_each, show_named};
 
 /// Types an example, and gives whether it goes as its transcript says.
-fn try_example(rt: &HostRuntime, typist: &mut Typist<'_>, name: &str) -> io::Result<bool> {
+fn try_example(rt: &HostRuntime, name: &str) -> io::Result<bool> {
     // Where a folder can't be entered, the next transcript can't be read.
     let _ = env::set_current_dir(rt, name);
     let wanted = fs::read_to_string(rt, "transcript")?;
-    let found = typist.typed(wanted.as_str());
-    let passed = is_as_wanted(rt, name, found, wanted.as_str());
+    let found = typed(rt, wanted.as_str());
+    let passed = is_as_wanted(rt, name, found.as_str(), wanted.as_str());
     let _ = env::set_current_dir(rt, "..");
     passed
 }
@@ -51,10 +51,10 @@ fn is_as_wanted(rt: &HostRuntime, name: &str, found: &str, wanted: &str) -> io::
 }
 
 /// Types each example that is named, and counts those that went as they were to go, and the others.
-fn try_all(rt: &HostRuntime, typist: &mut Typist<'_>, names: &str) -> io::Result<(u64, u64)> {
+fn try_all(rt: &HostRuntime, names: &str) -> io::Result<(u64, u64)> {
     let (mut passed, mut failed): (u64, u64) = (0, 0);
     for name in names.lines() {
-        if try_example(rt, typist, name)? {
+        if try_example(rt, name)? {
             passed = passed.saturating_add(1);
         } else {
             failed = failed.saturating_add(1);
@@ -66,7 +66,7 @@ fn try_all(rt: &HostRuntime, typist: &mut Typist<'_>, names: &str) -> io::Result
 /// Types each example that is named, does a round of each workload, and tells how many examples
 /// went as they were to go.
 fn try_each(rt: &HostRuntime, names: &str) -> io::Result<u8> {
-    let (passed, failed) = try_all(rt, &mut Typist::new(rt), names)?;
+    let (passed, failed) = try_all(rt, names)?;
     show_each(rt)?;
     println!(rt; "{passed} passed, {failed} failed")?;
     Ok(if failed == 0 { 0 } else { 1 })

@@ -1,194 +1,150 @@
 //! The commands of a transcript, as they go when they are typed.
+//!
+//! An error is shown like what a command prints, and where memory is refused something is missing:
+//! the transcript then differs, and no step asks whether the one before it failed.
 use super::desk::Desk;
 use ee_program::run;
-use std::mem::swap;
 use std::{fs, io};
 
 /// The file of the image that `ee run --indexed` works on.
 const COPY: &str = "image-by-index";
 
-/// Who types commands, with what they print.
-///
-/// An error is shown like what a command prints, and where memory is refused something is missing:
-/// the transcript then differs, and no step asks whether the one before it failed.
-#[derive(Drop)]
-pub struct Typist<'a> {
-    rt: &'a HostRuntime,
-    /// The words of the command.
-    words: Vec<String>,
-    /// What was read last, which a command has as its input.
-    file: Vec<u8>,
-    /// What the command printed, and what it printed by an index.
-    answer: String,
-    by_index: String,
-    /// The commands that were typed, each with what it printed.
-    shown: String,
+/// The command that works on it, before its script.
+const RUN_BY_INDEX: &str = "ee run --indexed image-by-index ";
+
+/// Types the commands of a transcript, and gives them with what they print now.
+pub fn typed(rt: &HostRuntime, transcript: &str) -> String {
+    let mut shown = String::new(rt.alloc());
+    for line in transcript.lines() {
+        if let Some(command) = line.strip_prefix("$ ") {
+            let _ = writeln!(shown, "{line}");
+            let _ = shown.push_str(answer(rt, command).as_str());
+        }
+    }
+    shown
 }
 
-impl<'a> Typist<'a> {
-    pub fn new(rt: &'a HostRuntime) -> Typist<'a> {
-        Typist {
-            rt,
-            words: Vec::new(rt.alloc()),
-            file: Vec::new(rt.alloc()),
-            answer: String::new(rt.alloc()),
-            by_index: String::new(rt.alloc()),
-            shown: String::new(rt.alloc()),
+/// An error as it is shown.
+fn told(rt: &HostRuntime, error: io::Error) -> String {
+    let mut text = String::new(rt.alloc());
+    let _ = writeln!(text, "{error}");
+    text
+}
+
+/// What a command prints.
+fn answer(rt: &HostRuntime, command: &str) -> String {
+    if let Some(path) = command.strip_prefix("cat ") {
+        return read(rt, path);
+    }
+    if let Some(held) = command.strip_prefix("flock ") {
+        return run_held(rt, held);
+    }
+    if let Some((typed, path)) = command.split_once(" > ") {
+        return write(rt, path, run_on(rt, &[], typed).as_str());
+    }
+    if let Some((typed, path)) = command.split_once(" < ") {
+        return run_on_file(rt, path, typed);
+    }
+    let files = command.strip_prefix("ee run ").unwrap_or("");
+    match files.split_once(" ") {
+        Some((image, script)) => run_both(rt, command, image, script),
+        None => run_on(rt, &[], command),
+    }
+}
+
+/// What a file holds.
+fn read(rt: &HostRuntime, path: &str) -> String {
+    match fs::read_to_string(rt, path) {
+        Ok(text) => text,
+        Err(error) => told(rt, error),
+    }
+}
+
+/// Writes what a command printed into a file, and shows nothing.
+fn write(rt: &HostRuntime, path: &str, printed: &str) -> String {
+    match fs::write(rt, path, printed) {
+        Ok(()) => String::new(rt.alloc()),
+        Err(error) => told(rt, error),
+    }
+}
+
+/// Runs the program on a file.
+fn run_on_file(rt: &HostRuntime, path: &str, typed: &str) -> String {
+    match fs::read(rt, path) {
+        Ok(bytes) => run_on(rt, bytes.as_slice(), typed),
+        Err(error) => told(rt, error),
+    }
+}
+
+/// Runs the program while a file is locked. The file and the command are given in one.
+fn run_held(rt: &HostRuntime, held: &str) -> String {
+    let (path, typed) = held.split_once(" ").unwrap_or((held, ""));
+    match fs::open(rt, path) {
+        Ok(file) => {
+            let _ = file.try_lock();
+            run_on(rt, &[], typed)
+        }
+        Err(error) => told(rt, error),
+    }
+}
+
+/// Runs `ee run --indexed` on a copy of the image, and then `ee run`, and shows if they print or
+/// leave other things. Where there is no image to copy, it is `ee run` alone.
+fn run_both(rt: &HostRuntime, command: &str, image: &str, script: &str) -> String {
+    if fs::copy(rt, image, COPY).is_err() {
+        return run_on(rt, &[], command);
+    }
+    let by_index = run_by_index(rt, script);
+    let mut answer = run_on(rt, &[], command);
+    if by_index.as_bytes() != answer.as_bytes() || !leaves_alike(rt, image) {
+        answer.clear();
+        let _ = answer.push_str("by index it goes otherwise\n");
+    }
+    answer
+}
+
+/// Runs `ee run --indexed` on the copy of the image.
+fn run_by_index(rt: &HostRuntime, script: &str) -> String {
+    let mut command = String::new(rt.alloc());
+    let _ = command.push_str(RUN_BY_INDEX);
+    let _ = command.push_str(script);
+    run_on(rt, &[], command.as_str())
+}
+
+/// Whether both runs left the same image.
+fn leaves_alike(rt: &HostRuntime, image: &str) -> bool {
+    let Ok(by_index) = fs::read(rt, COPY) else {
+        return false;
+    };
+    match fs::read(rt, image) {
+        Ok(left) => by_index.as_slice() == left.as_slice(),
+        Err(_) => false,
+    }
+}
+
+/// Runs the program on the words of a command, with this input. Its status stands in brackets
+/// behind what it prints, if that isn't 0.
+fn run_on(rt: &HostRuntime, input: &[u8], command: &str) -> String {
+    let words = words_of(rt, command);
+    let desk = Desk::new(rt, input);
+    let status = match words.as_slice() {
+        [_, words @ ..] => run(&desk, words),
+        [] => 0,
+    };
+    let mut answer = desk.shown();
+    if status != 0 {
+        let _ = writeln!(answer, "[{status}]");
+    }
+    answer
+}
+
+/// The words of a command.
+fn words_of(rt: &HostRuntime, command: &str) -> Vec<String> {
+    let mut words = Vec::new(rt.alloc());
+    for word in command.split_whitespace() {
+        if let Ok(word) = String::from_str(rt.alloc(), word) {
+            let _ = words.push(word);
         }
     }
-
-    /// Types the commands of a transcript, and gives them with what they print now.
-    pub fn typed(&mut self, transcript: &str) -> &str {
-        self.shown.clear();
-        for line in transcript.lines() {
-            if let Some(command) = line.strip_prefix("$ ") {
-                self.show(line);
-                self.show("\n");
-                self.type_command(command);
-            }
-        }
-        self.shown.as_str()
-    }
-
-    /// Shows a text.
-    fn show(&mut self, text: &str) {
-        let _ = self.shown.push_str(text);
-    }
-
-    /// Shows an error.
-    fn tell(&mut self, error: io::Error) {
-        let _ = writeln!(self.shown, "{error}");
-    }
-
-    /// Types a command.
-    fn type_command(&mut self, command: &str) {
-        self.file.clear();
-        if let Some(path) = command.strip_prefix("cat ") {
-            self.read(path);
-            self.show_file();
-        } else if let Some((typed, path)) = command.split_once(" > ") {
-            self.run(typed);
-            self.write_answer(path);
-        } else {
-            self.answer(command);
-            let _ = self.shown.push_str(self.answer.as_str());
-        }
-    }
-
-    /// Reads a file.
-    fn read(&mut self, path: &str) {
-        match fs::read(self.rt, path) {
-            Ok(bytes) => self.file = bytes,
-            Err(error) => self.tell(error),
-        }
-    }
-
-    /// Shows what was read.
-    fn show_file(&mut self) {
-        match str::from_utf8(self.file.as_slice()) {
-            Ok(text) => {
-                let _ = self.shown.push_str(text);
-            }
-            Err(_) => self.show("no text\n"),
-        }
-    }
-
-    /// Writes what the command printed into a file.
-    fn write_answer(&mut self, path: &str) {
-        if let Err(error) = fs::write(self.rt, path, self.answer.as_str()) {
-            self.tell(error);
-        }
-    }
-
-    /// Runs the program as a command says.
-    fn answer(&mut self, command: &str) {
-        if let Some(held) = command.strip_prefix("flock ") {
-            return self.run_held(held);
-        }
-        if let Some((typed, path)) = command.split_once(" < ") {
-            self.read(path);
-            return self.run(typed);
-        }
-        let files = command.strip_prefix("ee run ").unwrap_or("");
-        match files.split_once(" ") {
-            Some((image, script)) => self.run_both(command, image, script),
-            None => self.run(command),
-        }
-    }
-
-    /// Runs the program while a file is locked. The file and the command are given in one.
-    fn run_held(&mut self, held: &str) {
-        let (path, typed) = held.split_once(" ").unwrap_or((held, ""));
-        match fs::open(self.rt, path) {
-            Ok(file) => {
-                let _ = file.try_lock();
-                self.run(typed);
-            }
-            Err(error) => self.tell(error),
-        }
-    }
-
-    /// Runs `ee run --indexed` on a copy of the image, and then `ee run`, and shows if they print
-    /// or leave other things. Where there is no image to copy, it is `ee run` alone.
-    fn run_both(&mut self, command: &str, image: &str, script: &str) {
-        if fs::copy(self.rt, image, COPY).is_err() {
-            return self.run(command);
-        }
-        self.run_by_index(script);
-        self.run(command);
-        if !self.went_alike(image) {
-            self.show("by index it goes otherwise\n");
-            self.answer.clear();
-        }
-    }
-
-    /// Runs `ee run --indexed` on the copy of the image.
-    fn run_by_index(&mut self, script: &str) {
-        self.words.clear();
-        self.push_words("ee run --indexed");
-        self.push_words(COPY);
-        self.push_words(script);
-        self.run_words();
-        swap(&mut self.answer, &mut self.by_index);
-    }
-
-    /// Whether both runs printed the same, and left the same.
-    fn went_alike(&mut self, image: &str) -> bool {
-        self.read(COPY);
-        let mut by_index = Vec::new(self.rt.alloc());
-        swap(&mut self.file, &mut by_index);
-        self.read(image);
-        self.by_index.as_bytes() == self.answer.as_bytes()
-            && by_index.as_slice() == self.file.as_slice()
-    }
-
-    /// Runs the program on the words of a command.
-    fn run(&mut self, command: &str) {
-        self.words.clear();
-        self.push_words(command);
-        self.run_words();
-    }
-
-    /// Puts the words of a text behind the others.
-    fn push_words(&mut self, text: &str) {
-        for word in text.split_whitespace() {
-            if let Ok(word) = String::from_str(self.rt.alloc(), word) {
-                let _ = self.words.push(word);
-            }
-        }
-    }
-
-    /// Runs the program on the words behind its name. Its status stands in brackets behind what it
-    /// prints, if that isn't 0.
-    fn run_words(&mut self) {
-        let desk = Desk::new(self.rt, self.file.as_slice());
-        let status = match self.words.as_slice() {
-            [_, words @ ..] => run(&desk, words),
-            [] => 0,
-        };
-        self.answer = desk.shown();
-        if status != 0 {
-            let _ = writeln!(self.answer, "[{status}]");
-        }
-    }
+    words
 }

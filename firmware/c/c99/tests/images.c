@@ -27,6 +27,19 @@ struct part {
     bool is_cut, in_erase;
 };
 
+/* What is left of an image on which a store was started: the part before it and behind it, and the store. */
+struct started {
+    struct part fresh, part;
+    ee_store store;
+    struct answer answer;
+};
+
+/* By ee.c and by the library: the part, its driver and the store, and what a call goes on from. */
+static struct part parts[2];
+static ee_flash flashes[2];
+static ee_store stores[2];
+static struct started started[2];
+
 static struct image *images;
 static uint32_t *table; /* of an image by its hash, one more than its place in `images` */
 static size_t found;
@@ -127,29 +140,41 @@ static bool is_within(const struct image *image) {
     return true;
 }
 
-/* Starts a store on an image and makes a call, of which a step is cut. */
-static struct answer run_one(bool by_made, struct part *part, const struct made_call *it, int cut) {
-    ee_flash flash = {.context = part, .pages = 1, .page_words = WORDS, .word = word,
-                      .program = program, .erase = erase, .pairs = pairs};
-    ee_store store;
-    struct made_call start = {START, 0, 0, NULL, 0};
-    bool is_opening = it->call == START || it->call == OPEN || it->call == FORMAT;
-    part->steps_left = -1;
-    struct answer first = {EE_OK, 0, 0, {0, 0, 0, 0, 0, 0}};
-    if (!is_opening) first = make(by_made, &store, &flash, &start);
-    if (first.status != EE_OK) return first;
-    part->steps_left = cut;
-    return make(by_made, &store, &flash, it);
+/* Makes a call on a part. */
+static struct answer make_on(int which, const struct made_call *it) {
+    ee_flash *flash = &flashes[which];
+    *flash = (ee_flash){.context = &parts[which], .pages = 1, .page_words = WORDS, .word = word,
+                        .program = program, .erase = erase, .pairs = pairs};
+    return make(which == 0, &stores[which], flash, it);
 }
 
-/* Makes a call from an image by both, with a cut in a step. Says what became of the flash. */
-static struct part run_both(const struct image *from, const struct made_call *it, int cut, int way) {
-    struct part parts[2];
-    struct answer answers[2];
+/* Starts a store on an image by both, from which `run_both` goes on. */
+static void start_both(const struct image *from) {
+    static const struct made_call start = {START, 0, 0, NULL, 0};
     for (int which = 0; which < 2; which++) {
-        parts[which] = (struct part){*from, 1, -1, way, false, false};
-        answers[which] = run_one(which == 0, &parts[which], it, cut);
+        struct started *it = &started[which];
+        it->fresh = parts[which] = (struct part){*from, 1, -1, 0, false, false};
+        it->answer = make_on(which, &start);
+        it->part = parts[which];
+        it->store = stores[which];
     }
+}
+
+/* Makes a call of the store that was started, or on the image that it was started on, with a cut in a step. */
+static struct answer run_one(int which, const struct made_call *it, int cut, int way) {
+    bool is_opening = it->call == START || it->call == OPEN || it->call == FORMAT;
+    parts[which] = is_opening ? started[which].fresh : started[which].part;
+    stores[which] = started[which].store;
+    if (!is_opening && started[which].answer.status != EE_OK) return started[which].answer;
+    parts[which].steps_left = cut;
+    parts[which].way = way;
+    return make_on(which, it);
+}
+
+/* Makes a call by both, with a cut in a step. Says what became of the flash. */
+static struct part run_both(const struct made_call *it, int cut, int way) {
+    struct answer answers[2];
+    for (int which = 0; which < 2; which++) answers[which] = run_one(which, it, cut, way);
     runs++;
     cuts += parts[0].is_cut;
     if (!is_same(&answers[0], &answers[1])) fail("another answer");
@@ -158,14 +183,14 @@ static struct part run_both(const struct image *from, const struct made_call *it
     return parts[0];
 }
 
-/* All that a call may leave of an image: whole, and cut in each step in each way. */
-static void go_on(const struct image *from, const struct made_call *it) {
-    struct part left = run_both(from, it, -1, 0);
+/* All that a call may leave of the image: whole, and cut in each step in each way. */
+static void go_on(const struct made_call *it) {
+    struct part left = run_both(it, -1, 0);
     if (is_within(&left.image)) meet(&left.image);
     for (int cut = 0;; cut++) {
         int ways = 3;
         for (int way = 0; way < ways; way++) {
-            left = run_both(from, it, cut, way);
+            left = run_both(it, cut, way);
             if (!left.is_cut) return;
             if (left.in_erase) ways = pairs ? 2 * (int)places : WAYS;
             if (is_within(&left.image)) meet(&left.image);
@@ -187,9 +212,8 @@ int main(int argc, char **argv) {
     meet(&blank);
     for (size_t at = 0; at < found; at++) {
         struct image from = images[at];
-        for (size_t i = 0; i < sizeof made_calls / sizeof *made_calls; i++) {
-            go_on(&from, &made_calls[i]);
-        }
+        start_both(&from);
+        for (size_t i = 0; i < sizeof made_calls / sizeof *made_calls; i++) go_on(&made_calls[i]);
     }
     printf("images, pairs %u: all %zu up to generation %u, %llu runs, %llu cuts, the same\n",
            (unsigned)pairs, found, (unsigned)last_generation, (unsigned long long)runs,
