@@ -10,7 +10,8 @@ from collections import namedtuple
 from itertools import product
 
 # The sizes that are tried: the least, one page of 2 KiB, and the greatest.
-SIZES = [(1, 5), (1, 6), (2, 7), (1, 256), (64, 512)]
+PAGES, WORDS = 64, 512
+SIZES = [(1, 5), (1, 6), (2, 7), (1, 256), (PAGES, WORDS)]
 BASES = [0, 8, 0xFFF8, 0x10000, 0x0807F000]
 ALL_ONES = b"\xff" * 8
 MOST_NUMBER = (1 << 64) - 1
@@ -158,20 +159,21 @@ def read_hex(text, base, size):
 def bytes_and_texts(place):
     """A part and its image, its bytes and its text are each other's."""
     chance = random.Random(1)
-    for (flag, written, read), (pages, words), base in product(FORMS, SIZES, BASES):
+    for (flag, written, read), (pages, words) in product(FORMS, SIZES):
         dump = written(random_dump(chance, pages, words))
-        image, text = read(dump, pages, words), hex_of(dump, base)
+        image = read(dump, pages, words)
         place.put("image", image)
         place.expect(f"export{flag} image dump", (0, "exported\n"))
         place.same("dump", dump, f"export{flag} {pages} {words}")
-        place.expect(f"export-hex{flag} image {base:08x} hex", (0, "exported\n"))
-        place.same("hex", text, f"export-hex{flag} {pages} {words} {base:x}")
         place.expect(f"import{flag} {pages} {words} dump again", (0, "imported\n"))
         place.same("again", image, f"import{flag} {pages} {words}")
-        place.put("rows", hex_of(dump, base, chance.choice([1, 7, 32, 255])))
-        for name in ("hex", "rows"):
-            place.expect(f"import-hex{flag} {pages} {words} {base:08X} {name} again", (0, "imported\n"))
-            place.same("again", image, f"import-hex{flag} {pages} {words} {base:x} of {name}")
+        for base in BASES:
+            place.expect(f"export-hex{flag} image {base:08x} hex", (0, "exported\n"))
+            place.same("hex", hex_of(dump, base), f"export-hex{flag} {pages} {words} {base:x}")
+            place.put("rows", hex_of(dump, base, chance.choice([1, 7, 32, 255] if words < WORDS else [32, 255])))
+            for name in ("hex", "rows"):
+                place.expect(f"import-hex{flag} {pages} {words} {base:08X} {name} again", (0, "imported\n"))
+                place.same("again", image, f"import-hex{flag} {pages} {words} {base:x} of {name}")
 
 
 def objcopy(place):
@@ -284,7 +286,7 @@ def greatest_text(place):
 
 
 def greatest_text_of(place, form):
-    dump = form.written(random_dump(random.Random(4), 64, 512))
+    dump = form.written(random_dump(random.Random(4), PAGES, WORDS))
     rows = hex_of(dump, 0)
     end = record(0, 1, b"")
     rows = rows[: -len(end)]
@@ -294,14 +296,14 @@ def greatest_text_of(place, form):
     text = nothing * ((MOST_BYTES - len(text)) // len(nothing)) + text
     place.put("hex", text)
     began = time.monotonic()
-    place.expect(f"import-hex{form.flag} 64 512 00000000 hex image", (0, "imported\n"))
+    place.expect(f"import-hex{form.flag} {PAGES} {WORDS} 00000000 hex image", (0, "imported\n"))
     seconds = time.monotonic() - began
     print(f"import-hex{form.flag} of a text of {len(text)} bytes took {seconds:.2f} seconds", flush=True)
-    place.same("image", form.read(dump, 64, 512), f"the greatest text{form.flag}")
+    place.same("image", form.read(dump, PAGES, WORDS), f"the greatest text{form.flag}")
     if seconds > MOST_SECONDS:
         raise Wrong(f"the greatest text{form.flag} took {seconds:.2f} seconds")
     place.put("hex", text + b" " * (MOST_BYTES + 1 - len(text)))
-    place.expect(f"import-hex{form.flag} 64 512 00000000 hex never", (3, "ee: dump too long\n"))
+    place.expect(f"import-hex{form.flag} {PAGES} {WORDS} 00000000 hex never", (3, "ee: dump too long\n"))
 
 
 def checks(program, folder):

@@ -139,8 +139,9 @@ class Source:
     def text(self, place):
         return self.tokens[place][0] if 0 <= place < len(self.tokens) else ""
 
-    def reads(self, place, *texts):
-        return tuple(self.text(place + count) for count in range(len(texts))) == texts
+    def reads(self, place, first, *others):
+        # Most are told by the first.
+        return self.text(place) == first and all(self.text(place + count) == text for count, text in enumerate(others, 1))
 
     def closed(self, place):
         """The place behind the bracket that closes this one, whatever stands between."""

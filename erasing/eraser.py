@@ -115,8 +115,9 @@ class Eraser:
     def at(self, place):
         return self.tokens[place].text if 0 <= place < len(self.tokens) else ""
 
-    def are(self, place, *texts):
-        return all(self.at(place + offset) == text for offset, text in enumerate(texts))
+    def are(self, place, first, *others):
+        # Most are told by the first.
+        return self.at(place) == first and all(self.at(place + offset) == text for offset, text in enumerate(others, 1))
 
     def refuse(self, place, why):
         start = self.tokens[min(place, len(self.tokens) - 1)].start

@@ -74,7 +74,9 @@ static inline int is_run(const part *p, uint32_t page, uint32_t place, uint32_t 
     return p->fails_in <= p->read || p->fails_in > p->read + count;
 }
 
-static inline void spoil(part *p) { memset(p->buffer, 0x5a, sizeof p->buffer); }
+static inline void spoil(part *p) {
+    if (p->runs == SPOILED) memset(p->buffer, 0x5a, sizeof p->buffer);
+}
 
 static inline const uint64_t *part_words(void *context, uint32_t page, uint32_t place, uint32_t count) {
     part *p = context;

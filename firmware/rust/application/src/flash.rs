@@ -98,13 +98,16 @@ impl Cells {
         assert!(from % self.sector == 0 && to % self.sector == 0 && from < to);
         let blank = vec![0xff; self.unit];
         for sector in (from..to).step_by(self.sector) {
-            let ends = self.ends()?;
-            if self.clears_first && !ends {
+            let units = sector / self.unit..(sector + self.sector) / self.unit;
+            if self.ends()? {
+                self.bytes[sector..sector + self.sector].fill(0xff);
+                self.torn[units].fill(false);
+            } else if self.clears_first {
                 self.clear(sector);
-                continue;
-            }
-            for unit in sector / self.unit..(sector + self.sector) / self.unit {
-                self.leave(unit, &blank, ends);
+            } else {
+                for unit in units {
+                    self.leave(unit, &blank, false);
+                }
             }
         }
         self.still_on()
