@@ -13,7 +13,7 @@ use Rattle.ee_flash.specs.declared.word.Word.{Word}
 use Rattle.ee_flash.specs.declared.word.Word.TheVariants.{Erased, Torn}
 use Rattle.ee_flash.proofs.Public.{joined_pages, pages_join}
 use Rattle.ee_dump.specs.Pair.{AreWordsOfPairs}
-use Rattle.ee_dump.specs.Dump.{IsDump, IsFirstTorn, IsImport, IsSpelledBy, IsWholePage, dump_length, word_bytes, words_of}
+use Rattle.ee_dump.specs.Dump.{IsDump, IsFirstTorn, IsImport, IsSpelledBy, IsWholePage, dump_length, word_bytes, device_words}
 use Rattle.ee_dump.specs.Fault.{HasLowPair}
 use Rattle.ee_dump.specs.Laws.{unworn_device}
 use Rattle.ee_dump.specs.Reading.{AreCells, AreSpelledBy, AreWhole}
@@ -46,7 +46,7 @@ below_of_pages (page ∷ pages) each =
     (below_of_pages pages (All-tail (All IsBelowAllOnes) page pages each))
 
 whole_of : (form : Form) (device : Device) (dump : List ℕ) → IsFormed device
-    → IsDump form device dump → AreWhole (words_of device)
+    → IsDump form device dump → AreWhole (device_words device)
 whole_of form device dump formed is = record {
   none_torn = whole_words device is.whole;
   below_all_ones = below_of_pages device.image formed.below_all_ones;
@@ -63,11 +63,11 @@ pub dumps_are_bytes : (form : Form) (device : Device) (dump : List ℕ) → IsDu
     → (i : ℕ) → get_or dump i 0 < 256
 dumps_are_bytes form device dump is i =
     subst (λ (l : List ℕ). get_or l i 0 < 256) (sym is.bytes_are)
-    (words_are_bytes form (words_of device) i)
+    (words_are_bytes form (device_words device) i)
 
 -- and bytes that made a device are as long, and have no pair that sums to less than all ones
 pairs_length : (device : Device) (dump : List ℕ) → IsFormed device
-    → AreWordsOfPairs dump (words_of device) → length dump ≡ dump_length Pairs device.size
+    → AreWordsOfPairs dump (device_words device) → length dump ≡ dump_length Pairs device.size
 pairs_length device dump formed are = search (rules, length_of_pages, length-pairs, length-map)
 
 pub imports_are_read : (form : Form) (size : Size) (dump : List ℕ) (device : Device)
@@ -82,7 +82,7 @@ imports_are_read Words size dump device formed made = (
 imports_are_read Pairs size dump device formed made = (
   pairs_length device dump formed made.dump_is
       ∙ ap (λ (d : Device). dump_length Pairs d.size) made.never_used,
-  λ page at has. no_low_pair size dump (words_of device) page at made.dump_is has.1,
+  λ page at has. no_low_pair size dump (device_words device) page at made.dump_is has.1,
 )
 
 -- the bytes of a dump of pairs spell its words
@@ -90,24 +90,24 @@ spelled_by : (device : Device) (dump : List ℕ) → IsFormed device → IsDump 
     → IsSpelledBy Pairs dump device
 spelled_by device dump formed is =
     subst (λ (l : List ℕ). IsSpelledBy Pairs l device) (sym is.bytes_are)
-    (pairs_of_words (words_of device) (whole_of Pairs device dump formed is))
+    (pairs_of_words (device_words device) (whole_of Pairs device dump formed is))
 
 -- a device's dump spells no other words than its own
 one_row : (form : Form) (device other : Device) (dump : List ℕ) → IsFormed device → IsFormed other
-    → IsDump form device dump → IsSpelledBy form dump other → words_of device ≡ words_of other
+    → IsDump form device dump → IsSpelledBy form dump other → device_words device ≡ device_words other
 one_row Words device other dump formed right is suits =
-    words_injective Words (words_of device) (words_of other) (whole_of Words device dump formed is)
+    words_injective Words (device_words device) (device_words other) (whole_of Words device dump formed is)
     (whole_of Words other dump right suits) (sym is.bytes_are ∙ suits.bytes_are)
 one_row Pairs device other dump formed right is suits =
-    one_row_of_words dump (words_of device) (words_of other) (spelled_by device dump formed is)
+    one_row_of_words dump (device_words device) (device_words other) (spelled_by device dump formed is)
     suits
 
 -- two devices of one size with the same words have the same pages
 one_image : (device other : Device) → IsFormed device → IsFormed other → device.size ≡ other.size
-    → words_of device ≡ words_of other → device.image ≡ other.image
+    → device_words device ≡ device_words other → device.image ≡ other.image
 one_image device other formed right size words =
     sym (joined_pages device.size device.image formed.image_length formed.page_lengths)
-    ∙ ap (λ s. pages_of s (words_of device)) size
+    ∙ ap (λ s. pages_of s (device_words device)) size
     ∙ ap (pages_of other.size) words
     ∙ joined_pages other.size other.image right.image_length right.page_lengths
 
@@ -122,7 +122,7 @@ none_low : (form : Form) (device : Device) (dump : List ℕ) → IsFormed device
     → IsDump form device dump → (page at : ℕ) → HasLowPair form device.size dump page at → ⊥
 none_low Words device dump formed is page at has = has
 none_low Pairs device dump formed is page at has =
-    no_low_pair device.size dump (words_of device) page at (spelled_by device dump formed is) has.1
+    no_low_pair device.size dump (device_words device) page at (spelled_by device dump formed is) has.1
 
 pub import_of_export_lem : (form : Form) (device other : Device) (dump : List ℕ) → IsFormed device
     → IsDump form device dump
@@ -137,7 +137,7 @@ pub whole_import_lem : (form : Form) (size : Size) (dump : List ℕ) (device : D
 whole_import_lem Words size dump device formed import whole = import.dump_is
 whole_import_lem Pairs size dump device formed import whole = record {
   whole = whole;
-  bytes_are = bytes_of_whole dump (words_of device) import.dump_is (whole_words device whole);
+  bytes_are = bytes_of_whole dump (device_words device) import.dump_is (whole_words device whole);
 }
 
 pub one_device_lem : (form : Form) (device other : Device) (dump : List ℕ) → IsFormed device
@@ -149,7 +149,7 @@ one_device_lem form device other dump formed right size wear is suits =
 
 -- words as a device that was never used
 spelled_cells : (form : Form) (dump : List ℕ) (words : List Word) (device : Device)
-    → AreSpelledBy form dump words → words_of device ≡ words → IsSpelledBy form dump device
+    → AreSpelledBy form dump words → device_words device ≡ words → IsSpelledBy form dump device
 spelled_cells Words dump words device are join = record {
   whole = whole_pages device (subst (All (λ word. word ≢ Torn)) (sym join) are.0.none_torn);
   bytes_are = sym are.1 ∙ ap (flat_map (word_bytes Words)) (sym join);
@@ -194,7 +194,7 @@ dump_or_torn_lem form device =
     elim (first_or_whole device) [
       | inl first ↦ inr first
       | inr whole ↦ inl
-          (flat_map (word_bytes form) (words_of device), record { whole = whole; bytes_are = refl })
+          (flat_map (word_bytes form) (device_words device), record { whole = whole; bytes_are = refl })
     ]
 
 -- the words that were read, as the device in memory

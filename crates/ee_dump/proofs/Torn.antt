@@ -7,7 +7,7 @@ use Rattle.std.proofs.lemmas.List.Elements.{All-append, All-from_get_or, All-nil
 use Rattle.ee_flash.specs.Device.{Device}
 use Rattle.ee_flash.specs.declared.word.Word.{Word}
 use Rattle.ee_flash.specs.declared.word.Word.TheVariants.{Erased, Held, Torn}
-use Rattle.ee_dump.specs.Dump.{IsDump, IsFirstTorn, IsWholePage, words_of}
+use Rattle.ee_dump.specs.Dump.{IsDump, IsFirstTorn, IsWholePage, device_words}
 use Rattle.ee_dump.specs.declared.form.Form.{Form}
 use Rattle.ee_dump.proofs.Words.{erased_whole, held_whole}
 
@@ -24,7 +24,7 @@ all_whole (page ∷ pages) whole =
 
 -- the words of a device without a torn one
 pub whole_words : (device : Device) → ((page : ℕ) → IsWholePage device page)
-    → All (λ word. word ≢ Torn) (words_of device)
+    → All (λ word. word ≢ Torn) (device_words device)
 whole_words device whole = all_whole device.image whole
 
 front_whole : (words more : List Word) → All (λ word. word ≢ Torn) (words ++ more)
@@ -56,7 +56,7 @@ whole_at (words ∷ pages) each (suc page) at =
     whole_at pages (back_whole words (flat_map (λ page. page) pages) each) page at
 
 -- and back
-pub whole_pages : (device : Device) → All (λ word. word ≢ Torn) (words_of device) → (page : ℕ)
+pub whole_pages : (device : Device) → All (λ word. word ≢ Torn) (device_words device) → (page : ℕ)
     → IsWholePage device page
 whole_pages device each page = whole_at device.image each page
 

@@ -27,8 +27,8 @@ word_length Words = 8
 word_length Pairs = 16
 
 -- the words of a device, page after page
-abbrev pub words_of : Device → List Word
-words_of device = flat_map (λ page. page) device.image
+abbrev pub device_words : Device → List Word
+device_words device = flat_map (λ page. page) device.image
 
 -- as many bytes as the words of both sets have
 abbrev pub dump_length : Form → Size → ℕ
@@ -41,7 +41,7 @@ IsWholePage device page = (at : ℕ) → word_at device page at ≢ Torn
 -- no word of the device is torn, and these are the bytes of all of them
 pub record IsDump (form : Form) (device : Device) (dump : List ℕ) : Type 0 where
   pub whole : (page : ℕ) → IsWholePage device page
-  pub bytes_are : dump ≡ flat_map (word_bytes form) (words_of device)
+  pub bytes_are : dump ≡ flat_map (word_bytes form) (device_words device)
 
 -- the word there is torn; no page before has a torn word, and no place before in this page
 pub record IsFirstTorn (device : Device) (page at : ℕ) : Type 0 where
@@ -52,7 +52,7 @@ pub record IsFirstTorn (device : Device) (page at : ℕ) : Type 0 where
 -- the bytes spell the words of the device, of which pairs may spell torn ones too
 abbrev pub IsSpelledBy : Form → List ℕ → Device → Type 0
 IsSpelledBy Words dump device = IsDump Words device dump
-IsSpelledBy Pairs dump device = AreWordsOfPairs dump (words_of device)
+IsSpelledBy Pairs dump device = AreWordsOfPairs dump (device_words device)
 
 -- the device of this size with these words, which but for them was never used
 pub record IsImport (form : Form) (size : Size) (dump : List ℕ) (device : Device) : Type 0 where

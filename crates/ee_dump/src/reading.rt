@@ -43,7 +43,7 @@ pub fn read_dump<A: Allocator + Copy>(
     }
     let cells = read_cells(alloc, shape, form, dump)?;
     let wear = vec![in alloc; 0; 2 * shape.pages()]?;
-    match MemFlash::from_cells(shape, cells, wear) {
+    match MemFlash::of_cells(shape, cells, wear) {
         Ok(flash) => Ok(flash),
         Err(_) => unreachable!("the words are those of both sets"),
     }

@@ -1,11 +1,21 @@
 -- Words of a page as numbers.
-use Rattle.std.proofs.Common.{◌≡◌, ℕ, ◌+◌, ◌<◌, ◌≤◌, List, [], drop, length, get_or, sym, ap, take, ◌∙◌, arith}
+use Rattle.std.proofs.Common.{◌≡◌, ℕ, ◌+◌, ◌<◌, ◌≤◌, List, [], drop, length, get_or, map, sym, ap, take, ◌∙◌, arith}
 use Rattle.std.proofs.lemmas.List.{get_or-drop, get_or-map, get_or-take, length-drop, length-map, length-take}
 use Rattle.std.proofs.lemmas.Grind.{same_number_lists}
 use Rattle.ee_flash.specs.Device.{Device, IsFormed, page_at, word_at}
 use Rattle.ee_flash.specs.Runs.{number_of, run_of}
 use Rattle.ee_flash.specs.Size.{page_count}
+use Rattle.ee_flash.specs.declared.word.Word.{Word}
 use Rattle.ee_flash.specs.declared.word.Word.TheVariants.{Erased}
+
+-- numbers that are those of the words place by place are those of the words
+pub same_numbers : (words : List Word) (numbers : List ℕ) → length numbers ≡ length words
+    → ((k : ℕ) → k < length words → get_or numbers k 0 ≡ number_of (get_or words k Erased))
+    → numbers ≡ map number_of words
+same_numbers words numbers as_long each =
+    same_number_lists numbers (map number_of words) (as_long ∙ sym (length-map words number_of))
+    (λ k h. each k (omega arith)
+    ∙ sym (get_or-map number_of words k Erased 0 (omega (arith, length-map words number_of))))
 
 -- a run has as many numbers as it has words
 pub length-run_of : (device : Device) (page at count : ℕ) → IsFormed device

@@ -8,6 +8,7 @@ pub mod Fuse
 pub mod Pages
 pub mod Formed
 pub mod Cells
+pub mod Kept
 pub mod Memory
 pub mod Laws
 pub mod Endurance

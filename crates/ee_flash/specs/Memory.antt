@@ -3,6 +3,7 @@ use Rattle.std.specs.Prelude.{◌≡◌, ℕ, Option, Some, None, false, is_some
 use Rattle.ee_flash.specs.Device.{Device, IsOn, page_at}
 use Rattle.ee_flash.specs.Step.{Step, Program, Erase, device_after, one_more, with_page, with_word, with_page_worn}
 use Rattle.ee_flash.specs.Fuse.{cuts_left_of, left_page, left_word, next_fuse, next_tear}
+use Rattle.ee_flash.specs.Kept.{words_of}
 use Rattle.ee_flash.specs.Pages.{pages_of}
 use Rattle.ee_flash.specs.declared.fuse.Fuse.{Fuse}
 use Rattle.ee_flash.specs.declared.fuse.Tear.{Tear}
@@ -19,7 +20,7 @@ module _ {A : Type 0} where
   abbrev pub device_of : MemFlash A → Device
   device_of flash = record {
     size = flash.shape;
-    image = pages_of flash.shape flash.cells;
+    image = pages_of flash.shape (words_of flash.cells);
     wear = flash.wear.items;
     cuts = flash.cuts;
     cuts_left = cuts_left_of flash.fuse;

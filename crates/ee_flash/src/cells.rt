@@ -1,7 +1,9 @@
 //! Words in memory: their numbers, and which of them are torn.
-ghost use Rattle.std.specs.Prelude.{◌≡◌, ◌<◌, ◌≤◌, ◌+◌, ◌-◌, [], ◌∷◌, ◌++◌, IfOk, OnErr, OnOk, drop, length, map, replicate, slice_index_or, slice_set, take};
+ghost use Rattle.std.specs.Bool.{MatchBool};
+ghost use Rattle.std.specs.Prelude.{◌≡◌, ◌<◌, ◌≤◌, ◌+◌, ◌-◌, [], ◌∷◌, ◌++◌, IfNone, IfOk, IfSome, OnErr, OnOk, drop, length, map, replicate, slice_index_or, slice_set, take};
 ghost use Rattle.std.specs.List.{All};
-ghost use Rattle.ee_flash.specs.Device.{IsBelowAllOnes};
+ghost use Rattle.ee_flash.specs.Cells.{IsFirstAllOnes};
+ghost use Rattle.ee_flash.specs.Device.{IsBelowAllOnes, all_ones};
 ghost use Rattle.ee_flash.specs.Fuse.{left_page};
 ghost use Rattle.ee_flash.specs.Runs.{number_of, torn_flag, flagged_word};
 
@@ -113,18 +115,103 @@ impl<A: Allocator> Cells<A> {
         self.numbers[place] = word.number();
         self.torn[place] = is_torn(word);
     }
+}
+
+/// The words of a device in the form in which they came.
+#[derive(Drop)]
+pub(crate) enum Kept<A: Allocator = Global> {
+    /// As numbers and flags. A run of them is lent where it stands.
+    Cells(Cells<A>),
+    /// Word by word. A run of them takes room.
+    Words(Vec<Word, A>),
+}
+
+impl<A: Allocator> Kept<A> {
+    ghost use Rattle.ee_flash.specs.Kept.{words_of};
+
+    /// The word in a place.
+    pub(crate) fn word(&self, place: usize) -> Word
+        requires { place < length (words_of self.now) }
+        ensures { result ≡ slice_index_or (words_of self.now) place Word.Erased }
+    {
+        match self {
+            Kept::Cells(cells) => cells.word(place),
+            Kept::Words(words) => words[place],
+        }
+    }
+
+    /// The numbers of the words from a place on, as many as there is room for.
+    pub(crate) fn run<'a>(&'a self, start: usize, room: &'a mut [u64]) -> &'a [u64]
+        requires { start + length room.old ≤ length (words_of self.now) }
+        ensures { result.now
+            ≡ map number_of (take (length room.old) (drop start (words_of self.now))) }
+    {
+        match self {
+            Kept::Cells(cells) => cells.numbers(start, room.len()),
+            Kept::Words(words) => {
+                put_numbers(&words[start..start + room.len()], room);
+                room
+            }
+        }
+    }
+
+    /// Puts a word in a place, whatever was there.
+    pub(crate) fn set(&mut self, place: usize, word: Word)
+        requires within { place < length (words_of self.old) }
+        requires below_all_ones { IsBelowAllOnes word }
+        ensures { words_of self.new ≡ slice_set (words_of self.old) place word }
+    {
+        match self {
+            Kept::Cells(cells) => cells.set(place, word),
+            Kept::Words(words) => words[place] = word,
+        }
+    }
 
     /// Leaves the words from a place up to another as an erase of their page with this tear does.
+    // So a whole erase gets a loop of its own, which looks at no tear.
+    #[inline]
     pub(crate) fn tear(&mut self, start: usize, end: usize, tear: Tear)
         requires in_order { start ≤ end }
-        requires within { end ≤ length self.old }
-        ensures { let left = left_page tear (take (end - start) (drop start self.old)) in
-            self.new ≡ take start self.old ++ (left ++ drop (end - start) (drop start self.old)) }
+        requires within { end ≤ length (words_of self.old) }
+        requires below_all_ones { All IsBelowAllOnes (words_of self.old) }
+        ensures { let words = words_of self.old in
+            let left = left_page tear (take (end - start) (drop start words)) in
+            words_of self.new ≡ take start words ++ (left ++ drop (end - start) (drop start words)) }
     {
         for place in start..end {
             let word = tear.erased(place - start, self.word(place));
             self.set(place, word);
         }
+    }
+}
+
+/// The index of the first word that is held at `u64::MAX`.
+pub(crate) fn first_all_ones(words: &[Word]) -> Option<usize>
+    ensures found { IfSome result (IsFirstAllOnes words.now) }
+    ensures none { IfNone result (All IsBelowAllOnes words.now) }
+{
+    for (at, word) in words.iter().enumerate() {
+        if is_all_ones(*word) {
+            return Some(at);
+        }
+    }
+    None
+}
+
+/// Whether the word is held at `u64::MAX`.
+fn is_all_ones(word: Word) -> bool
+    ensures { MatchBool result (word ≡ Word.Held all_ones) (IsBelowAllOnes word) }
+{
+    matches!(word, Word::Held(u64::MAX))
+}
+
+/// Puts the numbers of these words into the room, which is as long.
+fn put_numbers(words: &[Word], room: &mut [u64])
+    requires { length room.old ≡ length words.now }
+    ensures { room.new ≡ map number_of words.now }
+{
+    for (at, number) in room.iter_mut().enumerate() {
+        *number = words[at].number();
     }
 }
 

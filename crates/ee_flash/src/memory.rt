@@ -1,9 +1,11 @@
 //! The flash device in memory: its words, the wears of its pages, and a fuse that may cut a step.
-ghost use Rattle.std.specs.Prelude.{true, ◌<◌, ◌≤◌, ◌*◌, ◌≡◌, ◌⊎◌, ◌+◌, ◌↔◌, IfOk, IsTrue, OnErr, OnOk, is_ok, length, replicate, vec_len};
+ghost use Rattle.std.specs.Prelude.{true, ◌<◌, ◌≤◌, ◌*◌, ◌≡◌, ◌⊎◌, ◌+◌, ◌↔◌, IfErr, IfOk, IsTrue, OnErr, OnOk, is_ok, length, replicate, vec_len};
 ghost use Rattle.std.specs.List.{All};
 ghost use Rattle.ee_flash.specs.Device.{IsBelowAllOnes, all_ones, page_at};
+ghost use Rattle.ee_flash.specs.Kept.{words_of};
 ghost use Rattle.ee_flash.specs.Size.{IsWithinLimits, page_count};
 
+use crate::cells::{Kept, first_all_ones};
 use crate::{Cells, Cut, Flash, Fuse, Shape, Tear, Word};
 use std::alloc::{AllocError, Allocator, Global};
 
@@ -13,6 +15,17 @@ use std::alloc::{AllocError, Allocator, Global};
 #[derive(Clone, Copy, Debug, PartialEq, Eq)]
 pub struct WrongLength;
 
+/// Why words that may hold any number, and wears, are no device.
+///
+/// Source: ours.
+#[derive(Clone, Copy, Debug, PartialEq, Eq)]
+pub enum CellFault {
+    /// The words or the wears are not as many as the shape says.
+    WrongLength,
+    /// The word at this index, counted from 0 and the first of its kind, is held at `u64::MAX`.
+    AllOnes(usize),
+}
+
 /// A flash device in memory, with a fuse that may cut a step.
 ///
 /// Source: ours.
@@ -20,15 +33,15 @@ pub struct WrongLength;
 pub struct MemFlash<A: Allocator = Global> {
     shape: Shape,
     /// The words of the first page, then those of the second, and so on.
-    cells: Cells<A>,
+    cells: Kept<A>,
     wear: Vec<u64, A>,
     cuts: u64,
     on: bool,
     steps: u64,
     fuse: Option<Fuse>,
     ghost within_limits: { IsWithinLimits shape },
-    ghost cells_length: { length cells ≡ page_count shape * shape.words },
-    ghost below_all_ones: { All IsBelowAllOnes cells },
+    ghost cells_length: { length (words_of cells) ≡ page_count shape * shape.words },
+    ghost below_all_ones: { All IsBelowAllOnes (words_of cells) },
     ghost wear_length: { vec_len wear ≡ page_count shape },
     ghost wear_fits: { All (λ count. count ≤ all_ones) wear.items },
     ghost cuts_fit: { cuts ≤ all_ones },
@@ -49,21 +62,13 @@ impl<A: Allocator + Copy> MemFlash<A> {
         let pages = 2 * shape.pages();
         let cells = Cells::erased(alloc, pages * shape.words())?;
         let wear = vec![in alloc; 0; pages]?;
-        Ok(MemFlash {
-            shape,
-            cells,
-            wear,
-            cuts: 0,
-            on: true,
-            steps: 0,
-            fuse: None,
-        })
+        Ok(Self::unused(shape, Kept::Cells(cells), wear))
     }
 }
 
 impl<A: Allocator> MemFlash<A> {
     ghost use Rattle.ee_flash.specs.Memory.{with_fuse, with_step_begun, device_of, memory_of, unused_memory, with_device};
-    ghost use Rattle.ee_flash.specs.Cells.{HasLengths, device_from};
+    ghost use Rattle.ee_flash.specs.Cells.{HasLengths, IsCellFault, device_from};
     ghost use Rattle.ee_flash.specs.Device.{IsOff, IsOn};
     ghost use Rattle.ee_flash.specs.Step.{IsPartlyErased, with_page, with_word, with_page_worn};
     ghost use Rattle.ee_flash.specs.Fuse.{left_page, next_tear};
@@ -73,20 +78,56 @@ impl<A: Allocator> MemFlash<A> {
     ///
     /// # Errors
     ///
+    /// The first that applies, and both vectors are dropped: `WrongLength`, where the words or the
+    /// wears are not those of two sets of pages; `AllOnes`, where a word is held at `u64::MAX`.
+    pub fn from_cells(
+        shape: Shape,
+        words: Vec<Word, A>,
+        wear: Vec<u64, A>,
+    ) -> Result<Self, CellFault>
+        ensures device { IfOk result
+            (λ flash. memory_of flash ≡ unused_memory (device_from shape words.items wear.items)) }
+        ensures lengths { OnOk result (HasLengths shape words.items wear.items) }
+        ensures below_all_ones { OnOk result (All IsBelowAllOnes words.items) }
+        ensures fault { IfErr result (IsCellFault shape words.items wear.items) }
+    {
+        if !are_as_many(shape, words.len(), wear.len()) {
+            return Err(CellFault::WrongLength);
+        }
+        if let Some(at) = first_all_ones(&words) {
+            return Err(CellFault::AllOnes(at));
+        }
+        Ok(Self::unused(shape, Kept::Words(words), wear))
+    }
+
+    /// The device of these words and wears, as `from_cells` has it, where the words stand as
+    /// numbers and flags: its runs take no room.
+    ///
+    /// # Errors
+    ///
     /// `WrongLength`, where the words or the wears are not those of two sets of
     /// pages. Both are dropped.
-    pub fn from_cells(shape: Shape, cells: Cells<A>, wear: Vec<u64, A>) -> Result<Self, WrongLength>
+    pub fn of_cells(shape: Shape, cells: Cells<A>, wear: Vec<u64, A>) -> Result<Self, WrongLength>
         ensures device { IfOk result
             (λ flash. memory_of flash ≡ unused_memory (device_from shape cells wear.items)) }
         ensures lengths { OnOk result (HasLengths shape cells wear.items) }
         ensures below_all_ones { OnOk result (All IsBelowAllOnes cells) }
         ensures fault { OnErr result (¬ HasLengths shape cells wear.items) }
     {
-        let pages = 2 * shape.pages();
-        if cells.len() != pages * shape.words() || wear.len() != pages {
+        if !are_as_many(shape, cells.len(), wear.len()) {
             return Err(WrongLength);
         }
-        Ok(MemFlash {
+        Ok(Self::unused(shape, Kept::Cells(cells), wear))
+    }
+
+    /// The device of these words and wears, which are those of two sets of pages.
+    fn unused(shape: Shape, cells: Kept<A>, wear: Vec<u64, A>) -> Self
+        requires lengths { HasLengths shape (words_of cells) wear.items }
+        requires below_all_ones { All IsBelowAllOnes (words_of cells) }
+        ensures { memory_of result
+            ≡ unused_memory (device_from shape (words_of cells) wear.items) }
+    {
+        MemFlash {
             shape,
             cells,
             wear,
@@ -94,7 +135,7 @@ impl<A: Allocator> MemFlash<A> {
             on: true,
             steps: 0,
             fuse: None,
-        })
+        }
     }
 
     /// Sets the fuse: `after` further steps pass and the next one is cut. A new fuse replaces an
@@ -145,7 +186,7 @@ impl<A: Allocator> MemFlash<A> {
     fn page_start(&self, page: usize) -> usize
         requires { page < page_count self.now.shape }
         ensures value { result ≡ page * self.now.shape.words }
-        ensures within { result + self.now.shape.words ≤ length self.now.cells }
+        ensures within { result + self.now.shape.words ≤ length (words_of self.now.cells) }
         ensures few { result + self.now.shape.words ≤ 65536 }
     {
         page * self.shape.words()
@@ -191,6 +232,15 @@ impl<A: Allocator> MemFlash<A> {
     }
 }
 
+/// Whether there are as many words and wears as a device of this shape has.
+fn are_as_many(shape: Shape, words: usize, wears: usize) -> bool
+    ensures { IsTrue result
+        ↔ ((words ≡ page_count shape * shape.words) × (wears ≡ page_count shape)) }
+{
+    let pages = 2 * shape.pages();
+    words == pages * shape.words() && wears == pages
+}
+
 impl<A: Allocator> Flash for MemFlash<A> {
     ghost use Rattle.ee_flash.specs.Memory.{Passes, after_step, device_of, memory_of, with_device};
     ghost use Rattle.ee_flash.specs.Device.{IsOn, word_at};
@@ -201,7 +251,7 @@ impl<A: Allocator> Flash for MemFlash<A> {
     ghost device = { device_of };
 
     ghost formed = { λ flash. IsFormed-pages_of
-        flash.shape flash.cells flash.wear.items flash.cuts flash.fuse flash.on
+        flash.shape (words_of flash.cells) flash.wear.items flash.cuts flash.fuse flash.on
         flash.within_limits flash.cells_length flash.below_all_ones
         (sym flash.wear.ok.0 ∙ flash.wear_length) flash.wear_fits flash.cuts_fit };
 
@@ -222,7 +272,7 @@ impl<A: Allocator> Flash for MemFlash<A> {
     }
 
     fn run<'a>(&'a self, page: usize, at: usize, room: &'a mut [u64]) -> &'a [u64] {
-        self.cells.numbers(self.page_start(page) + at, room.len())
+        self.cells.run(self.page_start(page) + at, room)
     }
 
     /// Programs an erased word, as any device does; what a cut leaves is what the fuse says.

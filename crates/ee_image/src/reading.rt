@@ -54,7 +54,7 @@ pub fn read_image<A: Allocator + Copy>(alloc: A, bytes: &[u8]) -> Result<MemFlas
         return Err(ImageFault::BadShape);
     };
     let (cells, wear) = read_pages(alloc, shape, rest)?;
-    match MemFlash::from_cells(shape, cells, wear) {
+    match MemFlash::of_cells(shape, cells, wear) {
         Ok(flash) => Ok(flash),
         Err(_) => unreachable!("each page has its words and its wear"),
     }

@@ -3,6 +3,7 @@ use Rattle.std.proofs.Common.{◌≡◌, ◌∙◌, ℕ, zero, suc, Bool, false,
 use Rattle.std.specs.List.{filter, list_any}
 use Rattle.ee_flash.specs.Device.{Device, IsFormed, blank_device}
 use Rattle.ee_flash.specs.Formed.{IsFormed-pages_of}
+use Rattle.ee_flash.specs.Kept.{words_of}
 use Rattle.ee_flash.specs.Memory.{device_of}
 use Rattle.ee_flash.specs.Size.{Size, page_count}
 use Rattle.ee_flash.specs.declared.memory.MemFlash.{MemFlash}
@@ -18,8 +19,8 @@ use Rattle.ee_image_store.proofs.Erasing.{by_wear, unworn}
 -- a device in memory is formed
 pub formed_of : {A : Type 0} (flash : MemFlash A) → IsFormed (device_of flash)
 formed_of flash =
-    IsFormed-pages_of flash.shape flash.cells flash.wear.items flash.cuts flash.fuse flash.on
-    flash.within_limits
+    IsFormed-pages_of flash.shape (words_of flash.cells) flash.wear.items flash.cuts flash.fuse
+    flash.on flash.within_limits
     flash.cells_length flash.below_all_ones (sym flash.wear.ok.0 ∙ flash.wear_length)
     flash.wear_fits flash.cuts_fit
 

@@ -1,8 +1,8 @@
 //! A device of words on a flash of numbers.
-ghost use Rattle.std.specs.Prelude.{◌≡◌, ℕ, IfErr, IfOk, true};
+ghost use Rattle.std.specs.Prelude.{◌≡◌, ℕ, IfErr, IfOk, OnOk, false, true};
 ghost use Rattle.ee_flash.specs.Device.{all_ones};
 ghost use Rattle.ee_pairs.specs.Nor.{number_at};
-ghost use Rattle.ee_pairs.specs.Pairs.{IsLowFault, IsSafe, complement, pair_word};
+ghost use Rattle.ee_pairs.specs.Pairs.{IsLowFault, IsSafe, NoLowPair, complement, pair_word};
 ghost use Rattle.ee_pairs.specs.Wiping.{IsWipeCut, with_all_wiped};
 
 use crate::low_pair::{LowPair, first_low};
@@ -33,6 +33,8 @@ impl<N: Nor + Drop> Pairs<N> {
     /// `wipe` makes it blank.
     pub fn of(nor: N) -> Result<Pairs<N>, (N, LowPair)>
         ensures same { IfOk result (λ pairs. N.nor pairs.nor ≡ N.nor nor) }
+        ensures looked { OnOk result
+            ((N.nor nor).clears_first ≡ false → NoLowPair (N.nor nor)) }
         ensures fault { IfErr result (λ refused. IsLowFault (N.nor nor) refused.1) }
         ensures untouched { IfErr result (λ refused. N.nor refused.0 ≡ N.nor nor) }
     {

@@ -1,5 +1,4 @@
-use Rattle.std.proofs.Common.{arith, ◌*◌, ◌≡◌, replicate, ap, ◌∙◌, rules}
-use Rattle.std.proofs.lemmas.Grind.{common_steps}
+use Rattle.std.proofs.Common.{◌*◌, ◌≡◌, replicate, ap, ◌∙◌, rules}
 use Rattle.ee_flash.specs.Size.{page_count}
 use Rattle.ee_flash.specs.Pages.{pages_of}
 use Rattle.ee_flash.specs.declared.word.Word.TheVariants.{Erased}
@@ -15,6 +14,3 @@ returns g c =
     let image : pages_of size c.in_ok-cells.cells ≡ _ =
     ap (pages_of size) cells ∙ pages_of-replicate size Erased in
     cc
-
-pub invariant_of-result : goal.invariant_of-result
-invariant_of-result g c = grind (arith, common_steps)

@@ -1,4 +1,5 @@
 use Rattle.std.proofs.Common.{List, ap, ◌∙◌}
+use Rattle.ee_flash.specs.Kept.{words_of}
 use Rattle.ee_flash.specs.Memory.{Memory, device_of, memory_of, with_device}
 use Rattle.ee_flash.specs.declared.word.Word.{Word}
 use Rattle.ee_flash.proofs.Pages.{torn_page_of}
@@ -8,8 +9,8 @@ pub invariant_of-self-clause-cells_length : goal.invariant_of-self-clause-cells_
 invariant_of-self-clause-cells_length g c =
     let flash = c.args.self.now in
     let torn =
-    torn_page_of flash.shape flash.cells c.args.page c.args.tear flash.cells_length c.requires _
-    _ c.tear.new.self c.page_start-start.ensures.value c.words.ensures.value
+    torn_page_of flash.shape (words_of flash.cells) c.args.page c.args.tear flash.cells_length c.requires _
+    _ (words_of c.tear.new.self) c.page_start-start.ensures.value c.words.ensures.value
     c.tear.ensures in
     torn.as_many ∙ c.args.self.now.cells_length
 
@@ -17,8 +18,8 @@ pub invariant_of-self-clause-below_all_ones : goal.invariant_of-self-clause-belo
 invariant_of-self-clause-below_all_ones g c =
     let flash = c.args.self.now in
     let torn =
-    torn_page_of flash.shape flash.cells c.args.page c.args.tear flash.cells_length c.requires _
-    _ c.tear.new.self c.page_start-start.ensures.value c.words.ensures.value
+    torn_page_of flash.shape (words_of flash.cells) c.args.page c.args.tear flash.cells_length c.requires _
+    _ (words_of c.tear.new.self) c.page_start-start.ensures.value c.words.ensures.value
     c.tear.ensures in
     torn.below_all_ones c.args.self.now.below_all_ones
 
@@ -26,8 +27,8 @@ pub returns-clause-left : goal.returns-clause-left
 returns-clause-left g c =
     let flash = c.args.self.now in
     let torn =
-    torn_page_of flash.shape flash.cells c.args.page c.args.tear flash.cells_length c.requires _
-    _ c.tear.new.self c.page_start-start.ensures.value c.words.ensures.value
+    torn_page_of flash.shape (words_of flash.cells) c.args.page c.args.tear flash.cells_length c.requires _
+    _ (words_of c.tear.new.self) c.page_start-start.ensures.value c.words.ensures.value
     c.tear.ensures in
     let with_pages : List (List Word) → Memory =
     λ pages. with_device (record (device_of flash) { image = pages }) (memory_of flash) in
@@ -37,8 +38,8 @@ pub returns-clause-whole : goal.returns-clause-whole
 returns-clause-whole g c done =
     let flash = c.args.self.now in
     let torn =
-    torn_page_of flash.shape flash.cells c.args.page c.args.tear flash.cells_length c.requires _
-    _ c.tear.new.self c.page_start-start.ensures.value c.words.ensures.value
+    torn_page_of flash.shape (words_of flash.cells) c.args.page c.args.tear flash.cells_length c.requires _
+    _ (words_of c.tear.new.self) c.page_start-start.ensures.value c.words.ensures.value
     c.tear.ensures in
     let with_pages : List (List Word) → Memory =
     λ pages. with_device (record (device_of flash) { image = pages }) (memory_of flash) in
@@ -48,8 +49,8 @@ pub returns-clause-partly : goal.returns-clause-partly
 returns-clause-partly g c =
     let flash = c.args.self.now in
     let torn =
-    torn_page_of flash.shape flash.cells c.args.page c.args.tear flash.cells_length c.requires _
-    _ c.tear.new.self c.page_start-start.ensures.value c.words.ensures.value
+    torn_page_of flash.shape (words_of flash.cells) c.args.page c.args.tear flash.cells_length c.requires _
+    _ (words_of c.tear.new.self) c.page_start-start.ensures.value c.words.ensures.value
     c.tear.ensures in
     torn.partly
 
@@ -57,7 +58,7 @@ pub returns-clause-own_page : goal.returns-clause-own_page
 returns-clause-own_page g c =
     let flash = c.args.self.now in
     let torn =
-    torn_page_of flash.shape flash.cells c.args.page c.args.tear flash.cells_length c.requires _
-    _ c.tear.new.self c.page_start-start.ensures.value c.words.ensures.value
+    torn_page_of flash.shape (words_of flash.cells) c.args.page c.args.tear flash.cells_length c.requires _
+    _ (words_of c.tear.new.self) c.page_start-start.ensures.value c.words.ensures.value
     c.tear.ensures in
     torn.own_page
