@@ -12,8 +12,8 @@ use ee_pages::ScanFault;
 use ee_script::ScriptFault;
 use ee_wear::SinceFault;
 use std::alloc::{AllocError, Allocator};
-use std::error::Error;
 use std::fmt;
+use thiserror::Error;
 
 /// A file that the program reads; the script may be standard input.
 #[derive(Clone, Copy, Debug, PartialEq, Eq)]
@@ -47,7 +47,8 @@ impl fmt::Display for File {
 }
 
 /// What keeps the program from its work.
-#[derive(Clone, Copy, Debug)]
+#[derive(Clone, Copy, Debug, Error)]
+#[error("{}{}{}", self.before(), self.words(), self.behind())]
 pub enum Fault {
     /// Opening or reading failed, or the most read calls were made.
     CannotRead(File),
@@ -252,22 +253,6 @@ impl Fault {
         }
     }
 }
-
-/// What its line says behind `ee: `.
-impl fmt::Display for Fault {
-    ghost use Rattle.std.specs.Prelude.{Some};
-    ghost use Rattle.ee_faults.specs.Fault.{cause};
-
-    ghost output = { λ fault. Some (cause fault) };
-
-    #[tactic(auto, unfolding(crate::specs::Beside::AreLineWords))]
-    fn fmt<W: fmt::Write>(&self, f: &mut fmt::Formatter<W>) -> fmt::Result {
-        let (before, words, behind) = (self.before(), self.words(), self.behind());
-        write!(f, "{before}{words}{behind}")
-    }
-}
-
-impl Error for Fault {}
 
 impl From<ScanFault> for Fault {
     ghost use Rattle.std.specs.Prelude.{◌≡◌};
