@@ -105,8 +105,8 @@ pub fn held_through_cuts()
 {}
 
 /// One word of a live set that went bad costs its own value, and no more, behind any cuts of
-/// rescues and openings too. Of the two words that commit the set it takes that the other set isn't
-/// begun, or is marked whole, and that no cut came.
+/// rescues and openings too. Of the two words that commit the set it takes that the bad one doesn't
+/// read as erased, that the other set isn't begun, or is marked whole, and that no cut came.
 pub fn one_word_costs_no_more()
     ensures { OneWordCostsNoMore }
 {}

@@ -50,6 +50,13 @@ pub trait Lookup {
     /// It can run out of memory.
     ghost takes_memory: { Type 0 };
 
+    /// It can be read anew, of these slots.
+    ghost can_read: { Self → List Word → Type 0 };
+
+    /// How many entries the memory that was lent to it has: 0 if it was lent none. Each of its
+    /// calls keeps it, so a store, which makes no look-up of its own, keeps it too.
+    ghost room: { Self → ℕ };
+
     /// The value of an address, `None` if it has none.
     fn value_of<F: Flash>(&self, flash: &F, layout: &Layout, address: Address) -> Option<u32>
         requires layout { IsLayout (F.device flash.now) layout.now }
@@ -104,7 +111,8 @@ pub trait Lookup {
         ensures new { OnErr result
             ((state_of (F.device flash.now)).map put.address ≡ None) }
         ensures fits { OnErr result
-            (fits self.new (slots_by layout.now (F.device flash.now))) };
+            (fits self.new (slots_by layout.now (F.device flash.now))) }
+        ensures same_room { room self.new ≡ room self.old };
 
     /// Makes room for a transfer with these values. An `Err`, which only a new address meets,
     /// leaves it as it was.
@@ -121,18 +129,21 @@ pub trait Lookup {
         ensures memory { OnErr result takes_memory }
         ensures new { OnErr result (HasNew puts.now (state_of (F.device flash.now)).map) }
         ensures fits { OnErr result
-            (fits self.new (slots_by layout.now (F.device flash.now))) };
+            (fits self.new (slots_by layout.now (F.device flash.now))) }
+        ensures same_room { room self.new ≡ room self.old };
 
     /// Reads anew what it keeps in lent memory. It takes no more memory than it has.
     fn read_anew<F: Flash>(&mut self, flash: &F, layout: &Layout)
         requires layout { IsLayout (F.device flash.now) layout.now }
-        requires fits { fits self.old (slots_by layout.now (F.device flash.now)) }
-        ensures { fits self.new (slots_by layout.now (F.device flash.now)) };
+        requires readable { can_read self.old (slots_by layout.now (F.device flash.now)) }
+        ensures fits { fits self.new (slots_by layout.now (F.device flash.now)) }
+        ensures same_room { room self.new ≡ room self.old };
 
     /// Follows a clear: it finds nothing from here on.
     fn find_nothing(&mut self)
-        ensures { (slots : List Word) → ((address : ℕ) → meaning slots address ≡ None)
-            → fits self.new slots };
+        ensures fits { (slots : List Word) → ((address : ℕ) → meaning slots address ≡ None)
+            → fits self.new slots }
+        ensures same_room { room self.new ≡ room self.old };
 
     /// Makes a change to which no refusal applies in the first free slot. The layout and
     /// the look-up follow.
@@ -156,7 +167,8 @@ pub trait Lookup {
         ensures store { IsStore (F.device flash.new) }
         ensures layout { IsOn (F.device flash.new) → IsLayout (F.device flash.new) layout.new }
         ensures fits { IsOn (F.device flash.new)
-            → fits self.new (slots_by layout.new (F.device flash.new)) };
+            → fits self.new (slots_by layout.new (F.device flash.new)) }
+        ensures same_room { room self.new ≡ room self.old };
 
     /// Makes changes to which no refusal applies with a transfer that they need. The layout and
     /// the look-up follow.
@@ -183,7 +195,8 @@ pub trait Lookup {
         ensures store { IsStore (F.device flash.new) }
         ensures layout { IsOn (F.device flash.new) → IsLayout (F.device flash.new) layout.new }
         ensures fits { IsOn (F.device flash.new)
-            → fits self.new (slots_by layout.new (F.device flash.new)) };
+            → fits self.new (slots_by layout.new (F.device flash.new)) }
+        ensures same_room { room self.new ≡ room self.old };
 }
 
 /// Looks through the slots, and keeps nothing in memory.
@@ -200,6 +213,10 @@ impl Lookup for Slots {
     ghost has_room = { λ slots words puts. Unit {0} };
 
     ghost takes_memory = { ⊥ };
+
+    ghost can_read = { λ slots words. Unit {0} };
+
+    ghost room = { λ slots. 0 };
 
     #[inline(always)]
     fn value_of<F: Flash>(&self, flash: &F, layout: &Layout, address: Address) -> Option<u32> {

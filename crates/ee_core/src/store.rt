@@ -62,6 +62,26 @@ impl<F: Flash + Drop> Store<F> {
             known: Known { layout, lookup },
         }
     }
+
+    /// This store, which finds values by this look-up from here on. The look-up is read anew first,
+    /// and no step is taken.
+    ///
+    /// Source: ours.
+    pub fn with_lookup<L: Lookup + Drop>(self, lookup: L) -> Store<F, L>
+        requires on { IsOn self }
+        requires readable { (layout : Layout) → IsLayout self layout
+            → L.can_read lookup (slots_by layout self) }
+        ensures { result ≡ self }
+    {
+        let Store { flash, known } = self;
+        let layout = known.layout;
+        let mut lookup = lookup;
+        lookup.read_anew(&flash, &layout);
+        Store {
+            flash,
+            known: Known { layout, lookup },
+        }
+    }
 }
 
 impl<F: Flash + Drop, L: Lookup + Drop> Store<F, L> {

@@ -19,6 +19,7 @@ use Rattle.ee_core.specs.declared.change.Change.TheVariants as kinds
 use Rattle.ee_core.specs.declared.change.Put as listed
 use Rattle.ee_core.proofs.Public.{same_counts}
 use Rattle.ee_index.specs.Index.{AddsAddresses, HasIndex, IsIndex, IsReadyFor, IsRoomFor, slot_for}
+use Rattle.ee_index.specs.Lent.{FitsLent, IsTooSmallToMove, Lent, lent_entries, lent_room}
 use Rattle.ee_flash.specs.declared.word.Word.{Word}
 use Rattle.ee_index.proofs.IndexedRooms.{room_as_it_is}
 use Rattle.ee_index.proofs.IndexedStores.{alike_held, entries_live, value_held}
@@ -111,29 +112,21 @@ pub gone_ready : (K G within fits small : Type 0) (ready few : ℕ → Type 0)
 gone_ready K G within _ _ _ _ (kinds.Put _ _) gone given = given.1 gone
 gone_ready K G within _ _ _ _ (kinds.Forget _ _) gone given = given.2 gone
 
-pub kept_room : (G within fits small : Type 0) (room : List listed.Put → Type 0)
-    (puts : List listed.Put) (forgets : Bool)
-    → G → HasRoomToMove ((G → fits) × within × small) (λ puts. G → room puts) puts forgets
-    → HasRoomToMove fits room puts forgets
-kept_room G within _ _ _ _ true kept given = given.0 kept
-kept_room G within _ _ _ _ false kept given = given kept
-
 -- it has room for a transfer, where it is not given up
-pub kept_room_for : (G within small : Type 0) (device : Device) (layout : Layout)
-    (entries : List (ℕ × ℕ)) (puts : List listed.Put) (forgets : Bool)
+pub kept_room_for : (is_given_up : Bool) (lent : Lent) (device : Device) (layout : Layout)
+    (puts : List listed.Put) (forgets : Bool)
     → IsLayout device layout
-    → HasRoomToMove
-    ((G → IsIndex (slots_of (set_of layout.side device)) (slot_for entries)) × within × small)
-    (λ puts. G → IsRoomFor (slots_of (set_of layout.side device)) puts (slot_for entries)) puts
-    forgets
-    → G
+    → HasRoomToMove (FitsLent is_given_up lent (slots_of (set_of layout.side device)))
+    (λ puts. (is_given_up ≡ false
+    → IsRoomFor (slots_of (set_of layout.side device)) puts (slot_for (lent_entries lent)))
+    × (is_given_up ≡ true
+    → IsTooSmallToMove (lent_room lent) (slots_of (set_of layout.side device)) puts)) puts forgets
+    → is_given_up ≡ false
     → IsRoomFor (slots_of (set_of layout.side device)) (if forgets then [] else puts)
-    (slot_for entries)
-kept_room_for G within small device layout entries puts forgets found given kept =
-    let slots = slots_of (set_of layout.side device) in
-    room_for device layout entries puts forgets found
-    (kept_room G within (IsIndex slots (slot_for entries)) small
-    (λ puts. IsRoomFor slots puts (slot_for entries)) puts forgets kept given)
+    (slot_for (lent_entries lent))
+kept_room_for _ lent device layout puts true found given kept =
+    room_for device layout (lent_entries lent) puts true found (given.0 kept)
+kept_room_for _ _ _ _ _ false _ given kept = given.0 kept
 
 -- an index that was kept followed, and one that was given up was read anew
 pub kept_or_read : {X : Type 0} (was is : Bool) → (was ≡ false → X) → (was ≡ true → is ≡ false → X)

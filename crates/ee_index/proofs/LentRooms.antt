@@ -1,6 +1,6 @@
 -- When an index in lent memory is given up: more addresses had a value than there is room for.
 use Rattle.std.proofs.lemmas.Grind.{common_steps}
-use Rattle.std.proofs.Common.{◌≡◌, ◌≢◌, inl, inr, ◌∙◌, ◌<◌, ◌≤◌, ◌+◌, ℕ, true, false, IfSome, Option, Some, None, is_some, List, [], ap, arith, get_or, length, refl, subst, sym, take, rules}
+use Rattle.std.proofs.Common.{◌≡◌, ◌≢◌, inl, inr, ◌∙◌, ◌<◌, ◌≤◌, ◌+◌, ℕ, true, false, IfSome, Option, Some, None, is_some, List, [], ◌∷◌, ap, arith, get_or, length, refl, suc, subst, sym, take, zero, rules}
 use Rattle.std.proofs.lemmas.Bool.{cases_eq}
 use Rattle.std.proofs.lemmas.List.{ext_get_or, get_or-take, length-take, length-take-le}
 use Rattle.ee_codec.specs.Reading.{slot_of}
@@ -23,12 +23,15 @@ use Rattle.ee_core.specs.Lookups.{IsReadyToMake, slots_by}
 use Rattle.ee_core.specs.Transfers.{SetMoved}
 use Rattle.ee_core.specs.declared.change.Change as declared
 use Rattle.ee_core.specs.declared.change.Change.TheVariants as kinds
-use Rattle.ee_core.proofs.Public.{same_counts}
+use Rattle.ee_core.specs.Puts.{AreApart, puts_of}
+use Rattle.ee_core.specs.declared.change.Put as listed
+use Rattle.ee_core.proofs.Public.{one_counted, put-other, same_counts}
 use Rattle.ee_index.specs.Entries.{AreInOrder}
-use Rattle.ee_index.specs.Index.{HasIndex, IsIndex, said_at, says_value, slot_for}
-use Rattle.ee_index.specs.Lent.{Lent, lent_entries, lent_room, FindsNoRoom, IsTooSmallFor, WasTooSmall}
+use Rattle.ee_index.specs.Index.{HasAddresses, HasIndex, IsIndex, said_at, says_value, slot_for}
+use Rattle.ee_index.specs.Lent.{Lent, lent_entries, lent_room, FindsNoRoom, IsTooSmallFor, IsTooSmallToMove, OverfillsIndex, WasTooSmall}
 use Rattle.ee_index.proofs.IndexedAppends.{other_slots}
 use Rattle.ee_index.proofs.IndexedLookups.{live_found}
+use Rattle.ee_index.proofs.IndexedRooms.{changed_alike}
 use Rattle.ee_index.proofs.IndexedStores.{alike, alike_held, count_of, few_of, says_proper, some_is}
 use Rattle.ee_index.proofs.Indexing.{IndexesTo, all_used_said, has_none, latest_further, nothing_if}
 
@@ -266,3 +269,61 @@ small_moved old new layout after changes words room done more =
       within = omega arith;
       too_many = omega (arith, more, fill, counts, done.moved.fill_is);
     }
+
+-- ---- room for values that are about to be put
+
+changed_proper : (puts : List listed.Put) (place : ℕ) (map : Map) → AreApart (puts_of puts)
+    → ((address : ℕ) → is_some (map address) ≡ true → IsAddress address) → (address : ℕ)
+    → is_some (changed_by (puts_of (take place puts)) map address) ≡ true → IsAddress address
+changed_proper _ zero _ _ proper address held = proper address held
+changed_proper [] (suc _) _ _ proper address held = proper address held
+changed_proper (put ∷ puts) (suc place) map each proper address held =
+    changed_proper puts place (map_after (Put put.address put.value) map) each.2
+    (λ named has. elim (cases_eq named put.address) [
+      | inl is ↦ subst IsAddress (sym is) each.0
+      | inr apart ↦ proper named
+          (ap is_some (sym (put-other map put.address put.value named apart)) ∙ has)
+    ]) address held
+
+module _ (puts : List listed.Put) (place : ℕ) (put : listed.Put) (within : place < length puts)
+    (is : put ≡ get_or puts place put) (old now : List (ℕ × ℕ)) (ordered : AreInOrder now)
+    (so_far : HasAddresses (slot_for now) (changed_by (puts_of (take place puts)) (slot_for old)))
+    (absent : slot_for old put.address ≡ None) where
+  overfills : (room : ℕ) → room ≤ length now → OverfillsIndex room (slot_for old) puts
+  overfills room full map same proper each =
+      let before = changed_by (puts_of (take place puts)) map in
+      let addresses : HasAddresses (slot_for now) before =
+      λ address. so_far address
+      ∙ changed_alike (puts_of (take place puts)) (slot_for old) map same address in
+      let count =
+      count_of now ordered
+      (λ address held. changed_proper puts place map each proper address
+      (sym (addresses address) ∙ held))
+      ∙ alike (slot_for now) before addresses 65534 in
+      let none : is_some (map put.address) ≡ false = sym (same put.address) ∙ ap is_some absent in
+      let more = one_counted map puts each place put within is in
+      record {
+        used = place + 1;
+        within = omega (arith, within);
+        too_many = let one = rw none at more in omega (arith, full, count, one);
+      }
+
+  -- where the room is known, it is too small for them
+  pub overfills_known : (room : Option ℕ) → IfSome room (λ room. room ≤ length now)
+      → IfSome room (λ room. OverfillsIndex room (slot_for old) puts)
+  overfills_known None _ = tt
+  overfills_known (Some room) full = overfills room full
+
+pub too_small_to_move : (slots : List Word) (entries : List (ℕ × ℕ)) (puts : List listed.Put)
+    (room : ℕ) → IsIndex slots (slot_for entries) → OverfillsIndex room (slot_for entries) puts
+    → IsTooSmallToMove room slots puts
+too_small_to_move slots entries puts room indexes overfills each =
+    let same : HasAddresses (slot_for entries) (meaning slots) =
+    λ address. alike_held slots (slot_for entries address) (meaning slots address) address
+    (indexes address) in
+    inr (overfills (meaning slots) same
+    (λ address held.
+    let number = some_is (slot_for entries address) (same address ∙ held) in
+    proper_if slots address number.0 (meaning slots address)
+    (ap (λ slot. said_at slots slot address) (sym number.1) ∙ indexes address))
+    each)

@@ -23,3 +23,8 @@ abbrev pub BeginsOver : List Word → LentCursor → Type 0
 BeginsOver slots (ByIndex cursor) =
     (cursor.after ≡ None) × IsFilledLeft slots cursor.fill cursor.after cursor.entries.now
 BeginsOver slots (BySlots course) = Unit {0}
+
+-- it goes by the index
+abbrev pub GoesByIndex : LentCursor → Type 0
+GoesByIndex (ByIndex cursor) = Unit {0}
+GoesByIndex (BySlots course) = ⊥

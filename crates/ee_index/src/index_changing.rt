@@ -1,11 +1,13 @@
 //! Changes with an index: room in it is made before the first step, and it follows without memory.
-ghost use Rattle.std.specs.Prelude.{◌≡◌, ◌<◌, ◌≤◌, ◌+◌, ℕ, [], ◌∷◌, OnErr, OnOk, None, if◌then◌else◌, length, nat_lt};
+ghost use Rattle.std.specs.Prelude.{◌≡◌, ◌<◌, ◌≤◌, ◌+◌, ℕ, [], ◌∷◌, IfSome, OnErr, OnOk, None, if◌then◌else◌, length, nat_lt};
 ghost use Rattle.ee_flash.specs.Device.{IsOn};
 ghost use Rattle.ee_flash.specs.Size.{slot_count};
 ghost use Rattle.ee_pages.specs.Layout.{IsLayout};
 ghost use Rattle.ee_pages.specs.Sets.{set_of, slots_of};
 ghost use Rattle.ee_core.specs.Changes.{Appends, IsCutChange, IsCutMaking, Moves, NeedsTransfer, Proceeds};
 ghost use Rattle.ee_core.specs.Finished.{IsMarked, IsStore};
+ghost use Rattle.ee_index.specs.Entries.{AreInOrder};
+ghost use Rattle.ee_index.specs.Lent.{OverfillsIndex};
 ghost use Rattle.ee_index.specs.Index.{HasAddresses, IsIndex, IsNumberedAfter, IsReadyFor, IsRoomFor, IsShownSame, shown_index, slot_for, without_forgotten};
 ghost use Rattle.ee_pages.specs.Meaning.{Forget as MapForget, Put as MapPut, changed_by, map_after};
 ghost use Rattle.ee_core.specs.CallSteps.{ForgetsHeld, map_change};
@@ -21,7 +23,7 @@ use ee_flash::{Cut, Flash};
 use ee_pages::Layout;
 
 /// Enters each new address of these values with this number. An `Err`, which only a new address
-/// meets, leaves some of them entered.
+/// meets, leaves some of them entered. Where the room is known, it was too small for them all.
 pub(crate) fn enter_hidden<L: Listing>(
     list: &mut L,
     puts: &[Put],
@@ -32,6 +34,9 @@ pub(crate) fn enter_hidden<L: Listing>(
     ensures there { OnOk result (HasAddresses (slot_for (L.list list.new))
         (changed_by (puts_of puts.now) (slot_for (L.list list.old)))) }
     ensures new { OnErr result (HasNew puts.now (slot_for (L.list list.old))) }
+    ensures full { OnErr result (IfSome (L.room list.new)
+        (λ room. OverfillsIndex room (slot_for (L.list list.old)) puts.now)) }
+    ensures same_room { L.room list.new ≡ L.room list.old }
 {
     'entries: for put in puts {
         enter_new(list, put.address, fill)?;
@@ -40,13 +45,17 @@ pub(crate) fn enter_hidden<L: Listing>(
 }
 
 /// Enters an address with this number, if it is new. An `Err`, which only a new address meets,
-/// leaves the index as it was.
+/// leaves the index as it was. Where its room is known, that is full then.
 fn enter_new<L: Listing>(list: &mut L, address: Address, number: usize) -> Result<(), NoMemory>
     requires { number < 65536 }
     ensures shown { IsShownSame number (L.list list.old) (L.list list.new) }
     ensures there { OnOk result (HasAddresses (slot_for (L.list list.new))
         (map_after (MapPut address number) (slot_for (L.list list.old)))) }
     ensures absent { OnErr result (slot_for (L.list list.old) address ≡ None) }
+    ensures full { OnErr result (IfSome (L.room list.new)
+        (λ room. room ≤ length (L.list list.old))) }
+    ensures ordered { OnErr result (AreInOrder (L.list list.old)) }
+    ensures same_room { L.room list.new ≡ L.room list.old }
 {
     if has(list, address) {
         return Ok(());

@@ -62,3 +62,25 @@ pub fn open_indexed<F: Flash + Drop, A: Allocator + Copy>(
         Err(Cut) => Err((flash, IndexedFault::Cut)),
     }
 }
+
+/// `IndexedStore::open`. The store is a type of `ee_core`, so the call is of a trait.
+///
+/// Source: ours.
+pub trait OpenIndexed<F: Flash + Drop, A: Allocator + Copy> {
+    /// `open_indexed`.
+    ///
+    /// # Errors
+    ///
+    /// The device and the first `IndexedFault` that applies.
+    fn open(alloc: A, flash: F) -> Result<IndexedStore<F, A>, (F, IndexedFault)>
+        requires { IsOn (F.device flash) }
+        ensures opened { IfOk result (Opens (F.device flash)) }
+        ensures failed { IfErr result
+            (λ failed. IndexedOpenFails (F.device flash) failed.1 (F.device failed.0)) };
+}
+
+impl<F: Flash + Drop, A: Allocator + Copy> OpenIndexed<F, A> for IndexedStore<F, A> {
+    fn open(alloc: A, flash: F) -> Result<IndexedStore<F, A>, (F, IndexedFault)> {
+        open_indexed(alloc, flash)
+    }
+}

@@ -3,7 +3,7 @@ ghost use Rattle.std.specs.Prelude.{◌≡◌, ◌<◌, ◌+◌, ◌⊎◌, [], 
 ghost use Rattle.ee_flash.specs.Device.{IsOn};
 ghost use Rattle.ee_pages.specs.Layout.{IsLayout};
 ghost use Rattle.ee_core.specs.Lookups.{slots_by};
-ghost use Rattle.ee_index.specs.Cursors.{BeginsOver};
+ghost use Rattle.ee_index.specs.Cursors.{BeginsOver, GoesByIndex};
 ghost use Rattle.ee_index.specs.Entries.{AreInOrder};
 ghost use Rattle.ee_index.specs.Index.{IsIndex, IsIndexBesideHidden, IsNumberedAfter, slot_for};
 ghost use Rattle.ee_index.specs.Lent.{FitsLent, WasTooSmall, lent_entries, lent_room};
@@ -16,8 +16,8 @@ use crate::lent_list::LentList;
 use crate::listing::Listing;
 use crate::reading::{IndexCursor, batch_indexed, count_new, next_indexed, value_indexed};
 use ee_codec::Address;
-use ee_core::inner::{Change, Cursor, Known, append_change, move_changes, parts_of, store_of};
-use ee_core::{Lookup, NoMemory, Put, Slots, Store};
+use ee_core::inner::{Change, Cursor, append_change, move_changes};
+use ee_core::{Lookup, NoMemory, Put, Slots};
 use ee_flash::{Cut, Flash};
 use ee_pages::{Layout, LiveBatch};
 
@@ -75,6 +75,7 @@ impl<'a> LentIndex<'a> {
             → IsIndexBesideHidden (slots_by layout.now (F.device _flash.now))
             (slot_for (lent_entries self.now.list)) }
         ensures begins { BeginsOver (slots_by layout.now (F.device _flash.now)) result }
+        ensures by_index { self.now.is_given_up ≡ false → GoesByIndex result }
         ensures ordered { self.now.is_given_up ≡ false → AreInOrder (lent_entries self.now.list) }
     {
         if self.is_given_up {
@@ -117,7 +118,7 @@ impl<'a> Lookup for LentIndex<'a> {
     ghost use Rattle.ee_pages.specs.Meaning.{Put};
     ghost use Rattle.ee_pages.specs.Sets.{fill_of};
     ghost use Rattle.ee_index.specs.Index.{IsReadyFor, IsRoomFor, slot_for};
-    ghost use Rattle.ee_index.specs.Lent.{FitsLent, IsTooSmallFor, lent_entries, lent_room};
+    ghost use Rattle.ee_index.specs.Lent.{FitsLent, IsTooSmallFor, IsTooSmallToMove, lent_entries, lent_room};
     ghost use Rattle.std.specs.Prelude.{◌≡◌, false, true};
 
     ghost fits = { λ lookup slots. FitsLent lookup.is_given_up lookup.list slots };
@@ -128,10 +129,17 @@ impl<'a> Lookup for LentIndex<'a> {
         × (lookup.is_given_up ≡ true → IsTooSmallFor (lent_room lookup.list) slots address) };
 
     // Where the index is given up, it is read anew behind the transfer.
-    ghost has_room = { λ lookup slots puts. lookup.is_given_up ≡ false
-        → IsRoomFor slots puts (slot_for (lent_entries lookup.list)) };
+    ghost has_room = { λ lookup slots puts.
+        (lookup.is_given_up ≡ false
+        → IsRoomFor slots puts (slot_for (lent_entries lookup.list)))
+        × (lookup.is_given_up ≡ true → IsTooSmallToMove (lent_room lookup.list) slots puts) };
 
     ghost takes_memory = { ⊥ };
+
+    // It needs nothing of what was kept: a new index fits no slots yet.
+    ghost can_read = { λ lookup slots. Unit {0} };
+
+    ghost room = { λ lookup. lent_room lookup.list };
 
     fn value_of<F: Flash>(&self, flash: &F, layout: &Layout, address: Address) -> Option<u32> {
         if self.is_given_up {
@@ -204,12 +212,7 @@ impl<'a> Lookup for LentIndex<'a> {
         Ok(())
     }
 
-    // It needs nothing of what was kept, so a new index, which fits no slots yet, is read too.
-    fn read_anew<F: Flash>(&mut self, flash: &F, layout: &Layout)
-        requires { IsLayout (F.device flash.now) layout.now }
-        ensures { FitsLent self.new.is_given_up self.new.list
-            (slots_by layout.now (F.device flash.now)) }
-    {
+    fn read_anew<F: Flash>(&mut self, flash: &F, layout: &Layout) {
         self.read(flash, layout);
     }
 
@@ -243,22 +246,4 @@ impl<'a> Lookup for LentIndex<'a> {
         self.follow(flash, layout, puts, forgets);
         Ok(())
     }
-}
-
-/// This store, which finds values by an index in this room from here on. It looks once at each used
-/// slot, and takes no step.
-///
-/// Source: ours.
-pub fn with_lent_index<'a, F: Flash + Drop>(
-    store: Store<F>,
-    room: &'a mut [Entry],
-) -> Store<F, LentIndex<'a>>
-    requires { IsOn store }
-    ensures { result ≡ store }
-{
-    let (flash, known) = parts_of(store);
-    let layout = known.layout;
-    let mut lookup = LentIndex::new(room);
-    lookup.read(&flash, &layout);
-    store_of(flash, Known { layout, lookup })
 }

@@ -4,11 +4,12 @@
 //! `specs/Index.antt` says what an index is, how it changes, and why there is no store with one.
 //!
 //! The layers above may use `IndexedStore`, a store over the look-up `SlotIndex`, and
-//! `open_indexed`; where memory is lent and nothing allocates, `with_lent_index`, whose store is
-//! over the look-up `LentIndex`. The readers and the changes are written once for both, over what
-//! an index is kept in (`listing.rt`). For `ee_replay` alone, `inner` makes an index of a store
-//! that is open, and `costs.rt` and `looking.rt` tell when that pays. A change is made by the parts
-//! of `ee_core` (`ee_core::inner`), and a transfer goes over the live addresses by the index.
+//! `open_indexed`, which `IndexedStore::open` is too; where memory is lent and nothing allocates, a
+//! store over the look-up `LentIndex` (`Store::with_lookup`). The readers and the changes are
+//! written once for both, over what an index is kept in (`listing.rt`). For `ee_replay` alone,
+//! `inner` makes an index of a store that is open, and `costs.rt` and `looking.rt` tell when that
+//! pays. A change is made by the parts of `ee_core` (`ee_core::inner`), and a transfer goes over
+//! the live addresses by the index.
 //!
 //! # What is proved
 //!
@@ -16,7 +17,8 @@
 //! memory is refused, its `write`, its `write_all` and its opening leave the device as it was, and
 //! a write to addresses that have a value needs none (`Writes`, `WritesAll`, `failed`). `LentIndex`
 //! keeps it too and takes no memory, so no call is refused for it (`takes_memory`). It is an index
-//! of the live set, or it is given up (`fits`).
+//! of the live set, or it is given up (`fits`). It has the whole memory that it was lent
+//! (`as_many`), and each of its calls keeps that (`same_room`).
 #![tactic(auto)]
 
 mod costs;
@@ -38,6 +40,6 @@ mod reading;
 mod slot_index;
 
 pub use entries::Entry;
-pub use indexed::{IndexedFault, IndexedStore, open_indexed};
-pub use lent_index::{LentIndex, with_lent_index};
+pub use indexed::{IndexedFault, IndexedStore, OpenIndexed, open_indexed};
+pub use lent_index::LentIndex;
 pub use slot_index::SlotIndex;

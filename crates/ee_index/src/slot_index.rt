@@ -75,6 +75,10 @@ impl<A: Allocator + Copy> Lookup for SlotIndex<A> {
 
     ghost takes_memory = { Unit {0} };
 
+    ghost can_read = { λ lookup slots. IsIndex slots (slot_for lookup.index) };
+
+    ghost room = { λ lookup. 0 };
+
     fn value_of<F: Flash>(&self, flash: &F, layout: &Layout, address: Address) -> Option<u32> {
         value_indexed(&self.index, flash, layout, address)
     }

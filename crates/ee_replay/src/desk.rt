@@ -34,7 +34,7 @@ use std::marker::Model;
 pub(crate) enum Kind {
     /// Through the slots.
     Plain,
-    /// By an index.
+    /// By an index, which a test tells by its requests for memory.
     Indexed,
     /// Through the slots until an index pays. Where memory for one is refused it goes on without.
     AsPays,

@@ -73,6 +73,10 @@ impl<A: Allocator + Copy> Lookup for EitherLookup<A> {
 
     ghost takes_memory = { Unit {0} };
 
+    ghost can_read = { λ lookup slots. FitsEither lookup slots };
+
+    ghost room = { λ lookup. 0 };
+
     fn value_of<F: Flash>(&self, flash: &F, layout: &Layout, address: Address) -> Option<u32> {
         match self {
             EitherLookup::Slots(lookup) => lookup.value_of(flash, layout, address),

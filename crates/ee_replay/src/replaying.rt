@@ -65,7 +65,8 @@ pub fn replay<A: Allocator + Copy>(
     }
 }
 
-/// `replay` on a store that keeps an index in memory.
+/// `replay` on a store that keeps an index in memory. No clause says that it has one, since it gives
+/// what `replay` gives: a test counts its requests for memory, also behind a cut.
 ///
 /// Source: ours.
 ///

@@ -16,5 +16,5 @@ pub use ee_core::{
     Variables, WriteAllFault, WriteFault, Written, bad_words, count_pending, format, open, rescue,
     rescue_uncounted, start,
 };
-pub use ee_index::{Entry, IndexedFault, IndexedStore, LentIndex, open_indexed, with_lent_index};
+pub use ee_index::{Entry, IndexedFault, IndexedStore, LentIndex, OpenIndexed, open_indexed};
 pub use ee_pairs::{LowPair, Nor, Pairs};

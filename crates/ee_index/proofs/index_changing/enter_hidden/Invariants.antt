@@ -1,4 +1,4 @@
-use Rattle.std.proofs.Common.{take}
+use Rattle.std.proofs.Common.{◌≡◌, take}
 use Rattle.ee_pages.specs.Meaning.{changed_by}
 use Rattle.ee_core.specs.Puts.{puts_of}
 use Rattle.ee_index.specs.Index.{HasAddresses, IsShownSame, slot_for}
@@ -10,4 +10,5 @@ invariant-entries g l = record {
       (g.L.Listing.list l.list);
   there : HasAddresses (slot_for (g.L.Listing.list l.list))
       (changed_by (puts_of (take l.put-index l.puts)) (slot_for (g.L.Listing.list l.fn.list)));
+  same_room : g.L.Listing.room l.list ≡ g.L.Listing.room l.fn.list;
 }

@@ -10,14 +10,16 @@ cursor-cursor-requires-clause-index g c = λ kept.
     let old = g.F.Flash.device c.args.flash.now in
     let held = lent_entries c.args.self.now.list in
     gone_over old old c.args.layout.now c.args.layout.now _ _ held c.requires.apart
-    (kept_room_for _ _ _ old _ held _ _ c.requires.layout c.requires.room kept)
+    (kept_room_for c.args.self.now.is_given_up c.args.self.now.list old _ _ _ c.requires.layout
+    c.requires.room kept)
 
 pub follow-requires-clause-few : goal.follow-requires-clause-few
 follow-requires-clause-few g c = λ kept.
     let old = g.F.Flash.device c.args.flash.now in
     let held = lent_entries c.args.self.now.list in
     numbers_few old _ _ _ _ _ held c.requires.apart
-    (kept_room_for _ _ _ old _ held _ _ c.requires.layout c.requires.room kept)
+    (kept_room_for c.args.self.now.is_given_up c.args.self.now.list old _ _ _ c.requires.layout
+    c.requires.room kept)
     c.in_ok-move_changes.ensures.set_moved (c.cursor-cursor.ensures.ordered kept)
 
 pub returns-clause-fits : goal.returns-clause-fits
@@ -28,7 +30,8 @@ returns-clause-fits g c = λ on.
     let index =
     kept_or_read _ c.follow.new.self.is_given_up
     (λ kept. index_followed old _ _ _ _ _ held c.requires.apart
-    (kept_room_for _ _ _ old _ held _ _ c.requires.layout c.requires.room kept) moved _
+    (kept_room_for c.args.self.now.is_given_up c.args.self.now.list old _ _ _ c.requires.layout
+    c.requires.room kept) moved _
     (c.follow.ensures.followed kept).1)
     c.follow.ensures.read in (
       index,
