@@ -6,8 +6,9 @@
 //! `ee_commands` all others. The words that ask for them are `ee_command_line`; the line and the
 //! status of each fault, `ee_faults`.
 //!
-//! What the program above may use: these calls, each with its faults. The program opens files and
-//! prints; it decides nothing.
+//! What the program above may use: these calls, each with its faults, and by this name too what
+//! those two crates have of words, of whole inputs and outputs, and of faults. The program opens
+//! files and prints; it decides nothing.
 //!
 //! # What is proved
 //!
@@ -26,7 +27,7 @@
 //! over (`fault`, `names`). `replay_reader` is the same of what a reader gives to its end
 //! (`replayed`): it opens the image before the first read, and of what it can refuse the script
 //! for, what is met first is named (`fault`, `names`, `bad`). `replay_indexed` has the contract of
-//! `replay`, on a store that keeps an index. `try_script` is the same as `replay` from a formatted
+//! `replay`; that its store keeps an index a test shows, no clause. `try_script` is the same as `replay` from a formatted
 //! device (`tried`, `fault`, `bad`), and all stand on one body over either kind of store.
 //! `plan_script` prints the tight certificate of the image's start and the script's changes, whose
 //! number of transfers some store reaches and none betters (`planned`), and `check_script` says
@@ -58,10 +59,14 @@ pub use ee_by_name::{
     Language, apply_values, get_setting, header_text, list_text, set_setting, stale_text,
     tidy_image,
 };
+pub use ee_command_line::{
+    Job, MOST_BYTES, MOST_READS, ReadFault, Stopped, job, read_whole, write_whole,
+};
 pub use ee_commands::{
     PartSizes, check_script, clean_image, clear_image, format_image, plan_script, rescue_image,
     size_parts, states_text, wear_text,
 };
+pub use ee_faults::{Fault, File, ReplayFault, fault_line, status_of};
 pub use ee_image_store::ImageAndText;
 pub use ee_part::{Form, export_hex, export_image, import_hex, import_image, inspect_text};
 pub use ee_replay::{Replayed, replay, replay_indexed, replay_reader, try_script};

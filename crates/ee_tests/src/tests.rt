@@ -4,6 +4,8 @@
 //! it drops what it owns, and each such path costs the prover time. So does each generic call that
 //! names a device's type. So what a test does with a store is generic over the device, and the test
 //! makes one call of it.
+mod cells;
+mod commands;
 mod counted;
 mod cuts;
 mod driving;
@@ -12,6 +14,7 @@ mod index_behind_a_cut;
 mod lent;
 mod outside;
 mod pairs;
+mod planning;
 mod prefixes;
 mod refused_opening;
 mod requests;
@@ -24,7 +27,7 @@ mod trail;
 use ee_codec::Address;
 use ee_flash::{Flash, MemFlash, Shape};
 use ee_image::{read_image, write_image};
-use ee_store::{Entry, LentIndex, Store, Variables, format, open, with_lent_index};
+use ee_store::{Entry, LentIndex, Store, Variables, format, open};
 use std::alloc::Global;
 use std::fmt::Debug;
 use std::process::Abort;
@@ -76,7 +79,7 @@ fn indexed_in<'a, F: Flash + Drop>(
     if !store.is_on() {
         panic!(rt; "off");
     }
-    with_lent_index(store, room)
+    store.with_lookup(LentIndex::new(room))
 }
 
 /// The image of a device.

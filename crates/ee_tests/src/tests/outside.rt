@@ -53,13 +53,14 @@ fn elements(rt: HostRuntime) {
 }
 
 /// Other words, and what each says.
-const READ: [(Word, Said); 11] = [
+const READ: [(Word, Said); 12] = [
     (Word::Erased, (("free", 0, 0), None, MarkRead::Absent)),
     (Word::Torn, (("spoiled", 0, 0), None, MarkRead::Broken)),
     (
         Word::Held(0x0000_000a_0001_0001),
         (("forgotten", 1, 10), None, MarkRead::Foreign),
     ),
+    (Word::Held(0x0000_000a_0002_0001), NOTHING),
     (Word::Held(0x0000_000a_0000_0000), NOTHING),
     (Word::Held(0x0000_000a_0000_ffff), NOTHING),
     (Word::Held(0x0000_0000_0000_0000), NOTHING),

@@ -3,9 +3,8 @@
 use crate::tests::same;
 use ee_check::{TextFault, read_certificate};
 use ee_fakes::images::{CERTIFICATE, FORMATTED, SCRIPT, TWO_MOVES};
-use ee_faults::ReplayFault;
 use ee_image::{ImageFault, read_image};
-use ee_shell::replay;
+use ee_shell::{ReplayFault, replay};
 use std::alloc::Global;
 
 /// What a text is.

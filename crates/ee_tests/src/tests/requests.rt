@@ -13,10 +13,9 @@ use commands::{
     Change, DUMP, HEADER, HEX, LISTED, NAMED, PAIRS, PROVED, Replay, SCAN, STALE, STATES, STORED,
     TEN, Text, WEAR, WEAR_SINCE,
 };
-use ee_command_line::{ReadFault, read_whole};
 use ee_fakes::images::{CERTIFICATE, CLEANED, FORMATTED, SCRIPT, TIDIED, TWO_MOVES};
 use ee_fakes::{FailingReader, Refusing};
-use ee_faults::{Fault, File};
+use ee_shell::{Fault, File, ReadFault, read_whole};
 use plans::{NO_MOVE, ONE_SLOT, TWO_SLOTS, Task};
 use std::alloc::{Allocator, Global};
 use std::io::ErrorKind;

@@ -1,11 +1,12 @@
 //! Inputs and outputs: in pieces, failing at each call, of any length, and without end.
 use crate::tests::same;
-use ee_command_line::{MOST_BYTES, MOST_READS, ReadFault, Stopped, read_whole, write_whole};
-use ee_fakes::images::{FORMATTED, REPORT, SCRIPT, TWO_MOVES};
+use ee_fakes::images::{CERTIFICATE, FORMATTED, REPORT, SCRIPT, TWO_MOVES};
 use ee_fakes::{FailingReader, FailingWriter, LastValue, Stop};
-use ee_faults::ReplayFault;
 use ee_script::{StreamFault, answer_reader};
-use ee_shell::{replay, replay_reader};
+use ee_shell::{
+    MOST_BYTES, MOST_READS, ReadFault, ReplayFault, Stopped, read_whole, replay, replay_reader,
+    write_whole,
+};
 use std::alloc::Global;
 use std::io;
 use std::io::{ErrorKind, Read};
@@ -48,22 +49,36 @@ fn a_script_in_short_pieces(rt: HostRuntime) {
     }
 }
 
-/// Each of its 34 bytes takes a call, and the end another one.
+/// How a call fails, what is told of it, and what a replay tells: an interrupted call is made
+/// again.
+const FAILURES: [(
+    ErrorKind,
+    Result<bool, ReadFault>,
+    Result<bool, ReplayFault>,
+); 2] = [
+    (
+        ErrorKind::BrokenPipe,
+        Err(ReadFault::Read),
+        Err(ReplayFault::Read),
+    ),
+    (ErrorKind::Interrupted, Ok(true), Ok(true)),
+];
+
+/// Each byte of a text takes a call, and its end another one.
 #[test]
 fn each_failed_read_is_told(rt: HostRuntime) {
-    for at in 1..36 {
-        for (failure, read, replayed) in [
-            (
-                ErrorKind::BrokenPipe,
-                Err(ReadFault::Read),
-                Err(ReplayFault::Read),
-            ),
-            (ErrorKind::Interrupted, Ok(true), Ok(true)),
-        ] {
-            let whole = reader(SCRIPT, 1, at, failure);
-            same(&rt, at, is_read(rt.alloc(), whole, SCRIPT), read);
-            let lines = reader(SCRIPT, 1, at, failure);
-            same(&rt, at, is_replayed(rt.alloc(), lines), replayed);
+    for text in [SCRIPT, TWO_MOVES, CERTIFICATE] {
+        for at in 0..=text.len() as u64 {
+            for (failure, read, _) in FAILURES {
+                let reader = reader(text, 1, at.saturating_add(1), failure);
+                same(&rt, (text, at), is_read(rt.alloc(), reader, text), read);
+            }
+        }
+    }
+    for at in 0..=SCRIPT.len() as u64 {
+        for (failure, _, replayed) in FAILURES {
+            let reader = reader(SCRIPT, 1, at.saturating_add(1), failure);
+            same(&rt, at, is_replayed(rt.alloc(), reader), replayed);
         }
     }
 }
@@ -101,15 +116,22 @@ fn the_most_read_calls(rt: HostRuntime) {
     }
 }
 
-// Whether a writer stops that is to take so many bytes of the text, as is wanted, and takes these.
-fn stops_behind(memory: Global, stop: Stop, written: usize, wanted: Option<Stopped>) -> bool {
+// Whether a writer that takes a byte a call stops behind so many bytes of the text, as is wanted, and
+// has taken these.
+fn stops_behind(
+    memory: Global,
+    text: &[u8],
+    stop: Stop,
+    written: usize,
+    wanted: Option<Stopped>,
+) -> bool {
     let mut writer = FailingWriter {
         taken: Vec::new(memory),
         stops_at: (written as u64).saturating_add(1),
         stop,
     };
-    write_whole(&mut writer, TWO_MOVES).err() == wanted
-        && Some(writer.taken.as_slice()) == TWO_MOVES.get(..written)
+    write_whole(&mut writer, text).err() == wanted
+        && Some(writer.taken.as_slice()) == text.get(..written)
 }
 
 #[test]
@@ -119,10 +141,12 @@ fn each_stopped_write_is_told(rt: HostRuntime) {
         ("interruption", Stop::Error(ErrorKind::Interrupted)),
         ("no byte", Stop::NoByte),
     ] {
-        for written in 0..171usize {
-            let wanted = (written < 170).then_some(Stopped { written });
-            let stops = stops_behind(rt.alloc(), stop, written, wanted);
-            same(&rt, (way, written), stops, true);
+        for text in [SCRIPT, TWO_MOVES, CERTIFICATE] {
+            for written in 0..=text.len() {
+                let wanted = (written < text.len()).then_some(Stopped { written });
+                let stops = stops_behind(rt.alloc(), text, stop, written, wanted);
+                same(&rt, (way, text, written), stops, true);
+            }
         }
     }
 }

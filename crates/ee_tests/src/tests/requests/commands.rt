@@ -2,14 +2,14 @@
 use ee_fakes::images::{
     CERTIFICATE, CLEANED, FORMATTED, ONE_MOVE, REPORT, SCRIPT, TIDIED, TWO_MOVES, VOLUME,
 };
-use ee_faults::{Fault, ReplayFault, fault_line};
 use ee_flash::Shape;
 use ee_pages::ScanFault;
 use ee_shell::{
-    Form, ImageAndText, Language, Replayed, apply_values, check_script, clean_image, clear_image,
-    export_hex, export_image, format_image, get_setting, header_text, import_hex, import_image,
-    inspect_text, list_text, plan_script, replay, replay_indexed, replay_reader, rescue_image,
-    set_setting, size_parts, stale_text, states_text, tidy_image, try_script, wear_text,
+    Fault, Form, ImageAndText, Language, ReplayFault, Replayed, apply_values, check_script,
+    clean_image, clear_image, export_hex, export_image, fault_line, format_image, get_setting,
+    header_text, import_hex, import_image, inspect_text, list_text, plan_script, replay,
+    replay_indexed, replay_reader, rescue_image, set_setting, size_parts, stale_text, states_text,
+    tidy_image, try_script, wear_text,
 };
 use std::alloc::{Allocator, Global};
 
