@@ -14,31 +14,8 @@ compile_error!("ee-plain is for Linux on x86-64 and AArch64: its files were trie
 #[macro_use]
 mod rattle;
 
-mod ee;
-mod ee_by_name;
-mod ee_check;
-mod ee_codec;
-mod ee_command_line;
-mod ee_commands;
-mod ee_core;
-mod ee_dump;
-mod ee_faults;
-mod ee_files;
-mod ee_flash;
-mod ee_image;
-mod ee_image_store;
-mod ee_index;
-mod ee_pages;
-mod ee_pairs;
-mod ee_part;
-mod ee_plan;
-mod ee_planner;
-mod ee_program;
-mod ee_replay;
-mod ee_script;
-mod ee_settings;
-mod ee_text;
-mod ee_wear;
+// `build.rs` made these modules of the proved sources.
+include!(concat!(env!("OUT_DIR"), "/crates.rs"));
 
 fn main() -> std::process::ExitCode {
     ee::main(rattle::rt::HostRuntime)
