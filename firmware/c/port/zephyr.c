@@ -12,6 +12,24 @@
 #endif
 #endif
 
+/* Whether an erase that is cut clears no cell. */
+#ifndef ZEPHYR_IS_ONE_WAY
+#ifdef CONFIG_EE_ONE_WAY
+#define ZEPHYR_IS_ONE_WAY 1
+#else
+#define ZEPHYR_IS_ONE_WAY 0
+#endif
+#endif
+
+/* The reads before it are done, and so is an NMI that one of them raised. */
+#ifndef ZEPHYR_BARRIER
+#ifdef __arm__
+#define ZEPHYR_BARRIER() __asm volatile("dsb\n\tisb" ::: "memory")
+#else
+#define ZEPHYR_BARRIER() __asm volatile("" ::: "memory")
+#endif
+#endif
+
 enum { NUMBER_BYTES = 8, MOST_NUMBERS = 4 /* of a unit */, LEAST_WORDS = 5, MOST_WORDS = 512, MOST_PAGES = 64 };
 
 static off_t offset_of(const zephyr_part *part, uint32_t page, uint32_t place) {
@@ -33,21 +51,67 @@ static int is_whole(const zephyr_part *part, const uint64_t numbers[MOST_NUMBERS
     return memcmp(numbers, wanted, part->unit_bytes) == 0;
 }
 
+/* Where this torn word is kept, or the place for it: a free one, or that of the oldest behind the others. */
+static uint32_t place_of(const zephyr_part *part, off_t offset) {
+    uint32_t i = 0;
+    while (i < ZEPHYR_TORN - 1 && part->torn[i] != 0 && part->torn[i] != offset + 1) i++;
+    return i;
+}
+
+/* Whether the NMI came in the read of the word at this offset, or in an earlier one: a second read may come from a cache. The
+ * word goes to the front of those that are kept. They are kept as one more than the offset, which may be 0. */
+static int is_noted(zephyr_part *part, off_t offset) {
+    uint32_t i = place_of(part, offset);
+    if (!part->is_noted && part->torn[i] != offset + 1) return 0;
+    memmove(&part->torn[1], &part->torn[0], i * sizeof part->torn[0]);
+    part->torn[0] = offset + 1;
+    return 1;
+}
+
+/* Forgets the torn words of a page that is to be erased. */
+static void forget_torn(zephyr_part *part, off_t from) {
+    uint32_t kept = 0;
+    for (uint32_t i = 0; i < ZEPHYR_TORN; i++) {
+        off_t noted = part->torn[i];
+        part->torn[i] = 0;
+        if (noted - 1 < from || noted - 1 >= from + (off_t)part->page_bytes) part->torn[kept++] = noted;
+    }
+}
+
+int zephyr_nmi(zephyr_part *part) {
+    if (!part->is_reading) return 0;
+    part->is_noted = 1;
+    return 1;
+}
+
+int zephyr_torn_by_eio(const struct device *device, off_t offset, int status) {
+    uint64_t again[MOST_NUMBERS];
+    return status == -EIO && flash_read(device, offset, again, flash_get_write_block_size(device)) == -EIO;
+}
+
 static uint32_t word(void *context, uint32_t page, uint32_t place, uint64_t *value) {
-    const zephyr_part *part = context;
+    zephyr_part *part = context;
     uint64_t numbers[MOST_NUMBERS];
     off_t offset = offset_of(part, page, place);
+    part->is_noted = 0;
+    part->is_reading = part->kind == EE_WORDS;
+    ZEPHYR_BARRIER();
     int status = flash_read(part->device, offset, numbers, part->unit_bytes);
-    if (!part->pairs && part->is_torn(part->device, offset, status) != 0) return 1;
+    ZEPHYR_BARRIER();
+    part->is_reading = 0;
+    if (part->kind == EE_WORDS) {
+        if (is_noted(part, offset)) return EE_TORN;
+        if (part->is_torn && part->is_torn(part->device, offset, status)) return EE_TORN;
+    }
     if (status != 0) return EE_READ_FAILED;
     *value = numbers[0];
-    return is_whole(part, numbers) ? 0 : 1;
+    return is_whole(part, numbers) ? 0 : EE_TORN;
 }
 
 /* Reads numbers into the port's room at once; words with ECC one by one, up to the first that can't be read. */
 static const uint64_t *words(void *context, uint32_t page, uint32_t place, uint32_t count) {
     zephyr_part *part = context;
-    if (part->pairs) {
+    if (part->kind != EE_WORDS) {
         int status = flash_read(part->device, offset_of(part, page, place), part->run, count * NUMBER_BYTES);
         return status == 0 ? part->run : NULL;
     }
@@ -66,8 +130,9 @@ static uint32_t program(void *context, uint32_t page, uint32_t place, uint64_t v
 }
 
 static uint32_t erase(void *context, uint32_t page) {
-    const zephyr_part *part = context;
+    zephyr_part *part = context;
     uint64_t found;
+    forget_torn(part, offset_of(part, page, 0));
     if (flash_erase(part->device, offset_of(part, page, 0), part->page_bytes) != 0) return 1;
     for (uint32_t place = 0; place < part->places; place++) {
         if (word(context, page, place, &found) != 0 || found != UINT64_MAX) return 1;
@@ -91,10 +156,11 @@ static int find_pages(zephyr_part *part) {
 /* Finds what a word of the store is. 0 where there is one. */
 static int find_unit(zephyr_part *part) {
     size_t block = flash_get_write_block_size(part->device);
-    part->pairs = block < NUMBER_BYTES || (block == NUMBER_BYTES && !ZEPHYR_HAS_ECC);
-    part->unit_bytes = part->pairs ? NUMBER_BYTES : (uint32_t)block;
+    int is_paired = block < NUMBER_BYTES || (block == NUMBER_BYTES && !ZEPHYR_HAS_ECC);
+    part->kind = !is_paired ? EE_WORDS : ZEPHYR_IS_ONE_WAY ? EE_PAIRS : EE_PAIRS_CLEARING;
+    part->unit_bytes = is_paired ? NUMBER_BYTES : (uint32_t)block;
     if (block == 0 || block > MOST_NUMBERS * NUMBER_BYTES || part->unit_bytes % block != 0) return -EINVAL;
-    if (part->unit_bytes % NUMBER_BYTES != 0 || (!part->pairs && part->is_torn == NULL)) return -EINVAL;
+    if (part->unit_bytes % NUMBER_BYTES != 0) return -EINVAL;
     return flash_get_parameters(part->device)->erase_value == 0xff ? 0 : -EINVAL;
 }
 
@@ -104,10 +170,11 @@ int zephyr_flash(zephyr_part *part, ee_flash *flash) {
     if (status == 0) status = find_unit(part);
     if (status != 0) return status;
     uint32_t all = part->page_bytes == 0 ? 0 : (uint32_t)(part->size / part->page_bytes);
-    uint32_t page_words = part->page_bytes / (part->unit_bytes << part->pairs);
+    uint32_t shift = part->kind != EE_WORDS; /* a pair has two numbers */
+    uint32_t page_words = part->page_bytes / (part->unit_bytes << shift);
     if (page_words > MOST_WORDS) page_words = MOST_WORDS;
     if (all == 0 || all % 2 != 0 || all / 2 > MOST_PAGES || page_words < LEAST_WORDS) return -EINVAL;
-    part->places = page_words << part->pairs;
+    part->places = page_words << shift;
     ee_flash made = {
         .context = part,
         .pages = all / 2,
@@ -115,7 +182,7 @@ int zephyr_flash(zephyr_part *part, ee_flash *flash) {
         .word = word,
         .program = program,
         .erase = erase,
-        .pairs = part->pairs,
+        .kind = part->kind,
         .words = words,
     };
     *flash = made;

@@ -161,7 +161,9 @@ impl Cells {
             self.torn[unit] = false;
         } else if self.has_ecc && chance == 2 {
             self.torn[unit] = true;
-            self.bytes[place] ^= 0x55;
+            for byte in &mut self.bytes[place..place + self.unit] {
+                *byte = self.chance.number() as u8;
+            }
         } else if !self.has_ecc {
             for (at, asked) in asked.iter().enumerate() {
                 let changes = self.bytes[place + at] ^ asked;
@@ -208,11 +210,13 @@ impl<const W: usize, const R: usize, const S: usize> NorFlash for Memory<W, R, S
     }
 }
 
-/// Tells torn units, as an NMI handler's note does.
+/// Tells torn units, as an NMI handler's note does, of one word at a time or of several.
 #[derive(Clone, Copy, Debug)]
-pub struct Noted;
+pub struct Noted<const RUNS: bool>;
 
-impl<const W: usize, const R: usize, const S: usize> Ecc<Memory<W, R, S>> for Noted {
+impl<const RUNS: bool, const W: usize, const R: usize, const S: usize> Ecc<Memory<W, R, S>>
+    for Noted<RUNS>
+{
     fn read(
         &self,
         flash: &mut Memory<W, R, S>,
@@ -225,5 +229,9 @@ impl<const W: usize, const R: usize, const S: usize> Ecc<Memory<W, R, S>> for No
             true => Ok(Reading::Torn),
             false => Ok(Reading::Whole),
         }
+    }
+
+    fn reads_runs(&self) -> bool {
+        RUNS
     }
 }

@@ -20,6 +20,10 @@ impl Driver for Part {
         self.0.word(page, at)
     }
 
+    fn read_run(&self, page: usize, at: usize, room: &mut [u64]) -> Result<(), NorFault<Cut>> {
+        self.0.read_run(page, at, room)
+    }
+
     fn program(&mut self, page: usize, at: usize, value: u64) -> Result<(), NorFault<Cut>> {
         self.0.program(page, at, value)
     }
@@ -112,8 +116,8 @@ impl Reader for Clearing {
     const CLEARS_FIRST: bool = true;
 }
 
-impl Reader for Noted {
-    const READER: Noted = Noted;
+impl<const RUNS: bool> Reader for Noted<RUNS> {
+    const READER: Noted<RUNS> = Noted;
 }
 
 /// Each size of writes with each size of sectors.
@@ -123,10 +127,10 @@ pub fn all() -> impl Iterator<Item = Kind> {
         Kind::sectors::<Plain, 2, 8>(false),
         Kind::sectors::<Plain, 4, 4>(false),
         Kind::sectors::<Clearing, 1, 1>(false),
-        Kind::sectors::<Noted, 8, 8>(true),
-        Kind::sectors::<Noted, 16, 1>(true),
+        Kind::sectors::<Noted<true>, 8, 8>(true),
+        Kind::sectors::<Noted<false>, 16, 1>(true),
         Kind::sectors::<Plain, 16, 16>(false),
-        Kind::sectors::<Noted, 32, 32>(true),
+        Kind::sectors::<Noted<true>, 32, 32>(true),
     ]
     .into_iter()
     .flatten()

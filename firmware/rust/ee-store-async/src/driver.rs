@@ -1,4 +1,4 @@
-// Made by firmware/rust/erase from firmware/rust/ee-store/src/driver.rs. Change that file.
+// Made by strip from firmware/rust/ee-store/src/driver.rs. Change that file.
 use crate::ee_flash::{Cut, Flash, Shape, Word};
 use crate::error::Broken;
 use core::cell::Cell;
@@ -12,6 +12,8 @@ use core::cell::Cell;
 /// What the store's promises rest on:
 ///
 /// - The shape stays as it is.
+/// - Before its first read the flash is ready and in its read mode, or the read fails. A parallel or serial NOR flash goes
+///   on with an erase while the core restarts, and gives its status for words.
 /// - A word reads the same until it is programmed or its page is erased, power cuts included, and then reads as it was
 ///   left.
 /// - A call of `program` that is `Ok` leaves the word as given and all else as it was; one of `erase` that is `Ok`
@@ -73,15 +75,14 @@ pub trait Driver {
     /// As of `program`.
     async fn erase(&mut self, page: usize) -> Result<(), Self::Error>;
 
-    /// Whether a word that is erased stays so where power fails in an erase of its page: so it is where cells go one way,
-    /// and [`Pairs`](crate::Pairs) answers so. Then [`start`](crate::start) makes the first store only over what a first start itself may have left.
+    /// Leave it out: `false` is right for words with ECC, and [`Pairs`](crate::Pairs) and `NorDriver` answer for theirs. Only
+    /// a driver around another one hands on what that answers. (`true`: a cut erase leaves an erased word erased.)
     fn keeps_erased(&self) -> bool {
         false
     }
 
-    /// Whether an erase that is cut may leave any numbers in its page, as
-    /// [`NumberDriver::clears_first`](crate::NumberDriver::clears_first) says. Then [`start`](crate::start) makes the first
-    /// store only where all other pages than the first are blank, as a first start leaves them.
+    /// Leave it out as well, or hand it on: of a flash of numbers [`NumberDriver`](crate::NumberDriver::clears_first) is asked.
+    /// (`true`: a cut erase leaves any numbers, and [`start`](crate::start) makes the first store only where the rest is blank.)
     fn clears_first(&self) -> bool {
         false
     }

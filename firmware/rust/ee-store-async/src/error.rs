@@ -1,4 +1,4 @@
-// Made by firmware/rust/erase from firmware/rust/ee-store/src/error.rs. Change that file.
+// Made by strip from firmware/rust/ee-store/src/error.rs. Change that file.
 use crate::driver::Driver;
 use crate::ee_pages::ScanFault;
 use crate::ee_pairs::LowPair;
@@ -43,6 +43,40 @@ pub enum PairsFault<E> {
     Driver(E),
 }
 
+/// Why sizes of a flash, or a place in it, don't fit a store, the first cause that applies: what a `NorDriver` looks at.
+#[derive(Clone, Copy, Debug, PartialEq, Eq)]
+#[non_exhaustive]
+pub enum Unfit {
+    /// Its `WRITE_SIZE` is none of 1, 2, 4, 8, 16 and 32.
+    WriteSize,
+    /// Its `READ_SIZE` doesn't divide what is read at a time: 8 bytes, or a unit of 16 or 32.
+    ReadSize,
+    /// Its `ERASE_SIZE` is no multiple of its `WRITE_SIZE` and its `READ_SIZE`.
+    EraseSize,
+    /// The first byte is not where a sector, of `ERASE_SIZE` bytes, begins.
+    Offset,
+    /// The range is not 2 to 128 sectors, an even number of them.
+    Length,
+    /// A sector has fewer than 5 words of the store.
+    Sector,
+    /// The store would end beyond the flash, or beyond 4 GiB.
+    Capacity,
+}
+
+impl Unfit {
+    pub(crate) fn text(self) -> &'static str {
+        match self {
+            Unfit::WriteSize => "the flash writes none of 1, 2, 4, 8, 16 and 32 bytes at a time",
+            Unfit::ReadSize => "what the flash reads at a time doesn't divide a number or a unit",
+            Unfit::EraseSize => "a sector of the flash is no multiple of what it writes and reads",
+            Unfit::Offset => "the store doesn't begin where a sector of the flash does",
+            Unfit::Length => "the range is not 2 to 128 sectors, an even number of them",
+            Unfit::Sector => "a sector of the flash has fewer than 5 words",
+            Unfit::Capacity => "the store ends beyond the flash",
+        }
+    }
+}
+
 /// Why a call on a part was broken off.
 pub(crate) enum Broken<E> {
     Driver(E),
@@ -66,7 +100,8 @@ pub enum RescueFault<E> {
     NothingBegun,
     /// The set that would be rescued names the greatest generation, 4294967294. Nothing was written.
     Spent,
-    /// The driver failed. The values are there still: call `rescue` again.
+    /// The driver failed. The values are there still, unless a word that commits the live set went bad (word 0 or 1 of its
+    /// first page) while pages of the other one waited to be erased. Call `rescue` again.
     Driver(E),
     /// Words changed between two looks, as a brown-out can leave them. Nothing is promised of any value.
     Unsteady,
@@ -133,10 +168,10 @@ pub enum ForgetFault<E> {
     Unsteady,
 }
 
-/// Why nothing was cleared, the first cause that applies. All but `Driver` and `Unsteady` leave the flash as it was.
+/// Why not all was forgotten, the first cause that applies. All but `Driver` and `Unsteady` leave the flash as it was.
 #[derive(Clone, Copy, Debug, PartialEq, Eq)]
 #[non_exhaustive]
-pub enum ClearFault<E> {
+pub enum ForgetAllFault<E> {
     /// The store is off.
     Off,
     /// A slot is used, and the generation is the greatest, 4294967294.
@@ -165,6 +200,8 @@ pub enum CleanFault<E> {
 pub enum Error<E> {
     /// The store is off.
     Off,
+    /// Sizes of the flash don't fit, or the place of the store in it.
+    Unfit(Unfit),
     /// The flash holds no store.
     Scan(ScanFault),
     /// The flash of numbers held something else than a store.
@@ -210,7 +247,7 @@ breaks!(
     WriteFault,
     WriteAllFault,
     ForgetFault,
-    ClearFault,
+    ForgetAllFault,
     CleanFault
 );
 
@@ -239,7 +276,7 @@ becomes! {
     WriteFault => Error { Off, Full, Spent, Driver(error), Unsteady }
     WriteAllFault => Error { Off, Twice(place), Full, Spent, Driver(error), Unsteady }
     ForgetFault => Error { Off, Absent, Spent, Driver(error), Unsteady }
-    ClearFault => Error { Off, Spent, Driver(error), Unsteady }
+    ForgetAllFault => Error { Off, Spent, Driver(error), Unsteady }
     CleanFault => Error { Off, Driver(error), Unsteady }
 }
 
@@ -258,10 +295,17 @@ are_off!(
     WriteFault,
     WriteAllFault,
     ForgetFault,
-    ClearFault,
+    ForgetAllFault,
     CleanFault,
     Error
 );
+
+impl<N, E> From<(N, PairsFault<E>)> for Error<E> {
+    /// Why the numbers of a flash are no words. The driver is dropped.
+    fn from((_, fault): (N, PairsFault<E>)) -> Error<E> {
+        fault.into()
+    }
+}
 
 impl<D: Driver> From<NotRescued<D>> for Error<D::Error> {
     /// Why the store could not be rescued. The driver is dropped.
@@ -302,6 +346,12 @@ where
 impl fmt::Display for Off {
     fn fmt(&self, f: &mut fmt::Formatter<'_>) -> fmt::Result {
         f.write_str(OFF)
+    }
+}
+
+impl fmt::Display for Unfit {
+    fn fmt(&self, f: &mut fmt::Formatter<'_>) -> fmt::Result {
+        f.write_str(self.text())
     }
 }
 
@@ -424,13 +474,13 @@ impl<E: fmt::Display> fmt::Display for ForgetFault<E> {
     }
 }
 
-impl<E: fmt::Display> fmt::Display for ClearFault<E> {
+impl<E: fmt::Display> fmt::Display for ForgetAllFault<E> {
     fn fmt(&self, f: &mut fmt::Formatter<'_>) -> fmt::Result {
         match self {
-            ClearFault::Off => f.write_str(OFF),
-            ClearFault::Spent => f.write_str("no generation is left for a move"),
-            ClearFault::Driver(error) => write!(f, "{DRIVER}{error}"),
-            ClearFault::Unsteady => f.write_str(UNSTEADY),
+            ForgetAllFault::Off => f.write_str(OFF),
+            ForgetAllFault::Spent => f.write_str("no generation is left for a move"),
+            ForgetAllFault::Driver(error) => write!(f, "{DRIVER}{error}"),
+            ForgetAllFault::Unsteady => f.write_str(UNSTEADY),
         }
     }
 }
@@ -449,6 +499,7 @@ impl<E: fmt::Display> fmt::Display for Error<E> {
     fn fmt(&self, f: &mut fmt::Formatter<'_>) -> fmt::Result {
         match self {
             Error::Off => f.write_str(OFF),
+            Error::Unfit(unfit) => unfit.fmt(f),
             Error::Scan(fault) => fault.fmt(f),
             Error::Low(low) => low.fmt(f),
             Error::NothingBegun => RescueFault::<E>::NothingBegun.fmt(f),
@@ -466,14 +517,15 @@ impl<E: fmt::Display> fmt::Display for Error<E> {
 #[allow(clippy::incompatible_msrv)] // The feature says that it takes Rust 1.81.
 mod errors {
     use super::{
-        CleanFault, ClearFault, Driver, Error as StoreError, Failed, ForgetFault, LowPair,
-        NotRescued, Off, OpenFault, PairsFault, ReadFault, RescueFault, ScanFault, WriteAllFault,
-        WriteFault,
+        CleanFault, Driver, Error as StoreError, Failed, ForgetAllFault, ForgetFault, LowPair,
+        NotRescued, Off, OpenFault, PairsFault, ReadFault, RescueFault, ScanFault, Unfit,
+        WriteAllFault, WriteFault,
     };
     use crate::value::NoAddress;
     use core::error::Error;
 
     impl Error for Off {}
+    impl Error for Unfit {}
     impl Error for ScanFault {}
     impl Error for LowPair {}
     impl Error for NoAddress {}
@@ -500,7 +552,7 @@ mod errors {
         WriteFault,
         WriteAllFault,
         ForgetFault,
-        ClearFault,
+        ForgetAllFault,
         CleanFault,
         StoreError
     );

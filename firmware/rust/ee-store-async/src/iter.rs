@@ -1,4 +1,4 @@
-// Made by firmware/rust/erase from firmware/rust/ee-store/src/iter.rs. Change that file.
+// Made by strip from firmware/rust/ee-store/src/iter.rs. Change that file.
 use crate::driver::Driver;
 use crate::ee_codec::Address;
 use crate::ee_core::{LiveBatch, Slots};

@@ -9,8 +9,8 @@
 // A driver's futures are what the driver makes of them. A store's go to another thread where they do.
 #![allow(async_fn_in_trait)]
 
-// All but this file, `steps.rs` and `storage.rs` is made by `firmware/rust/erase`: the proved sources with their contracts left out, and the
-// files of `ee-store` around them, with `async` at the functions that step and `.await` at their calls.
+// All but this file, `steps.rs` and `storage.rs` is made by `strip`: the proved sources with their contracts left out,
+// and the files of `ee-store` around them, with `async` at the functions that step and `.await` at their calls.
 #[allow(dead_code, unused_imports, unused_variables)]
 #[allow(clippy::complexity, clippy::style)]
 #[rustfmt::skip]
@@ -63,8 +63,8 @@ pub use crate::ee_pages::ScanFault;
 pub use crate::ee_pairs::LowPair;
 pub use driver::Driver;
 pub use error::{
-    CleanFault, ClearFault, Error, Failed, ForgetFault, NotRescued, Off, OpenFault, PairsFault,
-    ReadFault, RescueFault, WriteAllFault, WriteFault,
+    CleanFault, Error, Failed, ForgetAllFault, ForgetFault, NotRescued, Off, OpenFault, PairsFault,
+    ReadFault, RescueFault, Unfit, WriteAllFault, WriteFault,
 };
 pub use iter::Iter;
 pub use numbers::NumberDriver;

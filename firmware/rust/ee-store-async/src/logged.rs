@@ -1,4 +1,4 @@
-// Made by firmware/rust/erase from firmware/rust/ee-store/src/logged.rs. Change that file.
+// Made by strip from firmware/rust/ee-store/src/logged.rs. Change that file.
 //! Answers and faults in the log of `defmt` 1, by the feature `defmt`: the texts are those of their `Display`.
 
 use crate::driver::Driver;
@@ -7,8 +7,8 @@ use crate::ee_core::{Put, Written};
 use crate::ee_pages::ScanFault;
 use crate::ee_pairs::LowPair;
 use crate::error::{
-    CleanFault, ClearFault, Error, Failed, ForgetFault, NotRescued, Off, OpenFault, PairsFault,
-    ReadFault, RescueFault, WriteAllFault, WriteFault,
+    CleanFault, Error, Failed, ForgetAllFault, ForgetFault, NotRescued, Off, OpenFault, PairsFault,
+    ReadFault, RescueFault, Unfit, WriteAllFault, WriteFault,
 };
 use defmt::{Format, Formatter};
 
@@ -58,6 +58,12 @@ impl Format for Written {
 impl Format for Off {
     fn format(&self, f: Formatter<'_>) {
         off(f);
+    }
+}
+
+impl Format for Unfit {
+    fn format(&self, f: Formatter<'_>) {
+        defmt::write!(f, "{=str}", self.text());
     }
 }
 
@@ -190,13 +196,13 @@ impl<E: Format> Format for ForgetFault<E> {
     }
 }
 
-impl<E: Format> Format for ClearFault<E> {
+impl<E: Format> Format for ForgetAllFault<E> {
     fn format(&self, f: Formatter<'_>) {
         match self {
-            ClearFault::Off => off(f),
-            ClearFault::Spent => defmt::write!(f, "no generation is left for a move"),
-            ClearFault::Driver(error) => driver(f, error),
-            ClearFault::Unsteady => unsteady(f),
+            ForgetAllFault::Off => off(f),
+            ForgetAllFault::Spent => defmt::write!(f, "no generation is left for a move"),
+            ForgetAllFault::Driver(error) => driver(f, error),
+            ForgetAllFault::Unsteady => unsteady(f),
         }
     }
 }
@@ -215,6 +221,7 @@ impl<E: Format> Format for Error<E> {
     fn format(&self, f: Formatter<'_>) {
         match self {
             Error::Off => off(f),
+            Error::Unfit(unfit) => unfit.format(f),
             Error::Scan(fault) => fault.format(f),
             Error::Low(low) => low.format(f),
             Error::NothingBegun => defmt::write!(f, "no set of the flash is begun"),

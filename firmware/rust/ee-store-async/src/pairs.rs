@@ -1,4 +1,4 @@
-// Made by firmware/rust/erase from firmware/rust/ee-store/src/pairs.rs. Change that file.
+// Made by strip from firmware/rust/ee-store/src/pairs.rs. Change that file.
 use crate::driver::Driver;
 use crate::ee_flash::{Cut, Flash, Shape, Word};
 use crate::ee_pairs::{self as proved, Nor};

@@ -1,11 +1,11 @@
-// Made by firmware/rust/erase from firmware/rust/ee-store/src/store.rs. Change that file.
+// Made by strip from firmware/rust/ee-store/src/store.rs. Change that file.
 use crate::driver::{Driver, Part};
 use crate::ee_codec::Address;
 use crate::ee_core::{self as proved, LiveBatch, Lookup, Put, Rescued, Slots, Variables, Written};
 use crate::ee_flash::{Flash, Shape};
 use crate::ee_pages::{blank_to, is_blank, Layout, Side};
 use crate::error::{
-    Broken, CleanFault, ClearFault, Failed, ForgetFault, NotRescued, Off, OpenFault, ReadFault,
+    Broken, CleanFault, Failed, ForgetAllFault, ForgetFault, NotRescued, Off, OpenFault, ReadFault,
     RescueFault, WriteAllFault, WriteFault,
 };
 use crate::iter::Iter;
@@ -106,8 +106,12 @@ pub async fn format<D: Driver>(driver: D) -> Result<Store<D>, Failed<D>> {
 }
 
 /// Makes a store of what the slots of the flash say, whatever stands in it: the call behind an opening that refused with
-/// [`ScanFault`](crate::ScanFault), since a word went bad. One word that went bad costs its own value, and no more. The
-/// values move to the other set, as in a write that finds no free slot.
+/// [`ScanFault`](crate::ScanFault), since a word went bad. One word that went bad costs its own value, and no more: its
+/// address has an older one or none. `docs/PROMISES.md` in the repository has the premises. The values move to the other
+/// set, as in a write that finds no free slot.
+///
+/// It comes last. Under another shape than that of the firmware which wrote the store it destroys values, and so it does on
+/// a flash that isn't ready to be read. So look at the shape, and call [`start`] again with pauses, before it.
 ///
 /// # Errors
 ///
@@ -159,6 +163,17 @@ pub(crate) fn open_fault<D: Driver>(
 }
 
 impl<D: Driver> Store<D> {
+    /// Opens the store that the flash holds, or makes the first one on a blank part: another name of [`start`]. It formats
+    /// over no value, and refuses a flash that holds something else.
+    ///
+    /// # Errors
+    ///
+    /// As of `start`.
+    #[doc(alias = "mount")]
+    pub async fn open_or_format(driver: D) -> Result<Store<D>, Failed<D>> {
+        start(driver).await
+    }
+
     /// A store that is off, as one is whose driver failed.
     #[must_use]
     pub fn off(driver: D) -> Store<D> {
@@ -400,15 +415,17 @@ impl<D: Driver, L: Finds> Store<D, L> {
     ///
     /// # Errors
     ///
-    /// The first [`ClearFault`] that applies.
+    /// The first [`ForgetAllFault`] that applies.
+    #[doc(alias = "clear")]
+    #[doc(alias = "erase_all")]
     #[doc(alias = "factory_reset")]
     #[doc(alias = "remove_all")]
-    pub async fn clear(&mut self) -> Result<bool, ClearFault<D::Error>> {
+    pub async fn forget_all(&mut self) -> Result<bool, ForgetAllFault<D::Error>> {
         let answer = match self.store.clear().await {
             Ok(some) => Ok(some),
-            Err(proved::ClearFault::Off) => return Err(ClearFault::Off),
-            Err(proved::ClearFault::Spent) => Err(ClearFault::Spent),
-            Err(proved::ClearFault::Cut) => Err(ClearFault::Unsteady),
+            Err(proved::ClearFault::Off) => return Err(ForgetAllFault::Off),
+            Err(proved::ClearFault::Spent) => Err(ForgetAllFault::Spent),
+            Err(proved::ClearFault::Cut) => Err(ForgetAllFault::Unsteady),
         };
         self.whole(answer)
     }

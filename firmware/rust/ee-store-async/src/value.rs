@@ -1,4 +1,4 @@
-// Made by firmware/rust/erase from firmware/rust/ee-store/src/value.rs. Change that file.
+// Made by strip from firmware/rust/ee-store/src/value.rs. Change that file.
 use crate::ee_codec::Address;
 use core::fmt;
 
@@ -49,6 +49,21 @@ impl Value for bool {
     /// Any number but 0 is `true`.
     fn from_bits(bits: u32) -> bool {
         bits != 0
+    }
+}
+
+impl Address {
+    /// The address of this number, for a constant: `const VOLUME: Address = Address::at(1);`.
+    ///
+    /// # Panics
+    ///
+    /// The number is 0 or 65535: in a constant that is an error of the compiler.
+    #[must_use]
+    pub const fn at(number: u16) -> Address {
+        match Address::new(number) {
+            Some(address) => address,
+            None => panic!("an address is 1 to 65534"),
+        }
     }
 }
 

@@ -1,7 +1,7 @@
 //! The driver over a flash in memory whose writes and erases take several polls: its calls, dropped at each of them.
 
 use ee_store_async::nor::{Misfit, NorDriver, Plain};
-use ee_store_async::{start, Address, Shape, Store};
+use ee_store_async::{start, Address, Shape, Store, Unfit};
 use embedded_storage::nor_flash::{ErrorType, NorFlashError, NorFlashErrorKind};
 use std::cell::RefCell;
 use std::future::{poll_fn, Future};
@@ -155,5 +155,5 @@ fn dropped_calls_lose_nothing() {
 fn what_does_not_fit_is_refused() {
     let memory = Memory::<8>(Rc::new(RefCell::new(vec![0; 256])));
     let answer = NorDriver::new(memory, 4, Shape::new(1, 7).unwrap(), Plain);
-    assert_eq!(answer.err().unwrap().1, Misfit::Offset);
+    assert_eq!(answer.err().unwrap().1, Misfit::Unfit(Unfit::Offset));
 }

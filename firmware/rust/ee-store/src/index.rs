@@ -2,7 +2,7 @@ use crate::driver::Driver;
 use crate::ee_codec::Address;
 use crate::ee_core as proved;
 use crate::ee_flash::Flash;
-use crate::ee_index::{with_lent_index, Entry, LentIndex};
+use crate::ee_index::{Entry, LentIndex};
 use crate::ee_pages::Layout;
 use crate::error::Failed;
 use crate::store::{open_fault, Finds, Store};
@@ -15,10 +15,7 @@ pub struct IndexMemory<const N: usize> {
 
 impl<const N: usize> IndexMemory<N> {
     // What stands in a place that is not used.
-    const UNUSED: Entry = match Address::new(1) {
-        Some(address) => (address, 0),
-        None => panic!("an address is 1 to 65534"),
-    };
+    const UNUSED: Entry = (Address::at(1), 0);
 
     /// Memory that no store uses.
     #[must_use]
@@ -53,7 +50,7 @@ impl<D: Driver> Store<D> {
     ///
     /// A read then looks at one word, and a move copies without looking for what is live. Where more addresses have a
     /// value than the memory has room for, the store gives the index up and looks through the slots again, as
-    /// [`has_index`](Store::has_index) tells. A move or a `clear` behind which all have room brings it back.
+    /// [`has_index`](Store::has_index) tells. A move or a `forget_all` behind which all have room brings it back.
     ///
     /// # Errors
     ///
@@ -63,7 +60,7 @@ impl<D: Driver> Store<D> {
         memory: &mut IndexMemory<N>,
     ) -> Result<Store<D, LentIndex<'_>>, Failed<D>> {
         let part = if self.is_on() {
-            let store = with_lent_index(self.store, &mut memory.entries);
+            let store = self.store.with_lookup(LentIndex::new(&mut memory.entries));
             if store.flash.is_on() {
                 return Ok(Store { store });
             }

@@ -7,7 +7,7 @@
 #![no_std]
 #![forbid(unsafe_code)]
 
-// These six are the proved sources with their contracts left out (`firmware/rust/erase`). Some of their parameters
+// These six are the proved sources with their contracts left out (`strip`). Some of their parameters
 // are named by contracts alone, some items serve other programs, and loops are written as their proofs want them.
 #[allow(dead_code, unused_imports, unused_variables)]
 #[allow(clippy::complexity, clippy::style)]
@@ -49,6 +49,15 @@ mod steps;
 #[cfg(feature = "embedded-storage")]
 mod storage;
 mod store;
+/// A number that no address has is refused when a constant is made of it.
+///
+/// ```compile_fail
+/// const NONE: ee_store::Address = ee_store::Address::at(0);
+/// ```
+///
+/// ```compile_fail
+/// const NONE: ee_store::Address = ee_store::Address::at(65535);
+/// ```
 mod value;
 
 pub use crate::ee_codec::Address;
@@ -59,8 +68,8 @@ pub use crate::ee_pages::ScanFault;
 pub use crate::ee_pairs::LowPair;
 pub use driver::Driver;
 pub use error::{
-    CleanFault, ClearFault, Error, Failed, ForgetFault, NotRescued, Off, OpenFault, PairsFault,
-    ReadFault, RescueFault, WriteAllFault, WriteFault,
+    CleanFault, Error, Failed, ForgetAllFault, ForgetFault, NotRescued, Off, OpenFault, PairsFault,
+    ReadFault, RescueFault, Unfit, WriteAllFault, WriteFault,
 };
 pub use index::IndexMemory;
 pub use iter::Iter;

@@ -29,9 +29,11 @@ pub trait NumberDriver {
     /// The size of the flash, in words of two numbers.
     fn shape(&self) -> Shape;
 
-    /// Whether an erase first clears the cells of its page, as on many serial NOR flashes. A cut erase leaves any numbers
-    /// there. That no two numbers of a word come out as each other's complement is a premise then: chance makes them of
-    /// 64 bits, and of a word that a cut program tore of the few that it lacks.
+    /// Whether an erase may clear cells of its page before it sets them, as on many serial NOR flashes. Answer `true` where no
+    /// manual says that it doesn't: with `false` a cut erase that did clear makes [`Pairs::of`](crate::Pairs::of) refuse the flash.
+    ///
+    /// A cut erase leaves any numbers there. That no two numbers of a word come out as each other's complement is a premise
+    /// then: chance makes them of 64 bits, and of a word that a cut program tore of the few that it lacks.
     fn clears_first(&self) -> bool {
         false
     }

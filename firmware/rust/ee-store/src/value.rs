@@ -51,6 +51,21 @@ impl Value for bool {
     }
 }
 
+impl Address {
+    /// The address of this number, for a constant: `const VOLUME: Address = Address::at(1);`.
+    ///
+    /// # Panics
+    ///
+    /// The number is 0 or 65535: in a constant that is an error of the compiler.
+    #[must_use]
+    pub const fn at(number: u16) -> Address {
+        match Address::new(number) {
+            Some(address) => address,
+            None => panic!("an address is 1 to 65534"),
+        }
+    }
+}
+
 /// A number that no address has: 0 or 65535.
 #[derive(Clone, Copy, Debug, PartialEq, Eq)]
 pub struct NoAddress;

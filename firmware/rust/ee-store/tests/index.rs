@@ -111,7 +111,7 @@ fn called<D: Driver<Error = Down>, L: ee_store::Finds>(
         0 => format!("{:?}", store.forget(at)),
         1 => format!("{:?}", store.clean_step()),
         2 => format!("{:?}", store.write_all(&puts)),
-        3 => format!("{:?}", store.clear()),
+        3 => format!("{:?}", store.forget_all()),
         _ => format!("{:?}", store.write(at, value)),
     }
 }
@@ -181,6 +181,25 @@ fn a_read_looks_at_one_word() {
     assert_eq!(store.read(address(0)), Ok(Some(0)));
     assert_eq!(store.read(address(7)), Ok(None));
     assert_eq!(store.driver().reads.get() - before, 1);
+}
+
+/// A move behind which there are as many values as places brings it back.
+#[test]
+fn it_comes_back_where_all_just_have_room() {
+    let mut part = Part::blank();
+    let mut memory = IndexMemory::<5>::new();
+    let mut store = started(&mut part).with_index(&mut memory).unwrap();
+    for number in 0..6 {
+        assert!(store.has_index());
+        store.write(address(number), number).unwrap();
+    }
+    assert!(!store.has_index());
+    store.forget(address(5)).unwrap();
+    while !store.has_index() {
+        assert_eq!(store.generation(), Ok(1));
+        store.write(address(0), 9).unwrap();
+    }
+    assert_eq!((store.generation(), store.fill()), (Ok(2), Ok(5)));
 }
 
 #[test]

@@ -2,11 +2,15 @@
 
 use ee_store::nor::{Ecc, Misfit, NorDriver, NorFault, Plain, Reading};
 use ee_store::{
-    format, open, start, Address, OpenFault, ScanFault, Shape, Store, WriteFault, Written,
+    format, open, start, Address, Error, OpenFault, ScanFault, Shape, Store, Unfit, WriteFault,
+    Written,
 };
 use embedded_storage::nor_flash::{
     ErrorType, NorFlash, NorFlashError, NorFlashErrorKind, ReadNorFlash,
 };
+use std::cell::RefCell;
+use std::ops::Range;
+use std::rc::Rc;
 
 #[derive(Clone, Copy, Debug, PartialEq, Eq)]
 struct Broken;
@@ -23,6 +27,8 @@ struct Memory {
     down: Option<u32>,
     worn: Option<u32>,
     fails: bool,
+    /// Whether an erase leaves the last word as it was, and says nothing.
+    lies: bool,
 }
 
 impl ErrorType for Memory {
@@ -54,7 +60,8 @@ impl NorFlash for Memory {
         if self.fails {
             return Err(Broken);
         }
-        self.bytes[from as usize..to as usize].fill(0xff);
+        let end = to as usize - if self.lies { 8 } else { 0 };
+        self.bytes[from as usize..end].fill(0xff);
         Ok(())
     }
 
@@ -75,6 +82,7 @@ fn memory() -> Memory {
         down: None,
         worn: None,
         fails: false,
+        lies: false,
     }
 }
 
@@ -93,6 +101,13 @@ fn misfit<F: NorFlash>(flash: F, offset: u32) -> Option<Misfit<F::Error>> {
     answer.err().map(|(_, misfit)| misfit)
 }
 
+fn unfit<F: NorFlash>(flash: F, offset: u32) -> Option<Unfit> {
+    match misfit(flash, offset) {
+        Some(Misfit::Unfit(unfit)) => Some(unfit),
+        _ => None,
+    }
+}
+
 #[test]
 fn values_are_kept() {
     let address = Address::new(7).unwrap();
@@ -109,8 +124,8 @@ fn values_are_kept() {
 
 #[test]
 fn what_does_not_fit_is_refused() {
-    assert_eq!(misfit(memory(), 8), Some(Misfit::Offset));
-    assert_eq!(misfit(memory(), 144), Some(Misfit::Capacity));
+    assert_eq!(unfit(memory(), 8), Some(Unfit::Offset));
+    assert_eq!(unfit(memory(), 144), Some(Unfit::Capacity));
     assert_eq!(misfit(memory(), 96), None);
     let two = Shape::new(2, 6).unwrap();
     assert!(NorDriver::new(memory(), 0, two, Plain).is_ok());
@@ -120,8 +135,8 @@ fn what_does_not_fit_is_refused() {
         assert_eq!(NorDriver::new(memory(), 0, shape, Plain).is_ok(), is_well);
     }
     assert_eq!(
-        misfit(Sizes::<8, 8, 64>, u32::MAX - 63),
-        Some(Misfit::Capacity)
+        unfit(Sizes::<8, 8, 64>, u32::MAX - 63),
+        Some(Unfit::Capacity)
     );
 }
 
@@ -159,22 +174,78 @@ impl<const W: usize, const R: usize, const S: usize> NorFlash for Sizes<W, R, S>
 
 #[test]
 fn sizes_that_do_not_fit_are_refused() {
-    assert_eq!(misfit(Sizes::<3, 1, 48>, 0), Some(Misfit::WriteSize));
-    assert_eq!(misfit(Sizes::<64, 1, 64>, 0), Some(Misfit::WriteSize));
-    assert_eq!(misfit(Sizes::<8, 16, 64>, 0), Some(Misfit::ReadSize));
-    assert_eq!(misfit(Sizes::<4, 3, 48>, 0), Some(Misfit::ReadSize));
-    assert_eq!(misfit(Sizes::<8, 0, 64>, 0), Some(Misfit::ReadSize));
-    assert_eq!(misfit(Sizes::<8, 8, 60>, 0), Some(Misfit::EraseSize));
-    assert_eq!(misfit(Sizes::<4, 8, 60>, 0), Some(Misfit::EraseSize));
-    assert_eq!(misfit(Sizes::<8, 8, 0>, 0), Some(Misfit::EraseSize));
+    assert_eq!(unfit(Sizes::<3, 1, 48>, 0), Some(Unfit::WriteSize));
+    assert_eq!(unfit(Sizes::<64, 1, 64>, 0), Some(Unfit::WriteSize));
+    assert_eq!(unfit(Sizes::<8, 16, 64>, 0), Some(Unfit::ReadSize));
+    assert_eq!(unfit(Sizes::<4, 3, 48>, 0), Some(Unfit::ReadSize));
+    assert_eq!(unfit(Sizes::<8, 0, 64>, 0), Some(Unfit::ReadSize));
+    assert_eq!(unfit(Sizes::<8, 8, 60>, 0), Some(Unfit::EraseSize));
+    assert_eq!(unfit(Sizes::<4, 8, 60>, 0), Some(Unfit::EraseSize));
+    assert_eq!(unfit(Sizes::<8, 8, 0>, 0), Some(Unfit::EraseSize));
     assert_eq!(misfit(Sizes::<1, 1, 64>, 0), Some(Misfit::Flash(Broken)));
     assert_eq!(misfit(Sizes::<32, 32, 64>, 0), Some(Misfit::Flash(Broken)));
     assert_eq!(misfit(Sizes::<8, 8, 64>, 64), None);
-    let said = Misfit::<Broken>::Offset.to_string();
+    let said = Misfit::<Broken>::Unfit(Unfit::Offset).to_string();
     assert_eq!(
         said,
         "the store doesn't begin where a sector of the flash does"
     );
+}
+
+/// The shape that a range of a flash of these sizes has.
+fn shape_of<const W: usize, const S: usize>(start: u32, end: u32) -> Result<Shape, Unfit> {
+    NorDriver::<Sizes<W, 1, S>>::shape_of(&(start..end))
+}
+
+#[test]
+fn a_range_has_a_shape() {
+    let shape = |pages, words| Ok(Shape::new(pages, words).unwrap());
+    assert_eq!(shape_of::<4, 4096>(0xfe000, 0x100000), shape(1, 256));
+    assert_eq!(shape_of::<8, 2048>(4096, 20480), shape(4, 256));
+    assert_eq!(shape_of::<8, 16384>(0, 32768), shape(1, 512));
+    assert_eq!(shape_of::<32, 8192>(0, 128 * 8192), shape(64, 256));
+    assert_eq!(shape_of::<1, 80>(0, 160), shape(1, 5));
+    assert_eq!(shape_of::<3, 48>(0, 96), Err(Unfit::WriteSize));
+    assert_eq!(shape_of::<4, 4096>(2048, 8192), Err(Unfit::Offset));
+    // No sector, one, three, 130, a part of one, and an end before the start.
+    for end in [4096, 8192, 16384, 131 * 4096, 14336, 0] {
+        assert_eq!(shape_of::<4, 4096>(4096, end), Err(Unfit::Length));
+    }
+    assert_eq!(shape_of::<4, 64>(0, 128), Err(Unfit::Sector));
+}
+
+#[test]
+fn a_store_over_a_range() {
+    let mut store = start(NorDriver::over(memory(), 48..144, Plain).ok().unwrap()).unwrap();
+    assert_eq!(store.shape(), SHAPE);
+    assert_eq!(store.write(Address::at(7), 1), Ok(Written::Appended));
+    let part = store.into_driver().into_flash();
+    let store = start(NorDriver::new(part, 48, SHAPE, Plain).ok().unwrap()).unwrap();
+    assert_eq!(store.read(Address::at(7)), Ok(Some(1)));
+    let range = |start, end| {
+        NorDriver::over(memory(), start..end, Plain)
+            .err()
+            .unwrap()
+            .1
+    };
+    assert_eq!(range(8, 96), Misfit::Unfit(Unfit::Offset));
+    assert_eq!(range(0, 144), Misfit::Unfit(Unfit::Length));
+    assert_eq!(range(144, 240), Misfit::Unfit(Unfit::Capacity));
+}
+
+/// Each refusal becomes the one error by `?`.
+#[test]
+fn a_misfit_becomes_an_error() {
+    fn started(start_byte: u32) -> Result<(), Error<NorFault<Broken>>> {
+        start(NorDriver::new(memory(), start_byte, SHAPE, Plain)?)?;
+        start(NorDriver::over(memory(), 0..start_byte, Plain)?)?;
+        Ok(())
+    }
+    assert_eq!(started(8), Err(Error::Unfit(Unfit::Offset)));
+    assert_eq!(started(48), Err(Error::Unfit(Unfit::Length)));
+    assert_eq!(started(96), Ok(()));
+    let unread = Misfit::Flash(Broken).into();
+    assert_eq!(Error::Driver(NorFault::Flash(Broken)), unread);
 }
 
 /// Word 4 of page 0 has an ECC error.
@@ -219,6 +290,18 @@ fn errors_come_back() {
 }
 
 #[test]
+fn an_erase_is_read_back() {
+    let mut part = memory();
+    part.bytes.fill(0);
+    part.lies = true;
+    let failed = format(driver(part)).unwrap_err();
+    assert_eq!(failed.fault, OpenFault::Driver(NorFault::ReadBack));
+    let mut part = failed.driver.into_flash();
+    part.lies = false;
+    assert!(format(driver(part)).is_ok());
+}
+
+#[test]
 fn a_read_that_fails_is_no_torn_word() {
     let address = Address::new(7).unwrap();
     let mut store = format(driver(memory())).unwrap();
@@ -238,4 +321,34 @@ fn a_read_that_fails_is_no_torn_word() {
     }
     part.down = None;
     assert_eq!(open(driver(part)).unwrap().read(address), Ok(Some(1)));
+}
+
+/// Notes which bytes are to be erased.
+#[derive(Clone, Default)]
+struct Told(Rc<RefCell<Vec<Range<u32>>>>);
+
+impl Ecc<Memory> for Told {
+    fn read(&self, flash: &mut Memory, byte: u32, bytes: &mut [u8]) -> Result<Reading, Broken> {
+        assert_eq!(bytes.len(), 8, "one word, since nothing says more");
+        Plain.read(flash, byte, bytes)
+    }
+
+    fn erases(&self, bytes: Range<u32>) {
+        self.0.borrow_mut().push(bytes);
+    }
+}
+
+#[test]
+fn a_reader_is_told_of_each_erase() {
+    let told = Told::default();
+    let mut part = memory();
+    part.bytes.fill(0);
+    let shape = Shape::new(1, 7).unwrap();
+    let mut store = format(NorDriver::new(part, 0, shape, told.clone()).ok().unwrap()).unwrap();
+    assert_eq!(told.0.take(), [0..96, 96..192]);
+    for value in 0..4 {
+        store.write(Address::at(7), value).unwrap();
+    }
+    assert_eq!(store.clean_step(), Ok(true));
+    assert_eq!(told.0.take(), vec![0..96; 1]);
 }

@@ -3,8 +3,8 @@
 use defmt::{shown, Format, Formatter};
 use ee_store::{
     Address, CleanFault, Driver, Failed, ForgetFault, LowPair, NotRescued, Off, OpenFault,
-    PairsFault, Put, ReadFault, RescueFault, ScanFault, Shape, Word, WriteAllFault, WriteFault,
-    Written,
+    PairsFault, Put, ReadFault, RescueFault, ScanFault, Shape, Unfit, Word, WriteAllFault,
+    WriteFault, Written,
 };
 use std::fmt::{self, Display};
 
@@ -134,11 +134,13 @@ fn faults_of_a_nor_flash_are_shown() {
     same(NorFault::<u8>::ReadBack);
     same(WriteFault::Driver(NorFault::Flash(3)));
     for misfit in [
-        Misfit::WriteSize,
-        Misfit::ReadSize,
-        Misfit::EraseSize,
-        Misfit::Offset,
-        Misfit::Capacity,
+        Misfit::Unfit(Unfit::WriteSize),
+        Misfit::Unfit(Unfit::ReadSize),
+        Misfit::Unfit(Unfit::EraseSize),
+        Misfit::Unfit(Unfit::Offset),
+        Misfit::Unfit(Unfit::Length),
+        Misfit::Unfit(Unfit::Sector),
+        Misfit::Unfit(Unfit::Capacity),
         Misfit::Low(LowPair { page: 3, word: 17 }),
         Misfit::Flash(4),
     ] {

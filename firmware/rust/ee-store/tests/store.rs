@@ -1,7 +1,7 @@
 //! The store by its methods, over a part in memory that can be told to fail in a step.
 
 use ee_store::{
-    format, open, rescue, start, Address, CleanFault, ClearFault, Driver, ForgetFault, Off,
+    format, open, rescue, start, Address, CleanFault, Driver, ForgetAllFault, ForgetFault, Off,
     OpenFault, Put, ReadFault, RescueFault, Rescued, ScanFault, Shape, Store, Word, WriteAllFault,
     WriteFault, Written,
 };
@@ -165,12 +165,12 @@ fn refusals() {
 #[test]
 fn a_clear_takes_all_values_away() {
     let mut store = full();
-    assert_eq!(store.clear(), Ok(true));
+    assert_eq!(store.forget_all(), Ok(true));
     assert_eq!((store.fill(), store.live_count()), (Ok(0), Ok(0)));
     assert_eq!((store.generation(), store.pending()), (Ok(2), Ok(1)));
     assert_eq!(store.read(address(1)), Ok(None));
     // No slot is used, so there is nothing to clear.
-    assert_eq!(store.clear(), Ok(false));
+    assert_eq!(store.forget_all(), Ok(false));
     assert_eq!(store.generation(), Ok(2));
     assert_eq!(store.write(address(1), 12), Ok(Written::Appended));
     let store = open(store.into_driver()).unwrap();
@@ -182,13 +182,13 @@ fn a_clear_that_fails_is_done_or_not() {
     for step in 1..4 {
         let mut store = failing(full(), step);
         let error = Broken { step };
-        assert_eq!(store.clear(), Err(ClearFault::Driver(error)));
-        assert_eq!(store.clear(), Err(ClearFault::Off));
+        assert_eq!(store.forget_all(), Err(ForgetAllFault::Driver(error)));
+        assert_eq!(store.forget_all(), Err(ForgetAllFault::Off));
         let mut store = open(store.into_driver()).unwrap();
         // The second step commits the clear, and a torn mark does not.
         let value = if step < 3 { Some(11) } else { None };
         assert_eq!(store.read(address(1)), Ok(value));
-        assert_eq!(store.clear(), Ok(step < 3));
+        assert_eq!(store.forget_all(), Ok(step < 3));
     }
 }
 

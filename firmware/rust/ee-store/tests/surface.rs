@@ -26,6 +26,8 @@ struct Part {
     words: Vec<Vec<u64>>,
     is_down: Cell<bool>,
     reads: Cell<usize>,
+    /// A word whose program fails each time.
+    stuck: Option<(usize, usize)>,
 }
 
 impl Part {
@@ -35,6 +37,7 @@ impl Part {
             words: vec![vec![u64::MAX; words]; 2 * pages],
             is_down: Cell::new(false),
             reads: Cell::new(0),
+            stuck: None,
         }
     }
 
@@ -61,6 +64,9 @@ impl Driver for Part {
 
     fn program(&mut self, page: usize, at: usize, value: u64) -> Result<(), Down> {
         self.is_up()?;
+        if self.stuck == Some((page, at)) {
+            return Err(Down);
+        }
         self.words[page][at] = value;
         Ok(())
     }
@@ -72,10 +78,8 @@ impl Driver for Part {
     }
 }
 
-const FIRST: Address = match Address::new(1) {
-    Some(address) => address,
-    None => panic!("1 to 65534"),
-};
+const FIRST: Address = Address::at(1);
+const LAST: Address = Address::at(65534);
 // Getters can stand in constants.
 const NUMBER: u16 = FIRST.get();
 const SLOTS: usize = match Shape::new(2, 40) {
@@ -126,7 +130,23 @@ fn a_flash_without_a_store_is_not_opened_in_its_place() {
     assert_eq!(store.reopen(), fault);
     assert!(!store.is_on());
     assert_eq!(store.write(FIRST, 1), Err(WriteFault::Off));
-    assert!(start(store.into_driver()).is_ok());
+    assert!(Store::open_or_format(store.into_driver()).is_ok());
+}
+
+#[test]
+fn a_slot_that_fails_each_time_is_left_by_a_list() {
+    let mut store = store();
+    store.write(FIRST, 5).unwrap();
+    store.driver_mut().stuck = Some((0, 5));
+    for _ in 0..3 {
+        assert_eq!(store.write(FIRST, 6), Err(WriteFault::Driver(Down)));
+        assert_eq!(store.reopen(), Ok(()));
+    }
+    let values = [(FIRST, 6), (address(2), 7)];
+    let list = values.map(|(address, value)| Put { address, value });
+    assert_eq!(store.write_all(&list), Ok(Written::Moved));
+    assert_eq!(store.write(FIRST, 8), Ok(Written::Appended));
+    assert_eq!(store.read(address(2)), Ok(Some(7)));
 }
 
 #[test]
@@ -201,7 +221,7 @@ fn a_value_is_updated() {
 #[test]
 fn addresses_and_stores_are_shown() {
     assert_eq!((NUMBER, u16::from(FIRST)), (1, 1));
-    assert_eq!(Address::try_from(65534), Ok(address(65534)));
+    assert_eq!(Address::try_from(65534), Ok(LAST));
     for number in [0, 65535] {
         assert_eq!(Address::try_from(number), Err(NoAddress));
     }
@@ -223,6 +243,7 @@ fn all_calls(part: Part) -> Result<u32, Error<Down>> {
         value: 2,
     }])?;
     store.forget(FIRST)?;
+    store.forget_all()?;
     store.clean_step()?;
     store.slots()?;
     store.reopen()?;
@@ -252,6 +273,8 @@ fn faults_become_others() {
     assert_eq!(Error::from(ForgetFault::<Down>::Absent), Error::Absent);
     assert_eq!(Error::from(CleanFault::<Down>::Unsteady), Error::Unsteady);
     assert_eq!(Error::from(PairsFault::Driver(Down)), Error::Driver(Down));
+    let refused = (Part::blank(1, 8), PairsFault::Driver(Down));
+    assert_eq!(Error::from(refused), Error::Driver(Down));
     let told = Error::<Down>::Twice(3).to_string();
     assert_eq!(told, WriteAllFault::<Down>::Twice(3).to_string());
 }

@@ -4,16 +4,13 @@
 #![no_std]
 #![forbid(unsafe_code)]
 
+use core::ops::Range;
 use ee_store::nor::{NorDriver, Plain};
-use ee_store::{start, Shape, Store};
+use ee_store::{start, Store};
 use embassy_nrf::nvmc::Nvmc;
 
-/// Two pages of 4 KiB, at the end of 1 MiB. A word of the store takes 16 bytes.
-const OFFSET: u32 = 1016 * 1024;
-const SHAPE: Shape = match Shape::new(1, 256) {
-    Some(shape) => shape,
-    None => panic!("1 to 64 pages, 5 to 512 words"),
-};
+/// Two pages of 4 KiB, at the end of 1 MiB. A word of the store takes 16 bytes, so each holds 256.
+const RANGE: Range<u32> = 1016 * 1024..1024 * 1024;
 
 /// The store, as it stands in a `static` or in a resource.
 pub type Settings = Store<NorDriver<Nvmc<'static>>>;
@@ -21,6 +18,6 @@ pub type Settings = Store<NorDriver<Nvmc<'static>>>;
 /// Opens the settings, or makes them on a new part. `None` where the pages hold something else, or the flash fails.
 #[must_use]
 pub fn settings(flash: Nvmc<'static>) -> Option<Settings> {
-    let driver = NorDriver::new(flash, OFFSET, SHAPE, Plain).ok()?;
+    let driver = NorDriver::over(flash, RANGE, Plain).ok()?;
     start(driver).ok()
 }

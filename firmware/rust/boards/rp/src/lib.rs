@@ -4,18 +4,15 @@
 #![no_std]
 #![forbid(unsafe_code)]
 
+use core::ops::Range;
 use ee_store::nor::{Clearing, NorDriver};
-use ee_store::{start, Shape, Store};
+use ee_store::{start, Store};
 use embassy_rp::flash::{Blocking, Flash};
 use embassy_rp::peripherals::FLASH;
 
 const SIZE: usize = 2 * 1024 * 1024;
-/// Two sectors of 4 KiB. A word of the store takes 16 bytes.
-const OFFSET: u32 = SIZE as u32 - 2 * 4096;
-const SHAPE: Shape = match Shape::new(1, 256) {
-    Some(shape) => shape,
-    None => panic!("1 to 64 pages, 5 to 512 words"),
-};
+/// Two sectors of 4 KiB. A word of the store takes 16 bytes, so each holds 256.
+const RANGE: Range<u32> = SIZE as u32 - 2 * 4096..SIZE as u32;
 
 /// The store, as it stands in a `static` or in a resource. Many serial flashes clear a sector's cells before they erase it.
 pub type Settings = Store<NorDriver<Flash<'static, FLASH, Blocking, SIZE>, Clearing>>;
@@ -23,6 +20,6 @@ pub type Settings = Store<NorDriver<Flash<'static, FLASH, Blocking, SIZE>, Clear
 /// Opens the settings, or makes them on a new part. `None` where the sectors hold something else, or the flash fails.
 #[must_use]
 pub fn settings(flash: Flash<'static, FLASH, Blocking, SIZE>) -> Option<Settings> {
-    let driver = NorDriver::new(flash, OFFSET, SHAPE, Clearing).ok()?;
+    let driver = NorDriver::over(flash, RANGE, Clearing).ok()?;
     start(driver).ok()
 }

@@ -4,31 +4,35 @@
 #![no_std]
 #![forbid(unsafe_code)]
 
-use core::sync::atomic::{compiler_fence, AtomicBool, Ordering};
-use ee_store::nor::{Ecc, Misfit, NorDriver, NorFault, Reading};
-use ee_store::{start, OpenFault, Shape, Store};
+use core::ops::Range;
+use core::sync::atomic::{compiler_fence, AtomicBool, AtomicU32, AtomicUsize, Ordering};
+use ee_store::nor::{Ecc, NorDriver, NorFault, Reading};
+use ee_store::{start, Store};
 use embassy_stm32::flash::{Blocking, Error, Flash};
 use embedded_storage::nor_flash::ReadNorFlash;
 
 /// Two pages of 2 KiB, behind 508 KiB of program.
-const OFFSET: u32 = 508 * 1024;
-const SHAPE: Shape = match Shape::new(1, 256) {
-    Some(shape) => shape,
-    None => panic!("1 to 64 pages, 5 to 512 words"),
-};
+const RANGE: Range<u32> = 508 * 1024..512 * 1024;
 
 static IS_READING: AtomicBool = AtomicBool::new(false);
-static IS_TORN: AtomicBool = AtomicBool::new(false);
+static IS_NOTED: AtomicBool = AtomicBool::new(false);
+/// Where the last torn words begin, each as one more, and 0 for none; and which place is the next one's. A second read may
+/// come from a cache, which raises no NMI.
+static TORN: [AtomicU32; 8] = [NONE; 8];
+#[allow(clippy::declare_interior_mutable_const)] // It is what each place of `TORN` begins as.
+const NONE: AtomicU32 = AtomicU32::new(0);
+static NEXT: AtomicUsize = AtomicUsize::new(0);
 
 /// Call it in the handler of the NMI where the flash's ECC register has an uncorrectable error. It answers whether the
 /// store was reading: then clear the flag and return. Any other error is not the store's.
 pub fn note_ecc_error() -> bool {
     let is_reading = IS_READING.load(Ordering::Relaxed);
-    IS_TORN.store(is_reading, Ordering::Relaxed);
+    IS_NOTED.store(is_reading, Ordering::Relaxed);
     is_reading
 }
 
-/// Reads, and looks whether an error was noted meanwhile. On a part with a data cache it is off or emptied here.
+/// Reads, and looks whether an error was noted meanwhile, or in an earlier read of the same word. On a part with a data
+/// cache it is off or emptied here.
 #[derive(Clone, Copy, Debug)]
 pub struct Noted;
 
@@ -39,17 +43,35 @@ impl Ecc<Flash<'static, Blocking>> for Noted {
         byte: u32,
         bytes: &mut [u8],
     ) -> Result<Reading, Error> {
-        IS_TORN.store(false, Ordering::Relaxed);
+        IS_NOTED.store(false, Ordering::Relaxed);
         IS_READING.store(true, Ordering::Relaxed);
         compiler_fence(Ordering::SeqCst);
         let read = ReadNorFlash::read(flash, byte, bytes);
-        // On the part `cortex_m::asm::dsb` stands here: the NMI of these reads has come.
+        // On the part `cortex_m::asm::dsb` stands here. The NMI may come some cycles later: wait until the flag of the flash's
+        // ECC register is down, which the handler clears.
         compiler_fence(Ordering::SeqCst);
         IS_READING.store(false, Ordering::Relaxed);
+        let is_kept = TORN
+            .iter()
+            .any(|torn| torn.load(Ordering::Relaxed) == byte + 1);
+        if IS_NOTED.load(Ordering::Relaxed) && !is_kept {
+            let place = NEXT.load(Ordering::Relaxed);
+            TORN[place].store(byte + 1, Ordering::Relaxed);
+            NEXT.store((place + 1) % TORN.len(), Ordering::Relaxed);
+            return Ok(Reading::Torn);
+        }
         read?;
-        match IS_TORN.load(Ordering::Relaxed) {
+        match is_kept {
             true => Ok(Reading::Torn),
             false => Ok(Reading::Whole),
+        }
+    }
+
+    fn erases(&self, bytes: Range<u32>) {
+        for torn in &TORN {
+            if bytes.contains(&torn.load(Ordering::Relaxed).wrapping_sub(1)) {
+                torn.store(0, Ordering::Relaxed);
+            }
         }
     }
 }
@@ -57,22 +79,13 @@ impl Ecc<Flash<'static, Blocking>> for Noted {
 /// The store, as it stands in a `static` or in a resource.
 pub type Settings = Store<NorDriver<Flash<'static, Blocking>, Noted>>;
 
-/// Why there are no settings.
-#[derive(Debug)]
-pub enum NoSettings {
-    /// The flash doesn't fit.
-    Misfit(Misfit<Error>),
-    /// The store isn't opened.
-    Closed(OpenFault<NorFault<Error>>),
-}
-
 /// Opens the settings, or makes them on a new part.
 ///
 /// # Errors
 ///
-/// Why there are none.
-pub fn settings(flash: Flash<'static, Blocking>) -> Result<Settings, NoSettings> {
-    let driver = NorDriver::new(flash, OFFSET, SHAPE, Noted);
-    let driver = driver.map_err(|(_, misfit)| NoSettings::Misfit(misfit))?;
-    start(driver).map_err(|failed| NoSettings::Closed(failed.fault))
+/// Why there are none: the flash doesn't fit, or the store isn't opened.
+pub fn settings(
+    flash: Flash<'static, Blocking>,
+) -> Result<Settings, ee_store::Error<NorFault<Error>>> {
+    Ok(start(NorDriver::over(flash, RANGE, Noted)?)?)
 }

@@ -1,4 +1,4 @@
-// Made by firmware/rust/erase from crates/ee_codec/src/address.rt. Change that file.
+// Made by strip from crates/ee_codec/src/address.rt. Change that file.
 //! The name of a variable: any number of 16 bits but the least and the greatest.
 
 /// The name of a variable: a number of 1 to 65534. Addresses are ordered by number.

@@ -1,4 +1,4 @@
-// Made by firmware/rust/erase from crates/ee_codec/src/slot.rt. Change that file.
+// Made by strip from crates/ee_codec/src/slot.rt. Change that file.
 //! The words of a slot: an address has a value from there on, or has none.
 
 use super::address::Address;

@@ -1,4 +1,4 @@
-// Made by firmware/rust/erase from crates/ee_core/src/change.rt. Change that file.
+// Made by strip from crates/ee_core/src/change.rt. Change that file.
 //! A change of the map, and the word that spells it; a value that is put with others.
 
 use crate::ee_codec::{Address, element_word, forget_word};

@@ -1,4 +1,4 @@
-// Made by firmware/rust/erase from crates/ee_core/src/known.rt. Change that file.
+// Made by strip from crates/ee_core/src/known.rt. Change that file.
 //! What a store keeps in memory beside its device, and the calls that stand on it.
 
 use crate::ee_core::change::{Change, Put};

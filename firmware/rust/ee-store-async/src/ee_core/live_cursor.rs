@@ -1,4 +1,4 @@
-// Made by firmware/rust/erase from crates/ee_core/src/live_cursor.rt. Change that file.
+// Made by strip from crates/ee_core/src/live_cursor.rt. Change that file.
 //! What a transfer copies by: a way over the live addresses, of which each store has its own.
 
 use crate::ee_codec::Address;

@@ -1,4 +1,4 @@
-// Made by firmware/rust/erase from crates/ee_core/src/marking.rt. Change that file.
+// Made by strip from crates/ee_core/src/marking.rt. Change that file.
 //! The marks that a transfer or a cut left to set: pages used up, the page in use,
 //! pages to be erased.
 

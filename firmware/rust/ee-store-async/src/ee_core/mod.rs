@@ -1,4 +1,4 @@
-// Made by firmware/rust/erase from crates/ee_core/src/lib.rt. Change that file.
+// Made by strip from crates/ee_core/src/lib.rt. Change that file.
 //! The store: a map of addresses to values in a flash device, over every device that keeps the step
 //! outcomes, with power cuts in the contract of each call.
 //!
@@ -38,7 +38,8 @@
 //! with an empty store, however often power is cut in them (`laws::starts_end`). `rescue` makes a
 //! store of any device that is on, of the map that `ee_pages` says is rescued, and is refused
 //! exactly where there is none or no generation is left (`rescued`, `failed`); so one word that
-//! went bad costs its own value, and no more, behind any cuts of rescues and openings too
+//! went bad costs its own value, and no more, behind any cuts of rescues and openings too, but for
+//! the two words that commit the set, which take premises, no cut among them
 //! (`laws::one_word_costs_no_more`). The image that a call leaves, if it ends whole, is said word
 //! for word, as a picture of each set (`image` of `Appends`, `Moves` and `Opens`, `first_set` and
 //! `second_set` of `IsFormatted`, `others` and `blank` of a clean step): the marks, the receive
@@ -47,7 +48,7 @@
 //! wear and pending rise by the pages of a set for each transfer; no page is erased more often than
 //! every second transfer, rounded up, where none waited at the start; the pictures say all of an
 //! image; and the state of each page after each call, by its place. docs/PROMISES.md says what a
-//! cut can and cannot do, in eleven sentences.
+//! cut can and cannot do.
 
 mod change;
 mod changing;

@@ -1,4 +1,4 @@
-// Made by firmware/rust/erase from crates/ee_core/src/opening.rt. Change that file.
+// Made by strip from crates/ee_core/src/opening.rt. Change that file.
 //! How a store comes to be: opened from a legal image, or made anew on any device.
 
 use crate::ee_core::formatting::write_format;

@@ -1,4 +1,4 @@
-// Made by firmware/rust/erase from crates/ee_core/src/puts.rt. Change that file.
+// Made by strip from crates/ee_core/src/puts.rt. Change that file.
 //! Lists of values that are put at once: which addresses they have, and whether one
 //! has an address twice.
 

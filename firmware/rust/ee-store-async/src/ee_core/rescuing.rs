@@ -1,4 +1,4 @@
-// Made by firmware/rust/erase from crates/ee_core/src/rescuing.rt. Change that file.
+// Made by strip from crates/ee_core/src/rescuing.rt. Change that file.
 //! A rescue: the map that a set says is moved to the other set, whatever stands in either.
 
 use crate::ee_core::moving::transfer_by_slots;

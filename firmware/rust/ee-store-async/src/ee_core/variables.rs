@@ -1,4 +1,4 @@
-// Made by firmware/rust/erase from crates/ee_core/src/variables.rt. Change that file.
+// Made by strip from crates/ee_core/src/variables.rt. Change that file.
 //! What a store is to its users: its calls, what they answer, and why they refuse.
 
 use crate::ee_core::change::Put;

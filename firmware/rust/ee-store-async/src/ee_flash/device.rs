@@ -1,4 +1,4 @@
-// Made by firmware/rust/erase from crates/ee_flash/src/device.rt. Change that file.
+// Made by strip from crates/ee_flash/src/device.rt. Change that file.
 //! The flash device as the layers above know it: words are programmed, pages erased, and power is
 //! cut.
 

@@ -1,4 +1,4 @@
-// Made by firmware/rust/erase from crates/ee_pages/src/find.rt. Change that file.
+// Made by strip from crates/ee_pages/src/find.rt. Change that file.
 //! The scan: where the live set of a legal image is and how far it is used, or why
 //! an image isn't legal.
 

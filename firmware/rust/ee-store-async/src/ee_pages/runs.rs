@@ -1,4 +1,4 @@
-// Made by firmware/rust/erase from crates/ee_pages/src/runs.rt. Change that file.
+// Made by strip from crates/ee_pages/src/runs.rt. Change that file.
 //! The words of a page, several at a time.
 
 use crate::ee_flash::Flash;

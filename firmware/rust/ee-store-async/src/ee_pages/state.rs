@@ -1,4 +1,4 @@
-// Made by firmware/rust/erase from crates/ee_pages/src/state.rt. Change that file.
+// Made by strip from crates/ee_pages/src/state.rt. Change that file.
 //! What a page's header says: the last word of it that is written names the state.
 
 use crate::ee_pages::runs::{RUN, UNREAD, run_from};

@@ -1,4 +1,4 @@
-// Made by firmware/rust/erase from crates/ee_pairs/src/lib.rt. Change that file.
+// Made by strip from crates/ee_pairs/src/lib.rt. Change that file.
 //! Words for a flash that has none: each is two numbers, a value beside its complement.
 //!
 //! A flash of plain numbers has no error correction, so a number whose program was cut reads as

@@ -1,4 +1,4 @@
-// Made by firmware/rust/erase from crates/ee_pairs/src/runs.rt. Change that file.
+// Made by strip from crates/ee_pairs/src/runs.rt. Change that file.
 //! The numbers of words one behind another, each of two numbers of the flash.
 
 use crate::ee_pairs::nor::Nor;

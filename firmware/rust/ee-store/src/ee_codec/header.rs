@@ -1,4 +1,4 @@
-// Made by firmware/rust/erase from crates/ee_codec/src/header.rt. Change that file.
+// Made by strip from crates/ee_codec/src/header.rt. Change that file.
 //! The words of a page's header: the receive word, which names a generation, and the mark.
 
 use crate::ee_flash::Word;

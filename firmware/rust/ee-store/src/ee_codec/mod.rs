@@ -1,4 +1,4 @@
-// Made by firmware/rust/erase from crates/ee_codec/src/lib.rt. Change that file.
+// Made by strip from crates/ee_codec/src/lib.rt. Change that file.
 //! The words of the store: what each number of 64 bits says as a slot, as a receive word and as a
 //! mark.
 //!

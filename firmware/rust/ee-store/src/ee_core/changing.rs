@@ -1,4 +1,4 @@
-// Made by firmware/rust/erase from crates/ee_core/src/changing.rt. Change that file.
+// Made by strip from crates/ee_core/src/changing.rt. Change that file.
 //! The making of changes that nothing refuses: one in a free slot, or several with a transfer.
 
 use crate::ee_core::change::{Change, Put};

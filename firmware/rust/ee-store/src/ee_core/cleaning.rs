@@ -1,4 +1,4 @@
-// Made by firmware/rust/erase from crates/ee_core/src/cleaning.rt. Change that file.
+// Made by strip from crates/ee_core/src/cleaning.rt. Change that file.
 //! The set that isn't live: how many of its pages wait to be erased, and the erasing of one.
 
 use crate::ee_flash::{Cut, Flash};

@@ -1,4 +1,4 @@
-// Made by firmware/rust/erase from crates/ee_core/src/copying.rt. Change that file.
+// Made by strip from crates/ee_core/src/copying.rt. Change that file.
 //! The copying of a transfer: the map after its change, written into the other set word by word.
 
 use crate::ee_core::change::{Change, Put};

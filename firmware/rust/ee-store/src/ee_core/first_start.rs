@@ -1,4 +1,4 @@
-// Made by firmware/rust/erase from crates/ee_core/src/first_start.rt. Change that file.
+// Made by strip from crates/ee_core/src/first_start.rt. Change that file.
 //! The call for whenever a device is switched on: it opens the store, or makes the first one.
 
 use crate::ee_core::formatting::write_format;

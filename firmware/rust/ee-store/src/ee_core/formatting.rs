@@ -1,4 +1,4 @@
-// Made by firmware/rust/erase from crates/ee_core/src/formatting.rt. Change that file.
+// Made by strip from crates/ee_core/src/formatting.rt. Change that file.
 //! A store with nothing in it: what is written is erased, and the first set becomes the live one.
 
 use crate::ee_flash::{Cut, Flash};

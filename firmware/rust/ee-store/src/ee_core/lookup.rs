@@ -1,4 +1,4 @@
-// Made by firmware/rust/erase from crates/ee_core/src/lookup.rt. Change that file.
+// Made by strip from crates/ee_core/src/lookup.rt. Change that file.
 //! How a store finds values, and makes the changes that nothing refuses: each kind of store has a
 //! look-up of its own.
 

@@ -1,4 +1,4 @@
-// Made by firmware/rust/erase from crates/ee_core/src/moving.rt. Change that file.
+// Made by strip from crates/ee_core/src/moving.rt. Change that file.
 //! A transfer: the other set is erased, opened and filled, and one mark makes it the live one.
 
 use crate::ee_core::change::Put;

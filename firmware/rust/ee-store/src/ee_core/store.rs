@@ -1,4 +1,4 @@
-// Made by firmware/rust/erase from crates/ee_core/src/store.rt. Change that file.
+// Made by strip from crates/ee_core/src/store.rt. Change that file.
 //! The store: it knows where the live set is and how far it is used, and finds values by a look-up.
 
 use crate::ee_core::change::Put;
@@ -30,6 +30,19 @@ impl<F: Flash> Store<F> {
     /// A store of this device, of which this is the layout. It looks through the slots.
     pub(crate) fn of(flash: F, layout: Layout) -> Store<F> {
         let lookup = Slots;
+        Store {
+            flash,
+            known: Known { layout, lookup },
+        }
+    }
+
+    /// This store, which finds values by this look-up from here on. The look-up is read anew first,
+    /// and no step is taken.
+    pub fn with_lookup<L: Lookup>(self, lookup: L) -> Store<F, L> {
+        let Store { flash, known } = self;
+        let layout = known.layout;
+        let mut lookup = lookup;
+        lookup.read_anew(&flash, &layout);
         Store {
             flash,
             known: Known { layout, lookup },

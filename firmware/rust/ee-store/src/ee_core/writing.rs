@@ -1,4 +1,4 @@
-// Made by firmware/rust/erase from crates/ee_core/src/writing.rt. Change that file.
+// Made by strip from crates/ee_core/src/writing.rt. Change that file.
 //! The appending of a change: where its slot begins a further page, two marks come first.
 
 use crate::ee_core::change::Change;

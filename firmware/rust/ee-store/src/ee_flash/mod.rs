@@ -1,4 +1,4 @@
-// Made by firmware/rust/erase from crates/ee_flash/src/lib.rt. Change that file.
+// Made by strip from crates/ee_flash/src/lib.rt. Change that file.
 //! The flash device as a value, and what a step may do to it.
 //!
 //! A device has two sets of pages of words, a wear for each page, a count of power cuts, how many
@@ -16,8 +16,8 @@
 //! The trait `Flash` is the model as a contract: `program` and `erase` say at `Ok` exactly what the
 //! device is (`done`), and at `Cut` that power was cut in this step as the model allows, or was off
 //! and nothing changed (`cut`); every device is formed as its size says (a law of the trait).
-//! `MemFlash` keeps it, and beside it says exactly what its fuse does (`exact`, `passes`); `blank`
-//! and `from_cells` give the device that they name, and each refusal of `from_cells` has its cause
+//! `MemFlash` keeps it, and beside it says exactly what its fuse does (`exact`, `passes`); `blank`,
+//! `from_cells` and `of_cells` give the device that they name, and each refusal has its cause
 //! (`fault`). `laws`: every outcome of a step changes one page at most and keeps the device formed;
 //! calls of several steps go on or are cut once; a fuse lets so many steps pass and cuts the next;
 //! without one nothing is cut. Over any steps the programs need the erases that give words back

@@ -1,4 +1,4 @@
-// Made by firmware/rust/erase from crates/ee_flash/src/shape.rt. Change that file.
+// Made by strip from crates/ee_flash/src/shape.rt. Change that file.
 //! How large a device is: two sets of as many pages, and each page a header and slots.
 
 /// The words of a page's header, below its slots.

@@ -1,4 +1,4 @@
-// Made by firmware/rust/erase from crates/ee_flash/src/word.rt. Change that file.
+// Made by strip from crates/ee_flash/src/word.rt. Change that file.
 //! A word of flash as it reads: erased, held or torn.
 
 /// What a word of flash holds, as it reads.

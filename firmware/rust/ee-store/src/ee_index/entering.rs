@@ -1,4 +1,4 @@
-// Made by firmware/rust/erase from crates/ee_index/src/entering.rt. Change that file.
+// Made by strip from crates/ee_index/src/entering.rt. Change that file.
 //! What used slots say goes into an index.
 
 use crate::ee_index::listing::Listing;

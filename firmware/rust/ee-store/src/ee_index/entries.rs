@@ -1,4 +1,4 @@
-// Made by firmware/rust/erase from crates/ee_index/src/entries.rt. Change that file.
+// Made by strip from crates/ee_index/src/entries.rt. Change that file.
 //! The entries of an index: addresses with the slots in which they stand, by rising address.
 
 use crate::ee_codec::Address;

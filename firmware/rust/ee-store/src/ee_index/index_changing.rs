@@ -1,4 +1,4 @@
-// Made by firmware/rust/erase from crates/ee_index/src/index_changing.rt. Change that file.
+// Made by strip from crates/ee_index/src/index_changing.rt. Change that file.
 //! Changes with an index: room in it is made before the first step, and it follows without memory.
 
 use crate::ee_index::listing::Listing;
@@ -10,7 +10,7 @@ use crate::ee_flash::{Cut, Flash};
 use crate::ee_pages::Layout;
 
 /// Enters each new address of these values with this number. An `Err`, which only a new address
-/// meets, leaves some of them entered.
+/// meets, leaves some of them entered. Where the room is known, it was too small for them all.
 pub(crate) fn enter_hidden<L: Listing>(
     list: &mut L,
     puts: &[Put],
@@ -23,7 +23,7 @@ pub(crate) fn enter_hidden<L: Listing>(
 }
 
 /// Enters an address with this number, if it is new. An `Err`, which only a new address meets,
-/// leaves the index as it was.
+/// leaves the index as it was. Where its room is known, that is full then.
 fn enter_new<L: Listing>(list: &mut L, address: Address, number: usize) -> Result<(), NoMemory> {
     if has(list, address) {
         return Ok(());

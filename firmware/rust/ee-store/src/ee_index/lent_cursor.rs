@@ -1,4 +1,4 @@
-// Made by firmware/rust/erase from crates/ee_index/src/lent_cursor.rt. Change that file.
+// Made by strip from crates/ee_index/src/lent_cursor.rt. Change that file.
 //! What a transfer copies by, where an index may be given up.
 
 use crate::ee_index::reading::IndexCursor;

@@ -1,4 +1,4 @@
-// Made by firmware/rust/erase from crates/ee_index/src/lent_index.rt. Change that file.
+// Made by strip from crates/ee_index/src/lent_index.rt. Change that file.
 //! Values are found by an index in memory that the caller lends, as long as it has room for them.
 
 use crate::ee_index::entering::enter_slots;
@@ -9,8 +9,8 @@ use crate::ee_index::lent_list::LentList;
 use crate::ee_index::listing::Listing;
 use crate::ee_index::reading::{IndexCursor, batch_indexed, count_new, next_indexed, value_indexed};
 use crate::ee_codec::Address;
-use crate::ee_core::inner::{Change, Cursor, Known, append_change, move_changes, parts_of, store_of};
-use crate::ee_core::{Lookup, NoMemory, Put, Slots, Store};
+use crate::ee_core::inner::{Change, Cursor, append_change, move_changes};
+use crate::ee_core::{Lookup, NoMemory, Put, Slots};
 use crate::ee_flash::{Cut, Flash};
 use crate::ee_pages::{Layout, LiveBatch};
 
@@ -143,7 +143,6 @@ impl<'a> Lookup for LentIndex<'a> {
         Ok(())
     }
 
-    // It needs nothing of what was kept, so a new index, which fits no slots yet, is read too.
     fn read_anew<F: Flash>(&mut self, flash: &F, layout: &Layout) {
         self.read(flash, layout);
     }
@@ -178,17 +177,4 @@ impl<'a> Lookup for LentIndex<'a> {
         self.follow(flash, layout, puts, forgets);
         Ok(())
     }
-}
-
-/// This store, which finds values by an index in this room from here on. It looks once at each used
-/// slot, and takes no step.
-pub fn with_lent_index<'a, F: Flash>(
-    store: Store<F>,
-    room: &'a mut [Entry],
-) -> Store<F, LentIndex<'a>> {
-    let (flash, known) = parts_of(store);
-    let layout = known.layout;
-    let mut lookup = LentIndex::new(room);
-    lookup.read(&flash, &layout);
-    store_of(flash, Known { layout, lookup })
 }

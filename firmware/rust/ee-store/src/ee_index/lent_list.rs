@@ -1,4 +1,4 @@
-// Made by firmware/rust/erase from crates/ee_index/src/lent_list.rt. Change that file.
+// Made by strip from crates/ee_index/src/lent_list.rt. Change that file.
 //! A list in memory that the caller lends, which has room for so many addresses.
 
 use crate::ee_index::entries::{Entry, renumber, search};

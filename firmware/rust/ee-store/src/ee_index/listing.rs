@@ -1,4 +1,4 @@
-// Made by firmware/rust/erase from crates/ee_index/src/listing.rt. Change that file.
+// Made by strip from crates/ee_index/src/listing.rt. Change that file.
 //! What an index is kept in: a list of addresses with their slots, by rising address.
 
 use crate::ee_index::entries::Entry;

@@ -1,4 +1,4 @@
-// Made by firmware/rust/erase from crates/ee_index/src/reading.rt. Change that file.
+// Made by strip from crates/ee_index/src/reading.rt. Change that file.
 //! What is read by an index.
 
 use crate::ee_index::entries::Entry;

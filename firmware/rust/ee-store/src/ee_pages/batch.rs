@@ -1,4 +1,4 @@
-// Made by firmware/rust/erase from crates/ee_pages/src/batch.rt. Change that file.
+// Made by strip from crates/ee_pages/src/batch.rt. Change that file.
 //! The next live addresses, as many as are found in one look through the slots.
 
 use crate::ee_pages::batch_items::Batch;

@@ -1,4 +1,4 @@
-// Made by firmware/rust/erase from crates/ee_pages/src/batch_items.rt. Change that file.
+// Made by strip from crates/ee_pages/src/batch_items.rt. Change that file.
 //! The room of a batch: up to `BATCH` addresses with their values, and while it is
 //! filled some with none.
 

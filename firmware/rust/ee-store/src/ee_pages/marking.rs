@@ -1,4 +1,4 @@
-// Made by firmware/rust/erase from crates/ee_pages/src/marking.rt. Change that file.
+// Made by strip from crates/ee_pages/src/marking.rt. Change that file.
 //! A mark as a step: none where its word is written.
 
 use crate::ee_pages::state::{Mark, is_written};

@@ -1,4 +1,4 @@
-// Made by firmware/rust/erase from crates/ee_pages/src/lib.rt. Change that file.
+// Made by strip from crates/ee_pages/src/lib.rt. Change that file.
 //! What an image means: page states, the live set, its slots and the map that they hold.
 //!
 //! A set is a list of pages. `specs/Page.antt` says what a page's header and words say,

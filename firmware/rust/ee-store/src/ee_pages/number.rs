@@ -1,4 +1,4 @@
-// Made by firmware/rust/erase from crates/ee_pages/src/number.rt. Change that file.
+// Made by strip from crates/ee_pages/src/number.rt. Change that file.
 //! What the number of a word says in the place of a slot.
 
 /// Whether a number is that of an element or a forgetting.

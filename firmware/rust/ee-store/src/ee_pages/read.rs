@@ -1,4 +1,4 @@
-// Made by firmware/rust/erase from crates/ee_pages/src/read.rt. Change that file.
+// Made by strip from crates/ee_pages/src/read.rt. Change that file.
 //! What the slots of a live set say: values, the next live address, how many are
 //! live, how many torn.
 

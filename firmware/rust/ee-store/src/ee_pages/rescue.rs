@@ -1,4 +1,4 @@
-// Made by firmware/rust/erase from crates/ee_pages/src/rescue.rt. Change that file.
+// Made by strip from crates/ee_pages/src/rescue.rt. Change that file.
 //! Which set of a device with any words whatever is rescued, and how many of its words are bad.
 
 use crate::ee_pages::side::{Side, committed, page_slot, set_word};

@@ -1,4 +1,4 @@
-// Made by firmware/rust/erase from crates/ee_pages/src/side.rt. Change that file.
+// Made by strip from crates/ee_pages/src/side.rt. Change that file.
 //! The two sets of a device, and the places of their pages, words and slots.
 
 use crate::ee_codec::{MARK, read_receive};

@@ -1,4 +1,4 @@
-// Made by firmware/rust/erase from crates/ee_pages/src/table.rt. Change that file.
+// Made by strip from crates/ee_pages/src/table.rt. Change that file.
 //! Which word may stand in which place of a live set: what makes an image legal.
 
 use crate::ee_pages::state::is_written;

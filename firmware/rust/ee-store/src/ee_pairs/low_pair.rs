@@ -1,4 +1,4 @@
-// Made by firmware/rust/erase from crates/ee_pairs/src/low_pair.rt. Change that file.
+// Made by strip from crates/ee_pairs/src/low_pair.rt. Change that file.
 //! The first word of a flash of numbers whose numbers sum to less than all ones.
 
 use crate::ee_pairs::Nor;

@@ -1,4 +1,4 @@
-// Made by firmware/rust/erase from crates/ee_pairs/src/nor.rt. Change that file.
+// Made by strip from crates/ee_pairs/src/nor.rt. Change that file.
 //! A flash of plain numbers as a driver gives it: numbers are programmed, pages
 //! erased, and power is cut.
 

@@ -1,4 +1,4 @@
-// Made by firmware/rust/erase from crates/ee_pairs/src/pairs.rt. Change that file.
+// Made by strip from crates/ee_pairs/src/pairs.rt. Change that file.
 //! A device of words on a flash of numbers.
 
 use crate::ee_pairs::low_pair::{LowPair, first_low};

@@ -1,4 +1,4 @@
-// Made by firmware/rust/erase from crates/ee_pairs/src/wiping.rt. Change that file.
+// Made by strip from crates/ee_pairs/src/wiping.rt. Change that file.
 //! A flash of numbers made blank.
 
 use crate::ee_pairs::Nor;

@@ -1,0 +1,113 @@
+//! How often a driver over a `NorFlash` asks it to read, and how many bytes that are.
+
+use ee_store::nor::{NorDriver, Plain};
+use ee_store::{start, Address};
+use embedded_storage::nor_flash::{
+    ErrorType, NorFlash, NorFlashError, NorFlashErrorKind, ReadNorFlash,
+};
+
+#[derive(Clone, Copy, Debug, PartialEq, Eq)]
+struct Never;
+
+impl NorFlashError for Never {
+    fn kind(&self) -> NorFlashErrorKind {
+        NorFlashErrorKind::Other
+    }
+}
+
+/// Eight sectors of 4 KiB, or of 8 KiB, written so many bytes at a time, and how it was read.
+struct Counted<const WRITE: usize, const SECTOR: usize> {
+    bytes: Vec<u8>,
+    calls: usize,
+    read: usize,
+}
+
+impl<const W: usize, const S: usize> ErrorType for Counted<W, S> {
+    type Error = Never;
+}
+
+impl<const W: usize, const S: usize> ReadNorFlash for Counted<W, S> {
+    const READ_SIZE: usize = 1;
+
+    fn read(&mut self, offset: u32, bytes: &mut [u8]) -> Result<(), Never> {
+        let start = offset as usize;
+        bytes.copy_from_slice(&self.bytes[start..start + bytes.len()]);
+        self.calls += 1;
+        self.read += bytes.len();
+        Ok(())
+    }
+
+    fn capacity(&self) -> usize {
+        self.bytes.len()
+    }
+}
+
+impl<const W: usize, const S: usize> NorFlash for Counted<W, S> {
+    const WRITE_SIZE: usize = W;
+    const ERASE_SIZE: usize = S;
+
+    fn erase(&mut self, from: u32, to: u32) -> Result<(), Never> {
+        self.bytes[from as usize..to as usize].fill(0xff);
+        Ok(())
+    }
+
+    fn write(&mut self, offset: u32, bytes: &[u8]) -> Result<(), Never> {
+        let start = offset as usize;
+        self.bytes[start..start + bytes.len()].copy_from_slice(bytes);
+        Ok(())
+    }
+}
+
+/// The calls of `read`, and the bytes, since the last look.
+fn looks<const W: usize, const S: usize>(flash: &mut Counted<W, S>) -> (usize, usize) {
+    (
+        std::mem::take(&mut flash.calls),
+        std::mem::take(&mut flash.read),
+    )
+}
+
+/// How often the flash is read, and how many bytes, in `new` and in `start`: of a blank part, and of one with 500 writes.
+fn counts<const W: usize, const S: usize>() -> [(usize, usize); 4] {
+    let bytes = 8 * S;
+    let mut flash = Counted::<W, S> {
+        bytes: vec![0xff; bytes],
+        calls: 0,
+        read: 0,
+    };
+    let mut counts = [(0, 0); 4];
+    for pair in counts.chunks_mut(2) {
+        let mut driver = NorDriver::over(flash, 0..bytes as u32, Plain).ok().unwrap();
+        pair[0] = looks(driver.flash_mut());
+        let mut store = start(driver).ok().unwrap();
+        pair[1] = looks(store.driver_mut().flash_mut());
+        for value in 0..500 {
+            store.write(Address::at(1), value).unwrap();
+        }
+        flash = store.into_driver().into_flash();
+        looks(&mut flash);
+    }
+    counts
+}
+
+/// Word by word these were 4096 calls in `new` and 2059 in `start` for a `WRITE_SIZE` of 1, and 4109 in `start` for 8.
+#[test]
+fn the_flash_is_asked_for_several_words_at_once() {
+    for ([blank, made, used, opened], all) in [
+        (counts::<1, 4096>(), (256, 32768)),
+        (counts::<8, 4096>(), (0, 0)),
+        (counts::<16, 4096>(), (256, 32768)),
+        (counts::<32, 8192>(), (512, 65536)),
+    ] {
+        // `new` reads each byte once, by 128 bytes, or none.
+        assert_eq!((blank, used), (all, all));
+        assert!(made.0 <= all.0.max(256) * 7 / 2, "{made:?}");
+        assert!(opened.0 <= all.0.max(256) + 32, "{opened:?}");
+    }
+}
+
+/// A page of eleven words is read by eight and three.
+#[test]
+fn nothing_behind_a_page_is_read() {
+    let [blank, _, used, _] = counts::<1, 176>();
+    assert_eq!((blank, used), ((16, 8 * 176), (16, 8 * 176)));
+}
