@@ -136,7 +136,7 @@ class Core:
 
     def at_barrier(self, *_):
         self.part.barrier()
-        if self.part.is_raised and self.frame is None:
+        if self.part.is_raised and self.frame is None and not (self.watcher and self.part.is_late):
             self.is_taken = True
             self.uc.emu_stop()
 

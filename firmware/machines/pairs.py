@@ -1,5 +1,5 @@
-"""Models of parts without error correction: STM32F1 and STM32F4, whose cells go one way, and the flash beside an RP2040, whose
-erase clears the cells of its sector first."""
+"""Models of parts without error correction: STM32F1, STM32F4, and the flash beside an RP2040. An erase may clear the cells of its
+page first."""
 from unicorn import arm_const as arm
 
 from core import check
@@ -7,7 +7,7 @@ from parts import ONES, Part, Stm32, part_of
 
 
 class OneWay(Stm32):
-    """A controller of cells that a program only clears and an erase only sets."""
+    """A controller of cells that a program only clears and an erase sets, and at times clears first."""
 
     KEYR, SR, CR, ACR = 4, 12, 16, 0
 
@@ -21,6 +21,16 @@ class OneWay(Stm32):
         """Any of the bits that the step changes are changed."""
         bits = self.dice.choice((0, ONES, self.any_bits()))
         cells[at] ^= (cells[at] ^ value) & bits
+
+    def cut(self):
+        """Of an erase that clears first some cells are cleared, or all and some set again."""
+        kind = self.dice.randrange(3) if self.step and len(self.step) > 1 else 0
+        if kind == 0:
+            return super().cut()
+        cells = self.cells.copy()
+        for at, value in self.step:
+            cells[at] = self.any_bits() & (cells[at] if kind == 1 else value)
+        return cells
 
 
 class Stm32f1(OneWay):
@@ -69,7 +79,7 @@ class Stm32f4(OneWay):
     """The first 2 KB of two sectors, and the data cache: eight lines of 16 bytes."""
 
     BASE, PLACE, FLASH, BITS, COUNT, SECTOR = 0x40023000, 0xc00, 0x08008000, 32, 1024, 0x4000
-    BY_32, DCEN, DCRST, LINES, LINE = 2 << 8, 1 << 10, 1 << 12, 8, 4
+    ERROR, BY_32, DCEN, DCRST, LINES, LINE = 1 << 7, 2 << 8, 1 << 10, 1 << 12, 8, 4
     AFTER_RESET = {OneWay.ACR: 0x705}
 
     def regions(self):
@@ -136,7 +146,7 @@ class Stm32f4(OneWay):
 
 
 class Rp2040(Part):
-    """Two sectors of 4 KB behind the XIP cache, and the functions of the boot ROM."""
+    """Two sectors of 4 KB behind the XIP cache, the functions of the boot ROM, and the status of the chip by the SSI."""
 
     FLASH, OFFSET, SIZE = 0x101fe000, 0x1fe000, 0x2000
     TABLE, LOOKUP, FUNCTIONS, END = 0x100, 0x200, 0x300, 6
@@ -163,10 +173,37 @@ class Rp2040(Part):
         core.uc.mem_write(0, bytes(rom))
 
     def regions(self):
-        return [(self.FLASH, self.SIZE, self.read_flash, self.no_write)]
+        return [(self.FLASH, self.SIZE, self.read_flash, self.no_write), (0x18000000, 0x1000, self.read_chip, self.write_chip),
+                (0x40018000, 0x1000, self.read_select, self.write_select)]
 
     def reset(self):
         self.state, self.step, self.is_erase, self.lines = "reads", None, False, {}
+        # The chip may be busy with a step from before the reset.
+        self.busy, self.select, self.asked, self.given = self.dice.choice((0, self.dice.randrange(20))), 5, 0, False
+
+    def read_select(self, offset, _):
+        check(offset == 12, "another pin")
+        return self.select
+
+    def write_select(self, offset, _, value):
+        check(offset == 12 and not (value ^ self.select) & ~0x300 and self.state == "commands", "another bit of the pin is written")
+        self.select, self.asked = value, 0
+
+    def write_chip(self, offset, _, value):
+        check(offset == 0x60 and self.state == "commands" and self.select >> 8 & 3 == 2, "a byte to a chip that is not selected")
+        check(self.asked == 1 or (self.asked == 0 and value == 5), "another command")
+        self.asked, self.given = self.asked + 1, True
+
+    def read_chip(self, offset, _):
+        """Whether a byte came, and that byte: the second one is the status."""
+        if offset == 0x28:
+            return 8 * self.given
+        check(offset == 0x60 and self.given, "a byte that did not come")
+        self.given = False
+        if self.asked == 1:
+            return 0xff
+        self.busy -= self.busy > 0
+        return int(self.busy > 0)
 
     def look_up(self, core):
         table, code = (core.uc.reg_read(it) for it in (arm.UC_ARM_REG_R0, arm.UC_ARM_REG_R1))
@@ -190,10 +227,11 @@ class Rp2040(Part):
 
     def flush(self, core):
         self.goes(core, "flushed", "commands")
-        self.lines = {}
+        self.lines, self.select = {}, self.select & ~0x300
 
     def enter_xip(self, core):
         self.goes(core, "reads", "commands", "flushed")
+        check(not self.select & 0x300, "the chip's pin is not given back")
 
     def erase(self, core):
         self.goes(core, "commands", "commands")
@@ -232,7 +270,7 @@ class Rp2040(Part):
         return cells
 
     def read_flash(self, offset, width):
-        check(self.state == "reads", "flash is read while it is written")
+        check(self.state == "reads" and not self.busy, "flash is read while it is written")
         line, rest = divmod(offset, 8)
         found = self.lines.get(line)
         if found is None:

@@ -22,6 +22,8 @@ class Part:
         """Power comes: the cells are as they were left, and all else as after a reset."""
         self.cells = cells.copy()
         self.is_raised = self.is_touched = False
+        # An NMI may come behind a barrier.
+        self.is_late = self.dice.random() < 0.5
         self.reset()
 
     def any_bits(self):
@@ -57,7 +59,9 @@ class Stm32(Part):
     ERASE, ERROR = 2, 1 << 3  # what asks for an erase; a program over what stands
 
     def reset(self):
-        self.sr, self.cr, self.keys, self.busy, self.step, self.is_queued, self.is_settled = 0, self.LOCK, 0, 0, None, False, False
+        self.cr, self.keys, self.busy, self.step, self.is_queued, self.is_settled = self.LOCK, 0, 0, None, False, False
+        # An error of before stands.
+        self.sr = self.dice.choice((0, self.ERROR))
         self.others = dict(self.AFTER_RESET)
         self.forget()
 
@@ -112,6 +116,7 @@ class Stm32(Part):
 
     def begin(self, step, most):
         """A step begins, which is busy for a few looks at the status."""
+        check(not self.sr & self.ERROR, "a step begins while an error of before stands")
         self.step, self.busy = step, self.dice.randint(2, most)
 
     def finish(self):
@@ -131,6 +136,10 @@ class Stm32(Part):
         for at, values in self.step or ():
             self.tear(cells, at, values)
         return cells
+
+    def is_away(self, place):
+        """The flash gives no instruction in a step."""
+        return self.busy and place >> 24 == 0x08
 
     def forget(self):
         """What the part read last isn't known to it any more."""

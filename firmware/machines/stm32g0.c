@@ -3,9 +3,8 @@
 
 #include "program.h"
 
-static stm32g0 part = {.registers = (stm32g0_registers *)0x40022000, .flash = (volatile uint32_t *)0x0807f000,
-                       .first_page = 126, .bank = 1};
+static stm32g0 part = {.registers = (stm32g0_registers *)0x40022000};
 
-ee_flash part_flash(void) { return stm32g0_flash(&part, 1); }
+ee_flash part_flash(void) { return stm32g0_flash(&part, 0x0807f000, 1); }
 
 int part_nmi(void) { return stm32g0_nmi(&part); }

@@ -3,9 +3,8 @@
 
 #include "program.h"
 
-static stm32l4 part = {.registers = (stm32l4_registers *)0x40022000, .flash = (volatile uint32_t *)0x080ff000,
-                       .first_page = 254, .bank = 1, .page_words = 256};
+static stm32l4 part = {.registers = (stm32l4_registers *)0x40022000};
 
-ee_flash part_flash(void) { return stm32l4_flash(&part, 1); }
+ee_flash part_flash(void) { return stm32l4_flash(&part, 0x080ff000, 1); }
 
 int part_nmi(void) { return stm32l4_nmi(&part); }

@@ -1,11 +1,10 @@
-/* The last two pages of an STM32U575 with 2 MB in two banks. */
+/* The last two pages of an STM32U575 with 2 MB in two banks, each of which is read at the other's address. */
 #include "stm32u5.h"
 
 #include "program.h"
 
-static stm32u5 part = {.registers = (stm32u5_registers *)0x40022000, .cache = (stm32u5_cache *)0x40030400,
-                       .flash = (volatile uint32_t *)0x081fc000, .first_page = 126, .bank = 1};
+static stm32u5 part = {.registers = (stm32u5_registers *)0x40022000, .cache = (stm32u5_cache *)0x40030400};
 
-ee_flash part_flash(void) { return stm32u5_flash(&part, 1); }
+ee_flash part_flash(void) { return stm32u5_flash(&part, 0x081fc000, 1); }
 
 int part_nmi(void) { return stm32u5_nmi(&part); }

@@ -36,8 +36,8 @@ class Watcher:
         return self.kept[0] + self.kept[1] + self.kept[2]
 
     def is_taken(self):
-        """Whether an NMI that is raised is taken now: some instructions later, and at a barrier at the latest."""
-        self.delay = self.delay - 1 if self.delay else self.dice.randrange(6)
+        """Whether an NMI that is raised is taken now: some instructions later, and at a barrier at the latest, unless it is late."""
+        self.delay = self.delay - 1 if self.delay else self.dice.randrange(60 if self.part.is_late else 6)
         return self.delay == 0
 
     def step(self, place):
@@ -67,6 +67,8 @@ class Trial:
         self.part, self.next_part = model(self.dice), model(self.dice)
         self.watcher = Watcher(self.part, self.dice)
         self.core, self.next_core = Core(program, self.part, self.watcher), Core(program, self.next_part)
+        # Some starts behind a cut are watched too, so that an NMI may be late in them.
+        self.late_core = Core(program, self.next_part, Watcher(self.next_part, self.dice))
         self.passed = self.failed = self.cuts = self.under_way = self.before = self.after = 0
 
     def junk(self):
@@ -108,7 +110,7 @@ class Trial:
                 check((yield FORGET, 7, 0)[0] == OK, "a removal behind a cut")
 
         self.next_part.power(cells)
-        self.next_core.run(plan(), self.junk())
+        self.dice.choice((self.late_core, *[self.next_core] * 7)).run(plan(), self.junk())
         check(self.next_part.is_at_rest(), "the next start leaves the part in another state")
         return found, self.next_part.cells
 

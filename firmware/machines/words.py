@@ -25,6 +25,8 @@ class EccFlash(Stm32):
     # and the bit of the status while a unit isn't given whole.
     BANK_SHIFT, BESIDE, UNIT, WAITS = 11, 1 << 21, 8, 0
     ECCIE, CORRECTION, DETECTION = 1 << 24, 1 << 30, 1 << 31
+    # Registers elsewhere that tell what the part is: pages of addresses with the values of their words.
+    TOLD = {}
     FLAGS = CORRECTION | DETECTION
 
     def blank(self):
@@ -38,25 +40,41 @@ class EccFlash(Stm32):
         self.filled = []
         # While a flag stands no other error is told; else its flag is, with the address of before.
         self.hides = self.dice.random() < 0.5
+        # The address of an error may be any other one.
+        self.is_lying, self.has_lied = self.dice.random() < 0.5, False
+
+    def told_regions(self):
+        return [(base, 0x1000, self.told_by(words), self.take_clock(words)) for base, words in self.TOLD.items()]
+
+    def told_by(self, words):
+        return lambda offset, _: words.get(offset, 0)
+
+    def take_clock(self, words):
+        """Clocks that are turned on and off again: what stands behind them reads as well without."""
+        def write(offset, _, value):
+            check(offset in words and not (value ^ words[offset]) & ~self.CLOCK, "another register is written")
+        return write
 
     def leave(self, cells, at, values):
         cells.values[at * self.PARTS:(at + 1) * self.PARTS] = values
         cells.states[at] = FINE
 
     def tear(self, cells, at, values):
-        """Nothing done, done, done and read with a correction, or torn."""
-        kind = self.dice.randrange(6)
+        """Nothing done, done, done and read with a correction, all ones by a correction, or torn."""
+        kind = self.dice.randrange(7)
         if kind == 0:
             return
-        self.leave(cells, at, values if kind < 3 else [self.any_bits() for _ in values])
-        cells.states[at] = FINE if kind == 1 else CORRECTED if kind == 2 else TORN
+        self.leave(cells, at, values if kind < 3 else [ONES for _ in values] if kind == 3 else [self.any_bits() for _ in values])
+        cells.states[at] = FINE if kind == 1 else CORRECTED if kind < 4 else TORN
 
     def tell(self, unit, flag):
-        """An error with its flag, and where no flag stands its address."""
+        """An error with its flag, and where no flag stands its address, or another one."""
         eccr, address = self.others[self.ECCR], self.UNIT * (self.FIRST_UNIT + unit)
         if eccr & self.FLAGS & ~flag and self.hides:
             return
         if not eccr & self.FLAGS:
+            if self.is_lying and self.dice.random() < 0.25:
+                address, self.has_lied = self.UNIT * self.dice.randrange(1 << 15), True
             eccr = (eccr & self.ECCIE) | self.BESIDE | address
         self.others[self.ECCR] = eccr | flag
         self.is_raised |= flag == self.DETECTION
@@ -80,7 +98,7 @@ class EccFlash(Stm32):
             return
         values, self.filled = self.filled, []
         stands = self.cells.values[at * self.PARTS:(at + 1) * self.PARTS]
-        if stands != [ONES] * self.PARTS or self.cells.states[at] == TORN:
+        if stands != [ONES] * self.PARTS or self.cells.states[at] != FINE:
             self.sr |= self.ERROR  # a second program
         else:
             self.begin([(at, values)], 9)
@@ -101,10 +119,11 @@ class EccFlash(Stm32):
         self.others[self.ECCR] = flags | (value & self.ECCIE)
 
     def is_of_others(self):
-        """So it is beside a corrected one, which may have been first: the address may be that of either."""
+        """So it is beside a corrected one, which may have been first: the address may be that of either. So it is where the address
+        is of another word."""
         flags = self.others[self.ECCR] & self.FLAGS
         self.others[self.ECCR] &= ~self.FLAGS
-        return flags == self.FLAGS
+        return flags == self.FLAGS or self.has_lied
 
     def is_at_rest(self):
         flags = self.others[self.ECCR]
@@ -126,7 +145,7 @@ class DoubleWords(EccFlash):
 
     def regions(self):
         return [(self.BASE, 0x1000, self.read_register, self.write_register),
-                (self.FLASH, self.SIZE, self.read_flash, self.write_flash)]
+                (self.FLASH, self.SIZE, self.read_flash, self.write_flash), *self.told_regions()]
 
     def reset(self):
         self.lines = {}
@@ -171,12 +190,14 @@ class DoubleWords(EccFlash):
 
 
 class Stm32g4(DoubleWords):
-    """The last two pages of the second bank of 256 KB."""
+    """The last two pages of the first bank of 256 KB, which is read at the address of the second."""
 
-    FLASH, FIRST_PAGE, BANK, PAGES_MASK = 0x0807f000, 126, 1, 0x7f
+    FLASH, FIRST_PAGE, BANK, BESIDE, PAGES_MASK = 0x0807f000, 126, 0, 0, 0x7f
     FIRST_UNIT = FIRST_PAGE * 256
-    ACR, ECCR, ON, EMPTY = 0, 24, 1 << 10, 1 << 12
-    AFTER_RESET = {ACR: 0x40600, ECCR: EccFlash.ECCIE}
+    ACR, ECCR, OPTR, ON, EMPTY = 0, 24, 32, 1 << 10, 1 << 12
+    AFTER_RESET = {ACR: 0x40600, ECCR: EccFlash.ECCIE, OPTR: 0xffeff8aa}
+    TOLD = {0xe0042000: {0: 0x20010469}, 0x1fff7000: {0x5e0: 512}, 0x40021000: {0x60: 0}, 0x40010000: {0: 1 << 8}}
+    CLOCK = 1
 
 
 class Stm32g0(DoubleWords):
@@ -185,8 +206,10 @@ class Stm32g0(DoubleWords):
     FLASH, FIRST_PAGE, BANK, PAGES_MASK = 0x0807f000, 126, 1, 0x3ff
     FIRST_UNIT = FIRST_PAGE * 256
     BANK_SHIFT, BESIDE, UNIT, WAITS = 13, 0, 1, 1 << 18
-    ACR, ECCR, ON, EMPTY = 0, 28, 1 << 9, 1 << 11
-    AFTER_RESET = {ACR: 0x40600, 24: 0, ECCR: EccFlash.ECCIE}
+    ACR, ECCR, OPTR, ON, EMPTY = 0, 28, 32, 1 << 9, 1 << 11
+    AFTER_RESET = {ACR: 0x40600, 24: 0, ECCR: EccFlash.ECCIE, OPTR: 0xfffffeaa}
+    TOLD = {0x40015000: {0x800: 0x10000467}, 0x1fff7000: {0x5e0: 512}, 0x40021000: {0x3c: 0}}
+    CLOCK = 1 << 27
 
 
 class Stm32l4(DoubleWords):
@@ -194,24 +217,28 @@ class Stm32l4(DoubleWords):
 
     FLASH, FIRST_PAGE, BANK, PAGES_MASK = 0x080ff000, 254, 1, 0xff
     FIRST_UNIT, BESIDE = FIRST_PAGE * 256, 1 << 19
-    ACR, ECCR, ON, EMPTY = 0, 24, 1 << 10, 1 << 12
-    AFTER_RESET = {ACR: 0x600, ECCR: EccFlash.ECCIE}
+    ACR, ECCR, OPTR, ON, EMPTY = 0, 24, 32, 1 << 10, 1 << 12
+    AFTER_RESET = {ACR: 0x600, ECCR: EccFlash.ECCIE, OPTR: 0xffeff8aa}
+    TOLD = {0xe0042000: {0: 0x10000415}, 0x1fff7000: {0x5e0: 1024}, 0x40021000: {0x60: 0}, 0x40010000: {0: 0}}
+    CLOCK = 1
 
 
 class Stm32u5(EccFlash):
-    """The last two pages of 8 KB of the second bank, and ICACHE: a line for each unit of 16 bytes."""
+    """The last two pages of 8 KB of the first bank, which is read at the address of the second, and ICACHE: a line for each unit
+    of 16 bytes."""
 
-    FLASH, SIZE, PARTS, PAGES, COUNT, FIRST_PAGE, BANK, PAGES_MASK = 0x081fc000, 0x4000, 4, 2, 1024, 126, 1, 0xff
-    FIRST_UNIT, UNIT = FIRST_PAGE * 512, 16
-    SR, CR, ECCR = 32, 40, 48
+    FLASH, SIZE, PARTS, PAGES, COUNT, FIRST_PAGE, BANK, PAGES_MASK = 0x081fc000, 0x4000, 4, 2, 1024, 126, 0, 0xff
+    FIRST_UNIT, UNIT, BESIDE = FIRST_PAGE * 512, 16, 0
+    SR, CR, ECCR, OPTR = 32, 40, 48, 64
     CACHE, CACHE_CR, CACHE_SR, CACHE_FCR = 0x40030000, 0x400, 0x404, 0x40c
-    AFTER_RESET = {ECCR: EccFlash.ECCIE, CACHE_CR: 0x30005}
+    AFTER_RESET = {ECCR: EccFlash.ECCIE, OPTR: 0x1ffff8aa, CACHE_CR: 0x30005}
+    TOLD = {0x0bfa0000: {0x7a0: 2048}}
     WAITS = 1 << 17
 
     def regions(self):
         return [(self.BASE, 0x1000, self.read_register, self.write_register),
                 (self.CACHE, 0x1000, self.read_cache, self.write_cache),
-                (self.FLASH, self.SIZE, self.read_flash, self.write_flash)]
+                (self.FLASH, self.SIZE, self.read_flash, self.write_flash), *self.told_regions()]
 
     def reset(self):
         self.lines, self.cache_busy, self.is_ended = {}, 0, False
@@ -243,8 +270,11 @@ class Stm32u5(EccFlash):
             self.is_ended &= not value & 2
             return
         self.is_settled, before = False, self.others[self.CACHE_CR]
-        check(offset == self.CACHE_CR and not (value ^ before) & ~3 and not self.cache_busy, "another bit of the cache is written")
+        check(offset == self.CACHE_CR and not (value ^ before) & ~3, "another bit of the cache is written")
+        check(not value & ~before & 1 or not self.cache_busy, "the cache is turned on before it is empty")
         self.others[self.CACHE_CR] = value & ~2
+        if self.cache_busy:
+            return
         if value & 2 or (self.empties and before & ~value & 1):
             self.lines, self.cache_busy = {}, 9
 

@@ -5,6 +5,11 @@
 /* What a test puts in place of the part. */
 #ifndef RP2040_GET
 #define RP2040_GET(address) (*(address))
+#define RP2040_SET(address, value) (*(address) = (value))
+#define RP2040_AT(address) ((volatile uint32_t *)(uintptr_t)(address))
+/* How often the chip is asked whether it is ready, each time some 100 cycles of at most 133 MHz: a sector takes 400 ms. */
+#define RP2040_MOST_TURNS 1000000
+#define RP2040_BYTE_TURNS 1000
 #define RP2040_HALF_AT(address) (*(const volatile uint16_t *)(address))
 #endif
 #ifdef __arm__
@@ -29,8 +34,12 @@ enum {
     BLOCK = 65536,
     ERASE_BLOCK = 0xd8,
     ROM_FUNCTIONS = 0x14, /* where the ROM says where its table and its look-up are */
-    ROM_LOOKUP = 0x18
+    ROM_LOOKUP = 0x18,
+    READ_STATUS = 0x05, /* a command of the chip, and the bit of its answer that tells that it is busy */
+    STATUS_WIP = 1 << 0,
+    SSI_RFNE = 1 << 3 /* something came */
 };
+static const uint32_t SSI_SR = 0x18000028, SSI_DR0 = 0x18000060, SELECT = 0x4001800c, OUTOVER = 3u << 8, OUTOVER_LOW = 2u << 8;
 
 typedef void *(*lookup_call)(const uint16_t *table, uint32_t code);
 
@@ -62,8 +71,48 @@ RP2040_IN_RAM static void written(const rp2040_rom *rom, uint32_t offset, const 
     interrupts_as(before);
 }
 
+/* What the chip says to a byte while it is selected. All ones where nothing comes. */
+RP2040_IN_RAM static uint32_t exchanged(uint32_t byte) {
+    RP2040_SET(RP2040_AT(SSI_DR0), byte);
+    for (uint32_t turn = 0; turn < RP2040_BYTE_TURNS; turn++) {
+        if (RP2040_GET(RP2040_AT(SSI_SR)) & SSI_RFNE) return RP2040_GET(RP2040_AT(SSI_DR0)) & 0xff;
+    }
+    return UINT32_MAX;
+}
+
+/* The status of the chip. */
+RP2040_IN_RAM static uint32_t status_of_chip(void) {
+    volatile uint32_t *select = RP2040_AT(SELECT);
+    uint32_t control = RP2040_GET(select) & ~OUTOVER;
+    RP2040_SET(select, control | OUTOVER_LOW);
+    uint32_t status = exchanged(READ_STATUS) == UINT32_MAX ? UINT32_MAX : exchanged(0);
+    RP2040_SET(select, control | OUTOVER); /* high; the ROM's flush_cache gives it back */
+    return status;
+}
+
+/* Waits until the chip is ready, and brings it into its mode for reading. Whether that came. */
+RP2040_IN_RAM static int is_awaited(const rp2040_rom *rom) {
+    uint32_t before = interrupts_off(), status = STATUS_WIP;
+    rom->connect();
+    rom->exit_xip();
+    for (uint32_t turn = 0; turn < RP2040_MOST_TURNS && (status & STATUS_WIP) != 0 && status != UINT32_MAX; turn++) {
+        status = status_of_chip();
+    }
+    rom->flush_cache();
+    rom->enter_xip();
+    interrupts_as(before);
+    return (status & STATUS_WIP) == 0;
+}
+
+/* Whether flash may be read. The first read waits for it. */
+static int is_ready(rp2040 *part) {
+    if (!part->is_ready) part->is_ready = (uint32_t)is_awaited(&part->rom);
+    return part->is_ready != 0;
+}
+
 static uint32_t word(void *context, uint32_t page, uint32_t place, uint64_t *value) {
-    const rp2040 *part = context;
+    rp2040 *part = context;
+    if (!is_ready(part)) return EE_READ_FAILED;
     const volatile uint32_t *at = part->flash + 2 * (page * NUMBERS + place);
     uint32_t low = RP2040_GET(&at[0]);
     uint32_t high = RP2040_GET(&at[1]);
@@ -73,8 +122,9 @@ static uint32_t word(void *context, uint32_t page, uint32_t place, uint64_t *val
 
 /* The flash is memory: they stand there. */
 static const uint64_t *words(void *context, uint32_t page, uint32_t place, uint32_t count) {
-    const rp2040 *part = context;
+    rp2040 *part = context;
     (void)count;
+    if (!is_ready(part)) return NULL;
     return (const uint64_t *)(uintptr_t)(part->flash + 2 * (page * NUMBERS + place));
 }
 
@@ -107,8 +157,9 @@ ee_flash rp2040_flash(rp2040 *part, uint32_t pages) {
         .word = word,
         .program = program,
         .erase = erase,
-        .pairs = 2,
+        .kind = EE_PAIRS_CLEARING,
         .words = words,
     };
+    part->is_ready = 0;
     return flash;
 }

@@ -16,9 +16,16 @@
 #endif
 #endif
 
-/* What is done in each turn of the loop that waits for a step's end: yours, as feeding a watchdog. */
+/* What is done in each turn of the loop that waits for a step's end: yours. With one bank the core stands still on its next
+ * read of flash until the step is done, and turns begin behind that. So a watchdog is fed here only where the loop and what
+ * this calls stand in RAM. */
 #ifndef STM32F1_WAIT
 #define STM32F1_WAIT() ((void)0)
+#endif
+
+/* Where what runs during a step stands: in RAM, if this is as __attribute__((noinline, section(".ramfunc"))). */
+#ifndef EE_IN_RAM
+#define EE_IN_RAM
 #endif
 
 enum {
@@ -35,7 +42,7 @@ enum {
 };
 
 /* Whether the flash ends what it does. */
-static int is_ready(stm32f1_registers *registers) {
+EE_IN_RAM static int is_ready(stm32f1_registers *registers) {
     for (uint32_t turn = 0; turn < STM32F1_MOST_TURNS; turn++) {
         if ((STM32F1_GET(&registers->sr) & SR_BSY) == 0) return 1;
         STM32F1_WAIT();
@@ -55,12 +62,12 @@ static int begin(stm32f1_registers *registers) {
 }
 
 /* Whether what was begun ended with no error. */
-static int is_done(stm32f1_registers *registers) {
+EE_IN_RAM static int is_done(stm32f1_registers *registers) {
     return is_ready(registers) && (STM32F1_GET(&registers->sr) & SR_ERRORS) == 0;
 }
 
 /* Locks the control register. */
-static void lock(stm32f1_registers *registers) {
+EE_IN_RAM static void lock(stm32f1_registers *registers) {
     STM32F1_SET(&registers->cr, 0);
     STM32F1_SET(&registers->cr, CR_LOCK);
 }
@@ -82,38 +89,43 @@ static const uint64_t *words(void *context, uint32_t page, uint32_t place, uint3
     return (const uint64_t *)(uintptr_t)number_at(context, page, place);
 }
 
-/* Programs the half words of a number, but for those that stay erased. Whether there was no error. */
-static int program_halves(stm32f1_registers *registers, volatile uint16_t *at, uint64_t value) {
-    for (int i = 0; i < HALVES; i++) {
-        uint16_t half = (uint16_t)(value >> 16 * i);
-        if (half == UINT16_MAX) continue;
-        STM32F1_SET_HALF(&at[i], half);
+/* The two steps, from their beginning to their end. Whether there was no error. A half word that is all ones stays erased. */
+EE_IN_RAM static int write_halves(stm32f1_registers *registers, volatile uint16_t *at, const uint16_t *halves) {
+    int is_well = 1;
+    STM32F1_SET(&registers->cr, CR_PG);
+    for (int i = 0; i < HALVES && is_well; i++) {
+        if (halves[i] == UINT16_MAX) continue;
+        STM32F1_SET_HALF(&at[i], halves[i]);
         STM32F1_BARRIER(); /* the flash is busy */
-        if (!is_done(registers)) return 0;
+        is_well = is_done(registers);
     }
-    return 1;
+    lock(registers);
+    return is_well;
+}
+
+EE_IN_RAM static int erase_page(stm32f1_registers *registers, uint32_t address) {
+    STM32F1_SET(&registers->cr, CR_PER);
+    STM32F1_SET(&registers->ar, address);
+    STM32F1_SET(&registers->cr, CR_PER | CR_STRT);
+    STM32F1_BARRIER();
+    int is_well = is_done(registers);
+    lock(registers);
+    return is_well;
 }
 
 static uint32_t program(void *context, uint32_t page, uint32_t place, uint64_t value) {
     stm32f1 *part = context;
+    uint16_t halves[HALVES];
     uint64_t found;
-    if (!begin(part->registers)) return 1;
-    STM32F1_SET(&part->registers->cr, CR_PG);
-    int is_well = program_halves(part->registers, number_at(part, page, place), value);
-    lock(part->registers);
-    return !is_well || word(context, page, place, &found) != 0 || found != value;
+    for (int i = 0; i < HALVES; i++) halves[i] = (uint16_t)(value >> 16 * i);
+    if (!begin(part->registers) || !write_halves(part->registers, number_at(part, page, place), halves)) return 1;
+    return word(context, page, place, &found) != 0 || found != value;
 }
 
 static uint32_t erase(void *context, uint32_t page) {
     stm32f1 *part = context;
     uint64_t found;
-    if (!begin(part->registers)) return 1;
-    STM32F1_SET(&part->registers->cr, CR_PER);
-    STM32F1_SET(&part->registers->ar, (uint32_t)(uintptr_t)number_at(part, page, 0));
-    STM32F1_SET(&part->registers->cr, CR_PER | CR_STRT);
-    int is_well = is_done(part->registers);
-    lock(part->registers);
-    if (!is_well) return 1;
+    if (!begin(part->registers) || !erase_page(part->registers, (uint32_t)(uintptr_t)number_at(part, page, 0))) return 1;
     for (uint32_t place = 0; place < 2 * part->page_words; place++) {
         if (word(context, page, place, &found) != 0 || found != UINT64_MAX) return 1;
     }
@@ -128,7 +140,7 @@ ee_flash stm32f1_flash(stm32f1 *part, uint32_t pages) {
         .word = word,
         .program = program,
         .erase = erase,
-        .pairs = 1,
+        .kind = EE_PAIRS_CLEARING,
         .words = words,
     };
     return flash;

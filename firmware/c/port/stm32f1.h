@@ -1,9 +1,14 @@
-/* An example of a port: a store in the flash of an STM32F1, which has no error correction, so its words are pairs of numbers.
- * It was tested on a computer against a model of the registers (tests/stm32f1.c), and never on a board. Nothing of it is
- * proved. The internal oscillator (HSI) is on while flash is written.
+/* An example of a port: a store in the flash of an STM32F1, which has no error correction, so its words are pairs of
+ * numbers. It was tested on a computer against a model of the registers (tests/stm32f1.c), and never on a board. Nothing of
+ * it is proved. The internal oscillator (HSI) is on while flash is written.
  *
- * It supposes this of the part, which was never tried (compare the reference manual, PM0075): there is no cache. The prefetch
- * buffer is for instructions alone, so a read of data is what the flash has. */
+ * It supposes this of the part, by memory of the manual (PM0075), which no one had at hand. Compare it.
+ * - There is no cache. The prefetch buffer is for instructions alone, so a read of data is what the flash has (sure).
+ * - An erase may clear the cells of its page before it sets them: no manual says that it does, and none that it doesn't. So
+ *   `kind` is EE_PAIRS_CLEARING, which serves both. A bench that cuts many erases can tell.
+ * - An F0 and an F3 have the same registers (likely), and flash is written from 2 V on (sure).
+ *
+ * Where an MPU guards the flash, it lets the port write to the pages. */
 #ifndef STM32F1_H
 #define STM32F1_H
 

@@ -5,6 +5,7 @@
 #ifndef STM32F4_SET
 #define STM32F4_SET(address, value) (*(address) = (value))
 #define STM32F4_GET(address) (*(address))
+#define STM32F4_SET_UNIT(address, value) (*(address) = (value))
 /* A sector of 128 KB takes 2 s to be erased, and a turn of the loop some cycles of at most 180 MHz. */
 #define STM32F4_MOST_TURNS 100000000
 #ifdef __arm__
@@ -14,9 +15,30 @@
 #endif
 #endif
 
-/* What is done in each turn of the loop that waits for a step's end: yours, as feeding a watchdog. */
+/* What is done in each turn of the loop that waits for a step's end: yours. With one bank the core stands still on its next
+ * read of flash until the step is done, and turns begin behind that. So a watchdog is fed here only where the loop and what
+ * this calls stand in RAM. */
 #ifndef STM32F4_WAIT
 #define STM32F4_WAIT() ((void)0)
+#endif
+
+/* Where what runs during a step stands: in RAM, if this is as __attribute__((noinline, section(".ramfunc"))). */
+#ifndef EE_IN_RAM
+#define EE_IN_RAM
+#endif
+
+/* How many bits are programmed at once, by the supply: 32 from 2.7 V on, 16 from 2.1 V on, 8 below that. Yours. */
+#ifndef STM32F4_BITS
+#define STM32F4_BITS 32
+#endif
+#if STM32F4_BITS == 32
+typedef uint32_t unit;
+#elif STM32F4_BITS == 16
+typedef uint16_t unit;
+#elif STM32F4_BITS == 8
+typedef uint8_t unit;
+#else
+#error "STM32F4_BITS is 8, 16 or 32"
 #endif
 
 enum {
@@ -28,14 +50,15 @@ enum {
     CR_PG = 1 << 0,
     CR_SER = 1 << 1,
     CR_SNB_SHIFT = 3,
-    CR_PSIZE_32 = 2 << 8,
-    CR_STRT = 1 << 16
+    CR_PSIZE = (STM32F4_BITS / 16) << 8, /* 0, 1 or 2 */
+    CR_STRT = 1 << 16,
+    UNITS = 64 / STM32F4_BITS /* of a number */
 };
 static const uint32_t ACR_DCEN = 1u << 10, ACR_DCRST = 1u << 12;
 static const uint32_t CR_LOCK = 1u << 31;
 
 /* Whether the flash ends what it does. */
-static int is_ready(stm32f4_registers *registers) {
+EE_IN_RAM static int is_ready(stm32f4_registers *registers) {
     for (uint32_t turn = 0; turn < STM32F4_MOST_TURNS; turn++) {
         if ((STM32F4_GET(&registers->sr) & SR_BSY) == 0) return 1;
         STM32F4_WAIT();
@@ -55,12 +78,12 @@ static int begin(stm32f4_registers *registers) {
 }
 
 /* Whether what was begun ended with no error. */
-static int is_done(stm32f4_registers *registers) {
+EE_IN_RAM static int is_done(stm32f4_registers *registers) {
     return is_ready(registers) && (STM32F4_GET(&registers->sr) & SR_ERRORS) == 0;
 }
 
 /* Locks the control register. */
-static void lock(stm32f4_registers *registers) {
+EE_IN_RAM static void lock(stm32f4_registers *registers) {
     STM32F4_SET(&registers->cr, 0);
     STM32F4_SET(&registers->cr, CR_LOCK);
 }
@@ -93,16 +116,28 @@ static uint32_t word(void *context, uint32_t page, uint32_t place, uint64_t *val
     return 0;
 }
 
-/* Programs the two halves of a number, but for one that stays erased. Whether there was no error. */
-static int program_halves(stm32f4_registers *registers, volatile uint32_t *at, uint64_t value) {
-    for (int i = 0; i < 2; i++) {
-        uint32_t half = (uint32_t)(value >> 32 * i);
-        if (half == UINT32_MAX) continue;
-        STM32F4_SET(&at[i], half);
+/* The two steps, from their beginning to their end. Whether there was no error. A unit that is all ones stays erased. */
+EE_IN_RAM static int write_units(stm32f4_registers *registers, volatile unit *at, const unit *units) {
+    int is_well = 1;
+    STM32F4_SET(&registers->cr, CR_PSIZE | CR_PG);
+    for (int i = 0; i < UNITS && is_well; i++) {
+        if (units[i] == (unit)-1) continue;
+        STM32F4_SET_UNIT(&at[i], units[i]);
         STM32F4_BARRIER(); /* the flash is busy */
-        if (!is_done(registers)) return 0;
+        is_well = is_done(registers);
     }
-    return 1;
+    lock(registers);
+    return is_well;
+}
+
+EE_IN_RAM static int erase_sector(stm32f4_registers *registers, uint32_t number) {
+    uint32_t which = CR_PSIZE | CR_SER | number << CR_SNB_SHIFT;
+    STM32F4_SET(&registers->cr, which);
+    STM32F4_SET(&registers->cr, which | CR_STRT);
+    STM32F4_BARRIER();
+    int is_well = is_done(registers);
+    lock(registers);
+    return is_well;
 }
 
 /* The flash is memory: they stand there. */
@@ -112,23 +147,17 @@ static const uint64_t *words(void *context, uint32_t page, uint32_t place, uint3
 }
 
 static uint32_t programmed(stm32f4 *part, uint32_t page, uint32_t place, uint64_t value) {
+    volatile unit *at = (volatile unit *)number_at(part, page, place);
+    unit units[UNITS];
     uint64_t found;
-    if (!begin(part->registers)) return 1;
-    STM32F4_SET(&part->registers->cr, CR_PSIZE_32 | CR_PG);
-    int is_well = program_halves(part->registers, number_at(part, page, place), value);
-    lock(part->registers);
-    return !is_well || word(part, page, place, &found) != 0 || found != value;
+    for (int i = 0; i < UNITS; i++) units[i] = (unit)(value >> STM32F4_BITS * i);
+    if (!begin(part->registers) || !write_units(part->registers, at, units)) return 1;
+    return word(part, page, place, &found) != 0 || found != value;
 }
 
 static uint32_t erased(stm32f4 *part, uint32_t page) {
     uint64_t found;
-    if (!begin(part->registers)) return 1;
-    uint32_t which = CR_PSIZE_32 | CR_SER | part->sectors[page].number << CR_SNB_SHIFT;
-    STM32F4_SET(&part->registers->cr, which);
-    STM32F4_SET(&part->registers->cr, which | CR_STRT);
-    int is_well = is_done(part->registers);
-    lock(part->registers);
-    if (!is_well) return 1;
+    if (!begin(part->registers) || !erase_sector(part->registers, part->sectors[page].number)) return 1;
     for (uint32_t place = 0; place < 2 * part->page_words; place++) {
         if (word(part, page, place, &found) != 0 || found != UINT64_MAX) return 1;
     }
@@ -160,7 +189,7 @@ ee_flash stm32f4_flash(stm32f4 *part) {
         .word = word,
         .program = program,
         .erase = erase,
-        .pairs = 1,
+        .kind = EE_PAIRS_CLEARING,
         .words = words,
     };
     return flash;

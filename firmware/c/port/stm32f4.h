@@ -1,11 +1,18 @@
 /* An example of a port: a store in two sectors of the flash of an STM32F4, which has no error correction, so its words are
- * pairs of numbers. It was tested on a computer against a model of the registers and of the data cache (tests/stm32f4.c), and
- * never on a board. Nothing of it is proved. It programs by 32 bits, which takes a supply of 2.7 V at least.
+ * pairs of numbers. It was tested on a computer against a model of the registers and of the data cache (tests/stm32f4.c),
+ * and never on a board. Nothing of it is proved. It programs by 32 bits, which takes a supply of 2.7 V at least. Define
+ * STM32F4_BITS as 16 for 2.1 V, or as 8 for 1.8 V: a sector of 16 KB takes up to 600 or 800 ms to be erased then.
  *
- * It supposes this of the part, which was never tried (compare the reference manual, RM0090): a program writes what was asked
- * for into the data cache too, and an erase leaves old lines there. So the port turns the data cache off in FLASH_ACR, and on
- * again when what it wrote was read back and the cache is empty. No interrupt writes that register during a call. The
- * instruction cache stays as it is, since the sectors hold no code. */
+ * It supposes this of the part, by memory of the reference manual (RM0090), which no one had at hand. Compare it.
+ * - A program writes what was asked for into the data cache too, and an erase leaves old lines there. So the port turns the
+ *   data cache off in FLASH_ACR, and on again when what it wrote was read back and the cache is empty. No interrupt writes
+ *   that register during a call. The instruction cache stays as it is, since the sectors hold no code.
+ * - An erase clears the cells of its sector before it sets them: its time depends on how many bits are programmed at once,
+ *   in the datasheets (likely). So `kind` is EE_PAIRS_CLEARING.
+ * - SNB names the sector as it is built, while reads go by the address. The sectors are not those of a part with two banks
+ *   that reads each at the other's address (FB_MODE of SYSCFG_MEMRMP).
+ *
+ * Where an MPU guards the flash, it lets the port write to the sectors. */
 #ifndef STM32F4_H
 #define STM32F4_H
 

@@ -1,17 +1,30 @@
 /* An example of a port: a store in the flash of an STM32G0. It was tested on a computer against a model of the registers,
  * the cache and the NMI (tests/stm32g0.c), and never on a board. Nothing of it is proved.
  *
- * It supposes this of the part, which was never tried. Compare the reference manuals (RM0444, RM0454):
- * - The cache is on after a reset. It may hold what was read as data too, and neither an erase nor a program takes that
- *   out of it.
- * - An error in the first bank stands in ECCR, one in the second bank in ECC2R. Each tells the address in words of 64 bits
- *   from the beginning of its bank, and keeps the first one while a flag stands.
- * - A second read of what the part read last may raise no NMI.
- * - PNB counts the pages of each bank from 0, and BKER is bit 13 of CR. A part with one bank has neither BKER, BSY2 nor
- *   ECC2R; BSY2 reads as 0 there.
+ * It supposes this of the part, by memory of the reference manuals (RM0444, RM0454) and of the errata sheets, which no one
+ * had at hand. Compare them. "OpenOCD" says that its driver for these parts has the same.
+ * - The device number of DBG_IDCODE, which a program reads while the clock of DBG is on (likely), the size of the flash,
+ *   DUAL_BANK, that BKER is bit 13 of CR, and that PNB counts the pages of each bank from 0 (OpenOCD; Zephyr's driver counts
+ *   those of the second from 256). BKER and PNB name the bank as it is built, while reads go by the address. Where
+ *   nSWAP_BANK is 0, each bank is read at the other's address (likely). Banks are not swapped while a store is open. Where
+ *   the product swaps them between two starts, the pages are read at the other address then, and it gives that one. A part
+ *   with one bank has neither BKER, BSY2 nor ECC2R; BSY2 reads as 0 there.
+ * - The cache is on after a reset. It may hold what was read as data too, and neither an erase nor a program takes that out
+ *   of it.
+ * - An error in the first bank, as it is built, stands in ECCR, one in the second bank in ECC2R. Each tells the address in
+ *   words of 64 bits from the beginning of its bank, and keeps the first one while a flag stands (likely). Which one tells
+ *   the second half of a G0B1 or a G0C1 with one bank is open: pages there are refused. Behind a cut the address may be of
+ *   another word (errata, likely). So an error that comes while the port reads a word counts as that word's, also one in the
+ *   few instructions of the read, or of an interrupt that breaks into it.
+ * - A second read of what the part read last may raise no NMI. The NMI may come some cycles behind the read: the port waits
+ *   until the handler has taken the flag.
+ * - A word that reads as all ones by a correction can't be programmed (likely). So it counts as torn until an erase.
+ * - Two cells of an erased word that a cut cleared may read with no flag (the manual's note on virgin words, likely). The
+ *   port can't tell that: such a word is no value, and the next start may answer EE_FOREIGN.
+ * - Flash is written in voltage range 1 alone (VOS in PWR_CR1; not sure): the program sees to that.
  *
  * So the port reads with the cache off, and turns it off and on in FLASH_ACR: no interrupt writes that register during a
- * call. */
+ * call. Where an MPU guards the flash, it lets the port write to the pages. */
 #ifndef STM32G0_H
 #define STM32G0_H
 
@@ -25,28 +38,34 @@ extern "C" {
 
 /* The registers of the flash, at 0x40022000 (RM0444, "Embedded flash memory"). */
 typedef struct stm32g0_registers {
-    volatile uint32_t acr, reserved, keyr, optkeyr, sr, cr, eccr, ecc2r;
+    volatile uint32_t acr, reserved, keyr, optkeyr, sr, cr, eccr, ecc2r, optr;
 } stm32g0_registers;
 
-/* A part of the flash for a store: whole pages of one bank, that hold nothing else. The members from `pages`
- * on begin as 0, and the port writes them. */
+/* A part of the flash for a store. All but `registers` begins as 0, and the port writes it. */
 typedef struct stm32g0 {
     stm32g0_registers *registers; /* (stm32g0_registers *)0x40022000 */
     volatile uint32_t *flash;     /* where the first of the pages begins */
     uint32_t first_page;          /* the number of that page in its bank */
-    uint32_t bank;                /* 0, or 1 for the second bank of a G0B0, G0B1 or G0C1 with two */
+    uint32_t bank;                /* 0, or 1 for the second bank, as it is built */
     uint32_t pages;               /* how many they are, of both sets */
-    volatile uint32_t error;      /* the bank's ECCR at the last error in these pages that can't be corrected */
-    uint32_t corrected;           /* the same when the flag of a corrected error was last taken away: yours to look at */
+    volatile uint32_t is_reading; /* whether `word` reads */
+    volatile uint32_t reading;    /* the word that it reads, as ECCR tells an address */
+    volatile uint32_t is_stale;   /* whether others met an error since the last read of a word */
+    volatile uint32_t error;      /* the bank's ECCR at the last error that can't be corrected, with that word's address */
+    uint32_t faint;               /* the flags of the last correction that a read here took, and the address of the word */
+    uint32_t corrected;           /* ECCR when the flag of a corrected error was last taken away: yours to look at */
     uint64_t run[EE_RUN];         /* the words that were read at once */
 } stm32g0;
 
-/* The flash of the store: two sets of so many pages of 2 KB, each of 256 words. */
-ee_flash stm32g0_flash(stm32g0 *part, uint32_t pages);
+/* The flash of the store: two sets of so many pages of 2 KB, of 256 words, from an address on that is the beginning of a page.
+ * They hold nothing else. Where they aren't whole pages of one bank, or the port doesn't know the part, the answer has no
+ * pages, and a start answers EE_WRONG_SHAPE. It turns the clock of DBG on for a moment, in RCC_APBENR1. */
+ee_flash stm32g0_flash(stm32g0 *part, uint32_t address, uint32_t pages);
 
-/* To be called by NMI_Handler, which an error raises that can't be corrected. 1 where one in the store's pages was the
- * cause: it is noted, and the handler returns. 0 for any other cause, as an error in the program's own code: nothing was
- * done. It is 0 too where the address may be that of a corrected error, whose flag stood before. */
+/* To be called by NMI_Handler, which an error raises that can't be corrected. 1 where one in the store's pages was the cause,
+ * or one that came while the port read a word: the handler returns. 0 for any other cause, as an error in the program's own
+ * code: no flag was taken away. It is 0 too where the address may be that of a corrected error, whose flag stood
+ * before. The flag stands then, and the NMI comes again at once, so the product notes that and resets. */
 int stm32g0_nmi(stm32g0 *part);
 
 #ifdef __cplusplus

@@ -1,20 +1,41 @@
-/* An example of a port: a store in the flash of an STM32L4, a WB or a WL. It was tested on a computer against a model
- * of the registers, the caches and the NMI (tests/stm32l4.c), and never on a board. Nothing of it is proved.
+/* An example of a port: a store in the flash of an STM32L4, a WB or a WL. It was tested on a computer against a model of the
+ * registers, the caches and the NMI (tests/stm32l4.c), and never on a board. Nothing of it is proved.
  *
- * A WB and a WL differ by two members: `registers` is (stm32l4_registers *)0x58004000, and `counts_words` is 1. The
- * second core of such a part writes flash too, and what it asks for before the first one does is yours to see to. An
- * L4+ (L4P, L4Q, L4R, L4S) has another ECCR, and doesn't fit.
+ * On a WB and a WL `registers` is (stm32l4_registers *)0x58004000. An L4+ (L4P, L4Q, L4R, L4S) has another ECCR, and is
+ * refused.
  *
- * It supposes this of the part, which was never tried. Compare the reference manuals (RM0351, RM0394; of a WB RM0434 and
- * RM0471, of a WL RM0453 and RM0461):
- * - The data cache is on after a reset. Neither an erase nor a program takes old lines out of it.
- * - ECCR tells the address of an error from the beginning of its bank, an L4 in bytes, a WB and a WL in words of 64 bits.
- *   It keeps the first one while a flag stands.
- * - A second read of what the part read last may raise no NMI.
- * - Of SR a WB and a WL have CFGBSY (bit 18), which reads as 0 on an L4.
+ * It supposes this of the part, by memory of the reference manuals (RM0351, RM0394; of a WB RM0434 and RM0471, of a WL
+ * RM0453 and RM0461) and of the errata sheets, which no one had at hand. Compare them. "OpenOCD" says that its driver for
+ * these parts has the same.
+ * - The device number of DBGMCU_IDCODE, which a program reads as a debugger does (likely), the size of the flash and of
+ *   pages, DUALBANK, that 1 MB are two banks whatever it says, BKER and PNB (OpenOCD). BKER and PNB name the bank as it is
+ *   built, while reads go by the address. Where FB_MODE of SYSCFG_MEMRMP stands, each bank is read at the other's address
+ *   (sure). Banks are not swapped while a store is open. Where the product swaps them between two starts, the pages are read
+ *   at the other address then, and it gives that one.
+ * - The data cache is on after a reset. Neither an erase nor a program takes old lines out of it (sure).
+ * - ECCR tells the address of an error from the beginning of its bank, an L4 in bytes, a WB and a WL in words of 64 bits
+ *   (likely). It keeps the first one while a flag stands (sure). Behind a cut that address may be of another word (errata;
+ *   of an L4 and a WL less sure). So an error that comes while the port reads a word counts as that word's, also one in the
+ *   few instructions of the read, or of an interrupt that breaks into it.
+ * - A second read of what the part read last may raise no NMI. The NMI may come some cycles behind the read: the port waits
+ *   until the handler has taken the flag.
+ * - A word that reads as all ones by a correction can't be programmed (likely). So it counts as torn until an erase.
+ * - Two cells of an erased word that a cut cleared may read with no flag (the manuals' note on virgin words, likely). The
+ *   port can't tell that: such a word is no value, and the next start may answer EE_FOREIGN.
+ * - Of SR a WB and a WL have CFGBSY (bit 18) and PESD (bit 19), which read as 0 on an L4 (sure).
+ * - Flash of an L4 is written in voltage range 1 alone (VOS in PWR_CR1; sure), and so that of a WB and a WL (likely): the
+ *   program sees to that.
  *
- * So the port reads with the data cache off, and turns it off and on in FLASH_ACR: no interrupt writes that register
- * during a call. The instruction cache stays as it is, since the pages hold no code. */
+ * The second core of a WB and of a WL5 writes flash too, and its radio can't wait for an erase. Define
+ * STM32L4_MAY_STEP(is_erase) and STM32L4_STEPPED(is_erase) as calls of yours. The first answers 0 where the step may not
+ * begin: the store's call answers EE_DRIVER then, and nothing was begun. By memory of AN5289 it takes the semaphores 2 and 7
+ * (CFG_HW_FLASH_SEMID, CFG_HW_BLOCK_FLASH_REQ_BY_CPU2_SEMID), looks that 6 is free, and before an erase calls
+ * SHCI_C2_FLASH_EraseActivity(ERASE_ACTIVITY_ON); the second call undoes that. The radio's stack has the last pages: SFSA of
+ * FLASH_SFR tells where they begin, and the store's end below.
+ *
+ * So the port reads with the data cache off, and turns it off and on in FLASH_ACR: no interrupt writes that register during
+ * a call. The instruction cache stays as it is, since the pages hold no code. Where an MPU guards the flash, it lets the
+ * port write to the pages. */
 #ifndef STM32L4_H
 #define STM32L4_H
 
@@ -28,30 +49,36 @@ extern "C" {
 
 /* The registers of the flash, at 0x40022000 (RM0351, "Embedded Flash memory"). */
 typedef struct stm32l4_registers {
-    volatile uint32_t acr, pdkeyr, keyr, optkeyr, sr, cr, eccr;
+    volatile uint32_t acr, pdkeyr, keyr, optkeyr, sr, cr, eccr, reserved, optr;
 } stm32l4_registers;
 
-/* A part of the flash for a store: whole pages of one bank, that hold nothing else. The members from `pages`
- * on begin as 0, and the port writes them. */
+/* A part of the flash for a store. All but `registers` begins as 0, and the port writes it. */
 typedef struct stm32l4 {
     stm32l4_registers *registers; /* (stm32l4_registers *)0x40022000 */
     volatile uint32_t *flash;     /* where the first of the pages begins */
     uint32_t first_page;          /* the number of that page in its bank */
-    uint32_t bank;                /* 0, or 1 for the second bank of a part with two */
-    uint32_t page_words;          /* 256 with pages of 2 KB; 512 with those of 4 KB, as a WB55 has them */
+    uint32_t bank;                /* 0, or 1 for the second bank, as it is built */
+    uint32_t page_words;          /* 256 of a page of 2 KB, 512 of one of 4 KB */
     uint32_t counts_words;        /* 0: ECCR counts by bytes, on an L4; 1: by words, on a WB and a WL */
     uint32_t pages;               /* how many they are, of both sets */
-    volatile uint32_t error;      /* ECCR at the last error in these pages that can't be corrected */
+    volatile uint32_t is_reading; /* whether `word` reads */
+    volatile uint32_t reading;    /* the word that it reads, as ECCR tells an address */
+    volatile uint32_t is_stale;   /* whether others met an error since the last read of a word */
+    volatile uint32_t error;      /* ECCR at the last error that can't be corrected, with the address of the word read */
+    uint32_t faint;               /* the flags of the last correction that a read here took, and the address of the word */
     uint32_t corrected;           /* ECCR when the flag of a corrected error was last taken away: yours to look at */
     uint64_t run[EE_RUN];         /* the words that were read at once */
 } stm32l4;
 
-/* The flash of the store: two sets of so many pages. */
-ee_flash stm32l4_flash(stm32l4 *part, uint32_t pages);
+/* The flash of the store: two sets of so many pages, from an address on that is the beginning of a page. They hold nothing
+ * else. Where they aren't whole pages of one bank, or the port doesn't know the part, the answer has no pages, and a start
+ * answers EE_WRONG_SHAPE. On a part with two banks it turns the clock of SYSCFG on for a moment, in RCC_APB2ENR. */
+ee_flash stm32l4_flash(stm32l4 *part, uint32_t address, uint32_t pages);
 
-/* To be called by NMI_Handler, which an error raises that can't be corrected. 1 where one in the store's pages was the
- * cause: it is noted, and the handler returns. 0 for any other cause, as an error in the program's own code: nothing was
- * done. It is 0 too where the address may be that of a corrected error, whose flag stood before. */
+/* To be called by NMI_Handler, which an error raises that can't be corrected. 1 where one in the store's pages was the cause,
+ * or one that came while the port read a word: the handler returns. 0 for any other cause, as an error in the program's own
+ * code: no flag was taken away. It is 0 too where the address may be that of a corrected error, whose flag stood
+ * before. The flag stands then, and the NMI comes again at once, so the product notes that and resets. */
 int stm32l4_nmi(stm32l4 *part);
 
 #ifdef __cplusplus
