@@ -4,17 +4,20 @@
  * from 0, those of the first set first, and the words of a page from 0. A set has pages * (page_words - 4) slots: as many
  * variables can have a value. A variable has 32 bits, and an address of 1 to 65534.
  *
- * A part whose words have no error correction gives numbers of 64 bits in their place, and `pairs` says so: then a word is two
+ * A part whose words have no error correction gives numbers of 64 bits in their place, and `kind` says so: then a word is two
  * numbers, a value beside its complement, which takes twice the flash. A cut number is told by its other half.
  *
  * The library allocates nothing. It keeps what it knows in the `ee_store` that the caller lends, and reads and writes the
  * flash by the three functions of an `ee_flash`. Whatever these answer, none is asked for a page or a word that the flash does
  * not have.
  *
- * Every call answers a status: one of its own list below, or, before these, EE_NULL, EE_OFF, EE_WRONG_SHAPE or EE_WRONG_NUMBER,
- * by which a call refuses its pointers, its store, its flash or an address. Pointers that are NULL are refused with EE_NULL; all
- * others must be good. No call may be made from inside one of the three functions, nor from an interrupt or a thread that may
- * break into a call on the same store.
+ * Every call answers a status: one of its own list below, or, before these, EE_NULL, EE_NOT_OPEN, EE_BUSY, EE_WRONG_SHAPE or
+ * EE_WRONG_NUMBER, by which a call refuses its pointers, its store, its flash or an address. Pointers that are NULL are refused
+ * with EE_NULL. All others must be good, and aligned as C has it for their types; so must be what `words` answers.
+ *
+ * One call is made on a store at a time. A call from inside one of the three functions, or from an interrupt that breaks into a
+ * call on the same store, is refused with EE_BUSY. That is not so of the calls that take an `ee_flash`: make none of them there.
+ * Threads hold one mutex around each call, for all stores and drivers of one flash controller. No two stores are on one flash.
  *
  * Nothing here calls itself, no memory is asked for, and each loop has an end. At most so many words are read, words
  * programmed and pages erased in a call, with P pages in a set, S = P * (page_words - 4) slots, W = 2 * P * page_words words
@@ -30,7 +33,7 @@
  *                                       + n * S
  *     ee_forget  where a slot is free   S + 2            3                0
  *                else                   N + 2 * W        S + 3 * P + 1    P
- *     ee_clear                          2 * W            P + 2            P
+ *     ee_forget_all                     2 * W            P + 2            P
  *     ee_clean                          W / 2 + P        0                1
  *     ee_read                           S                0                0
  *     ee_next                           N                0                0
@@ -38,12 +41,13 @@
  *     ee_rescue                         N + 3 * W        S + 3 * P + 1    P
  *     ee_bad_words                      2 * W            0                0
  *
- * With `pairs` a word read or programmed is two numbers, ee_open reads W words more, and ee_start 2 * W. For each torn word,
- * which a cut left half written, ee_start and ee_open read 17 words more.
+ * On pairs a word read or programmed is two numbers, ee_open reads W words more, and ee_start 2 * W. For each torn word, which a
+ * cut left half written, ee_start and ee_open read 17 words more.
  *
- * A watchdog is fed in your own three functions: in the loop in which `program` and `erase` wait for the end of a step, and in
- * `word` where so many words as above take long to read. Between two calls of the three the library does some hundred
- * instructions; but ee_write_all first compares each two addresses of its list.
+ * A watchdog waits longer than the longest step, which is an erase. On a part with one bank the core stalls in a step, on a fetch
+ * from the flash that is erased: no loop runs there, nor SysTick, unless it stands in RAM. So feed the watchdog in your three
+ * functions, before each step and in `word`. Between two calls of the three the library does some hundred instructions; but
+ * ee_write_all first compares each two addresses of its list.
  *
  * The stack that a call takes stands in the head of ee.s, beside what the three functions take. README.md has more of this.
  */
@@ -55,9 +59,9 @@
 
 /* The version of the library. */
 #define EE_VERSION_MAJOR 0
-#define EE_VERSION_MINOR 1
+#define EE_VERSION_MINOR 2
 #define EE_VERSION_PATCH 0
-#define EE_VERSION "0.1.0"
+#define EE_VERSION "0.2.0"
 
 #ifdef __GNUC__
 #define EE_COPY __builtin_memcpy /* takes no header, and no call */
@@ -70,42 +74,55 @@
 extern "C" {
 #endif
 
-/* What a call answers: one of the EE_ numbers below, of EE_OK to EE_TWICE. */
+/* What a call answers: one of the EE_ numbers below, of EE_OK to EE_BUSY. */
 typedef uint32_t ee_result;
+
+/* What a flash has. */
+enum {
+    /* Words, as above. */
+    EE_WORDS = 0,
+    /* Numbers, for a part without error correction: `word` and `program` are asked for numbers, of which a page has
+     * 2 * page_words. A number may be programmed by parts, in any order.
+     *
+     * This is what the part owes: cells go one way, from one to zero while a number is programmed and from zero to one while a
+     * page is erased. So a cut in `program` leaves a number with every bit of the one asked for, and a cut in `erase` leaves each
+     * number of the page with every bit that it had. A number reads the same until it is written.
+     *
+     * Where `word` answers EE_TORN that number counts as 0, which stands in no word of a store: the word is torn, or is none of the
+     * store's, and the next opening may say EE_FOREIGN. */
+    EE_PAIRS = 1,
+    /* The same where an erase may clear the cells of its page first, as many serial flashes do. A cut in `program` leaves what it
+     * leaves there, and a cut in `erase` any numbers. That no two of a word are a value and its complement that weren't is a
+     * premise: chance makes them of 64 bits, and of a word that a cut `program` tore of the few that it lacks. */
+    EE_PAIRS_CLEARING = 2
+};
 
 /* A flash. It stays where it is, and as it is, while a store is open on it; it may be a constant. */
 typedef struct ee_flash {
     void *context; /* given to each of the three functions; the library does not look at it */
+    /* The flash doesn't store these two: give the same at each start. With others ee_start may answer EE_OK with no values, or
+     * with older ones. */
     uint32_t pages;      /* of one set, 1 to 64: the flash has twice as many */
     uint32_t page_words; /* 5 to 512 */
-    /* Reads a word. 0, and the word in `value`: all ones is an erased word. EE_READ_FAILED where the read itself failed, as on a
-     * bus that isn't up, and nothing is known of the word: the call makes no step after that and answers EE_DRIVER, and the
-     * store is off. Any other number where the word can't be read (an uncorrectable ECC error). A word reads the same until it
-     * is written. */
+    /* Reads a word. 0, and the word in `value`: all ones is an erased word. EE_TORN where the word can't be read: an uncorrectable
+     * ECC error, and also all ones that needed a correction, since a part may not program such a word. Any other number where the
+     * read itself failed, as on a bus that isn't up: nothing is known of the word, so the call makes no step after that and answers
+     * EE_DRIVER, and the store is off. Such a number is EE_READ_FAILED, or a status of the driver's own. Never
+     * EE_TORN for a read that failed: ee_start would take each word for torn, and erase all values.
+     *
+     * A word reads the same until it is written. Before the first read the flash is ready and in its mode for reading; until then
+     * the read fails. */
     uint32_t (*word)(void *context, uint32_t page, uint32_t place, uint64_t *value);
     /* Programs a word that is erased, with a value that is not all ones. 0 once it reads back; any other number where it
      * failed. */
     uint32_t (*program)(void *context, uint32_t page, uint32_t place, uint64_t value);
     /* Erases a page. 0 once every word of it reads as erased; any other number where it failed. */
     uint32_t (*erase)(void *context, uint32_t page);
-    /* 0 where the flash has words, as above. 1 or 2 where it has numbers, for a part without error correction: `word` and
-     * `program` are asked for numbers, of which a page has 2 * page_words. Any other is refused with EE_WRONG_SHAPE.
-     *
-     * With 1 this is what the part owes: cells go one way, from one to zero while a number is programmed and from zero to one
-     * while a page is erased. So a cut in `program` leaves a number with every bit of the one asked for, and a cut in `erase`
-     * leaves each number of the page with every bit that it had. A number may be programmed by parts, in any order.
-     *
-     * With 2 an erase may clear the cells of its page first, as many serial flashes do. A cut in `program` leaves the same, and
-     * a cut in `erase` any numbers. That no two of a word are a value and its complement that weren't is a premise: chance
-     * makes them of 64 bits, and of a word that a cut `program` tore of the few that it lacks.
-     *
-     * A number reads the same until it is written, and `word` answers 0. Where it answers another number than EE_READ_FAILED,
-     * that number of the flash counts as 0, which stands in no word of a store: the word is torn, or is none of the store's, and the next opening
-     * may say EE_FOREIGN. */
-    uint32_t pairs;
+    /* What the flash has: EE_WORDS, EE_PAIRS or EE_PAIRS_CLEARING. Any other is refused with EE_WRONG_SHAPE. */
+    uint32_t kind;
     /* NULL, or for speed alone: where `count` words of a page stand in memory, from a place on; all are in the page. They are 1
-     * to EE_RUN, with `pairs` 2 to 2 * EE_RUN numbers. Each reads as by `word`: all ones is an erased one. NULL as an answer where one of
-     * them can't be read, where a read failed, or where they stand in no memory: then `word` is asked for each. They are looked
+     * to EE_RUN, on pairs 2 to 2 * EE_RUN numbers. Each reads as by `word`: all ones is an erased one. NULL as an answer where one
+     * of them can't be read, where a read failed, or where they stand in no memory: then `word` is asked for each. They are looked
      * at before one of these functions is called again, so they may stand in a buffer, the same each time. */
     const uint64_t *(*words)(void *context, uint32_t page, uint32_t place, uint32_t count);
 } ee_flash;
@@ -113,7 +130,10 @@ typedef struct ee_flash {
 /* The most words that `words` is asked for at once; of numbers twice as many. */
 #define EE_RUN 16
 
-/* What `word` answers where the read itself failed. */
+/* What `word` answers where the word can't be read: an uncorrectable ECC error. */
+#define EE_TORN UINT32_C(0x00ee7042)
+
+/* What it may answer where the read itself failed. Every other answer but 0 and EE_TORN says the same. */
 #define EE_READ_FAILED UINT32_C(0x00ee00ee)
 
 /* Private: what a store keeps. */
@@ -121,8 +141,12 @@ struct ee_shape {
     uint32_t pages;
     uint32_t words;
 };
+struct ee_power {
+    const ee_flash *flash; /* NULL while the store is off */
+    const void *idle;      /* the store's own place while no call is made on it, NULL in a call */
+};
 struct ee_device {
-    const ee_flash **power; /* where the pointer to the flash stands, which is NULL while the store is off */
+    struct ee_power *power; /* where it stands in the store */
     struct ee_shape shape;
 };
 struct ee_layout {
@@ -139,16 +163,17 @@ struct ee_kept {
     struct ee_known known;
 };
 
-/* A store, in memory that the caller lends, which stays where it is. ee_start, ee_open or ee_format comes before every other
- * call on it. One of zeros is off, and so is a copy of one. */
+/* A store, in memory that the caller lends, which stays where it is. ee_start, ee_open, ee_format or ee_rescue comes before every
+ * other call on it. One of zeros is off, and so is a copy of one. A copy that is put where the store stood isn't told from it, and
+ * may be an older one: open it before any other call. */
 typedef struct ee_store {
-    /* Private. Its size is part of what the files of assembly take: eight pointers. The members are those of ee.c. */
+    /* Private. Its size is part of what the files of assembly take: nine pointers. The members are those of ee.c. */
     union {
-        uintptr_t words[8];
-        uint32_t numbers[8]; /* as large where a pointer has 16 bits */
+        uintptr_t words[9];
+        uint32_t numbers[8]; /* enough where a pointer has 16 bits */
         struct {
             struct ee_kept store;
-            const ee_flash *flash; /* NULL while the store is off */
+            struct ee_power power;
         } parts;
     } memory;
 } ee_store;
@@ -160,22 +185,25 @@ enum {
     EE_FULL = 2,           /* more addresses would have a value than there are slots */
     EE_SPENT = 3,          /* a move is needed, and the generation is the greatest, 4294967294 */
     EE_ABSENT = 4,         /* the address has no value to be forgotten */
-    /* The flash holds no store. Nothing was written. */
+    /* The flash holds no store, as it reads. Nothing was written. */
     EE_UNFORMATTED = 5,    /* every word is erased */
     EE_NO_LIVE_SET = 6,    /* no set is live */
-    EE_TWO_LIVE = 7,       /* both sets are */
-    EE_FOREIGN = 8,        /* a word of the live set is not the store's; with `pairs`, a word of either set */
+    EE_TWO_LIVE = 7,       /* both sets are; one word that went bad can make that, and ee_rescue keeps all values then */
+    EE_FOREIGN = 8,        /* a word of the live set is not the store's; on pairs, a word of either set */
     /* A function of the flash failed, and the store is off: a change was made or was not, a list of values as a whole, and all
      * else is as before. Also where words that changed from look to look led to a page that the flash does not have. */
     EE_DRIVER = 9,
-    /* The store is off, or was never opened. Open it. It comes before all refusals but that of `store` as a NULL pointer. */
-    EE_OFF = 10,
+    /* The store is off, or was never opened. Open it. It comes before all refusals but that of `store` as a NULL pointer; so does
+     * EE_BUSY. */
+    EE_NOT_OPEN = 10,
     /* Refusals of the call itself. Nothing was written. */
-    EE_WRONG_SHAPE = 11,   /* `pages`, `page_words` or `pairs` is out of range */
+    EE_WRONG_SHAPE = 11,   /* `pages`, `page_words` or `kind` is out of range */
     EE_WRONG_NUMBER = 12,  /* the address is 0 or 65535 */
     EE_NULL = 13,          /* a pointer is NULL */
     /* Another refusal of a change. Nothing was written. */
-    EE_TWICE = 14          /* an address stands twice in the list */
+    EE_DUPLICATE = 14,     /* an address stands twice in the list */
+    /* Another call on the store is being made, as where an interrupt breaks into it: this one did nothing. */
+    EE_BUSY = 15
 };
 
 /* A value that an address gets. */
@@ -190,7 +218,7 @@ typedef struct ee_numbers {
     uint32_t fill;       /* how many of them are used, torn ones too */
     uint32_t live;       /* how many addresses have a value */
     uint32_t pending;    /* how many pages wait to be erased */
-    uint32_t torn;       /* how many of the slots are torn: power was cut while they were programmed */
+    uint32_t torn;       /* how many of the slots are torn: power was cut while they were programmed, or they went bad */
     uint32_t generation; /* of the live set: 1 to 4294967294, one more with each move */
 } ee_numbers;
 
@@ -199,10 +227,11 @@ typedef struct ee_numbers {
  * `generation / 2` times, and once more for each power cut in a move. Hold that against the cycles that the part's datasheet
  * tells. What was erased before the store was made, and by ee_format, is not in it. */
 
-/* The call to make at each start. Opens the store that the flash holds, as ee_open, or makes the first one: where no set is
- * live and each word behind a page's header is erased or torn; with `pairs`, where every number is all ones but the first four
- * of page 0. A first start in which power was cut is made again; no stored value is erased. EE_OK; EE_NO_LIVE_SET,
- * EE_TWO_LIVE, EE_FOREIGN, EE_DRIVER. */
+/* The call to make at each start, as others mount a file system. Opens the store that the flash holds, as ee_open, or makes the
+ * first one: where no set is live and each word behind a page's header is erased or torn. On EE_PAIRS that is where every number
+ * is all ones but the first four of page 0, and on EE_PAIRS_CLEARING where page 0 holds no value and all else is blank: whatever
+ * else stands in that page is formatted over. A first start in which power was cut is made again; no stored value is erased.
+ * EE_OK; EE_NO_LIVE_SET, EE_TWO_LIVE, EE_FOREIGN, EE_DRIVER. */
 ee_result ee_start(ee_store *store, const ee_flash *flash);
 
 /* Opens the store that the flash holds. Where power was cut it sets the marks that were left to set, else it writes nothing.
@@ -220,7 +249,7 @@ ee_result ee_write(ee_store *store, uint16_t address, uint32_t value);
 /* Gives addresses their values at once, each address once: wherever this call is cut, all of them are there afterwards or none.
  * The list has `count` entries, stays the caller's and may be a constant. For two and more all variables move to the other set,
  * whether a slot is free or not; a list of one is as ee_write, and an empty one changes nothing. The first that applies:
- * EE_TWICE, EE_FULL, EE_SPENT, EE_DRIVER; or EE_OK. */
+ * EE_DUPLICATE, EE_FULL, EE_SPENT, EE_DRIVER; or EE_OK. */
 ee_result ee_write_all(ee_store *store, const ee_value *values, uint32_t count);
 
 /* Takes the value of an address away. EE_OK; EE_ABSENT, EE_SPENT, EE_DRIVER. */
@@ -228,9 +257,9 @@ ee_result ee_forget(ee_store *store, uint16_t address);
 
 /* Takes the values of all addresses away at once, as for a factory reset: wherever this call is cut, each address has its value
  * afterwards or none has one. Where a slot is used it makes the other set the live one, with nothing in it; else it writes
- * nothing. The old values' words stay in the flash until their set is erased: call ee_clean until it answers EE_NOTHING.
- * EE_OK; EE_SPENT, EE_DRIVER. */
-ee_result ee_clear(ee_store *store);
+ * nothing. The old values' words stay in the flash until their set is erased: call ee_clean until it answers EE_NOTHING, at most
+ * `pages` times. EE_OK; EE_SPENT, EE_DRIVER. */
+ee_result ee_forget_all(ee_store *store);
 
 /* Erases one page that waits for it, so that a later move finds less to do. EE_OK, EE_NOTHING; EE_DRIVER. */
 ee_result ee_clean(ee_store *store);
@@ -249,10 +278,22 @@ ee_result ee_counts(const ee_store *store, ee_numbers *numbers);
  * byte of them.
  *
  * Makes a store of what the slots still say, whatever the flash holds: the values move to the other set, as in a write that
- * finds no free slot. One word that went bad costs its own value, and no more; docs/PROMISES.md says of which words, and where
- * nothing is promised. Where it is cut or a step fails, call it again. ee_counts says how many values are there then.
+ * finds no free slot, and that set is erased first. Two questions come before. Is the shape that of the firmware that wrote the
+ * flash? By another one words are taken for values that are none, and values are erased. And is the flash ready? So call ee_start
+ * again, with pauses, before this.
  *
- * With `pairs` two numbers that no store wrote are a bad word too. Then call ee_clean behind it until that answers EE_NOTHING:
+ * One word that went bad costs the value that it held, and no more: its address has an older value then, or none. That holds where
+ * the words 0 and 1 of the live set's first page are not erased. If word 1 reads as all ones, and the other set has its whole erase
+ * mark, the older set is taken. docs/PROMISES.md says of which words it holds, and where nothing is promised.
+ *
+ * A slot that went bad may refuse no opening: it counts as torn, and its address has an older value, or none, at each start. A
+ * program that has to know notes how many slots are torn (ee_counts), or writes a sum over its values with them, in one list.
+ *
+ * Where it is cut or a step fails, call it again. The values are there still, but where the word went bad that commits the set:
+ * then older ones may be. None is lost so where no page waited to be erased when the word went bad. So call ee_clean behind each
+ * move until it answers EE_NOTHING.
+ *
+ * On pairs two numbers that no store wrote are a bad word too. Then call ee_clean behind this one too, at most `pages` times:
  * where they stand in the other set, ee_start and ee_open refuse the flash until that page is erased. Of a page that has such
  * numbers nothing is promised if power is cut in its erase.
  *
@@ -278,7 +319,7 @@ static inline ee_result ee_update(ee_store *store, uint16_t address, uint32_t va
 
 /* The value of an address, or `otherwise` where it has none. It is `otherwise` too where the call was refused or a read
  * failed; ee_read tells these apart. After a read that failed the store is off, so a write of what was made of `otherwise`
- * is refused with EE_OFF. */
+ * is refused with EE_NOT_OPEN. */
 static inline uint32_t ee_read_or(const ee_store *store, uint16_t address, uint32_t otherwise) {
     uint32_t value = otherwise;
     return ee_read(store, address, &value) == EE_OK ? value : otherwise;
@@ -348,11 +389,12 @@ static inline const char *ee_status_text(ee_result status) {
     case EE_TWO_LIVE: return "two sets are live";
     case EE_FOREIGN: return "a word is not the store's";
     case EE_DRIVER: return "the flash failed, and the store is off";
-    case EE_OFF: return "the store is off";
-    case EE_WRONG_SHAPE: return "pages, page_words or pairs is out of range";
+    case EE_NOT_OPEN: return "the store is off";
+    case EE_WRONG_SHAPE: return "pages, page_words or kind is out of range";
     case EE_WRONG_NUMBER: return "the address is 0 or 65535";
     case EE_NULL: return "a pointer is NULL";
-    case EE_TWICE: return "an address stands twice in the list";
+    case EE_DUPLICATE: return "an address stands twice in the list";
+    case EE_BUSY: return "another call on the store is being made";
     default: return "no status of ee";
     }
 }

@@ -73,7 +73,7 @@ static uint32_t number(void *context, uint32_t page, uint32_t place, uint64_t *v
     part *p = context;
     CHECK(page < PAGES && place < PEER_NUMBERS);
     *value = p->torn[page][place] ? 1 : p->numbers[page][place];
-    return p->torn[page][place];
+    return p->torn[page][place] ? EE_TORN : 0;
 }
 
 static uint32_t program(void *context, uint32_t page, uint32_t place, uint64_t value) {
@@ -110,7 +110,7 @@ static peer_flash peer_flash_of(part *p) {
 
 static ee_flash ee_flash_of(part *p) {
     return (ee_flash){.context = p, .pages = PEER_PAGES, .page_words = PEER_PAGE_WORDS, .word = number, .program = program,
-                      .erase = erase, .pairs = PEER_PAIRS};
+                      .erase = erase, .kind = PEER_PAIRS};
 }
 
 /* The values of a store; of an address that has none `there` is 0. */

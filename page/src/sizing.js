@@ -1,5 +1,5 @@
 // @ts-check
-// How long a part lasts, computed by the page: the count of moves that docs/SIZING.md explains, without the proofs.
+// How long a part lasts, computed by the page: the count of moves that docs/GUIDE.md explains, without the proofs.
 
 /** @typedef {{pages: number, slots: number, ours: number, least: number, limit: number, misfit: number}} Size
  *  the runs of the script that it bears, as many as the erases, the least and the limit are enough for: with this store,

@@ -2,25 +2,55 @@
 
 /* The memory has the size that the files of assembly take, and more where a pointer has 16 bits. */
 typedef char ee_store_has_its_size[sizeof(ee_store) == (sizeof(uintptr_t) < 4u ? 32u :
-        8u * sizeof(uintptr_t)) ? 1 : -1];
+        9u * sizeof(uintptr_t)) ? 1 : -1];
 
-/* Why the store in memory that C lends is not on, or EE_OK. A copy of a store is off: its device
- * looks at the memory that it was opened in. */
-static ee_result standing(const ee_store *memory) {
+/* What says whether a store can take a call. It is written in a call that only reads, too: a store
+ * that was opened is no constant. */
+static struct ee_power *power_of(const ee_store *memory) {
+    return &((ee_store *)memory)->memory.parts.power;
+}
+
+/* Begins a call on a store in memory that C lends: EE_OK, or why not. No call begins with another
+ * pointer that is NULL, nor with a number that is no address. A copy of a store has the place of
+ * that store, and is off. */
+static ee_result begun(const ee_store *memory, uint16_t address, const void *other) {
     if (memory == NULL) {
         return EE_NULL;
     }
-    const ee_flash *const *const power = &memory->memory.parts.flash;
-    if (*power == NULL || memory->memory.parts.store.flash.power != power) {
-        return EE_OFF;
+    struct ee_power *const power = power_of(memory);
+    if (power->idle != memory) {
+        return power->idle == NULL && power->flash != NULL ? (ee_result)EE_BUSY : (ee_result)EE_NOT_OPEN;
     }
+    if (other == NULL) {
+        return EE_NULL;
+    }
+    if (!address_new(address).some) {
+        return EE_WRONG_NUMBER;
+    }
+    power->idle = NULL;
+    EE_IN_ORDER();
     return EE_OK;
 }
 
-/* The status of a call that answered this: what a store says counts only where its flash didn't
- * fail. */
-static ee_result status_of(const ee_store *memory, ee_result status) {
-    return memory->memory.parts.flash == NULL ? (ee_result)EE_DRIVER : status;
+/* The address for `begun` of a call that has none. */
+#define EE_NO_ADDRESS 1u
+
+/* Ends a call whose flash didn't fail, and gives its status: the store takes a call again. */
+EE_IN_PLACE ee_result ended_well(ee_result status, const ee_store *memory) {
+    EE_IN_ORDER();
+    power_of(memory)->idle = memory;
+    return status;
+}
+
+/* Ends a call that answered this, and gives its status: what a store says counts only where its
+ * flash didn't fail. */
+static ee_result ended(ee_result status, const ee_store *memory) {
+    return power_of(memory)->flash == NULL ? (ee_result)EE_DRIVER : ended_well(status, memory);
+}
+
+/* Whether the flash failed in a call. */
+static bool is_broken(const ee_store *memory) {
+    return memory->memory.parts.power.flash == NULL;
 }
 
 static ee_result scan_status(ScanFault fault) {
@@ -42,26 +72,26 @@ static ee_result device_in(ee_store *memory, const ee_flash *flash, Device *devi
     if (memory == NULL) {
         return EE_NULL;
     }
-    memory->memory.parts.flash = NULL;
+    memory->memory.parts.power = (struct ee_power){ .flash = NULL, .idle = NULL };
     if (flash == NULL || flash->word == NULL || flash->program == NULL || flash->erase == NULL) {
         return EE_NULL;
     }
     const MaybeShape shape = shape_new(flash->pages, flash->page_words);
-    if (!shape.some || flash->pairs > 2u) {
+    if (!shape.some || flash->kind > EE_PAIRS_CLEARING) {
         return EE_WRONG_SHAPE;
     }
-    memory->memory.parts.flash = flash;
-    *device = (Device){ .power = &memory->memory.parts.flash, .shape = shape.value };
+    memory->memory.parts.power.flash = flash;
+    *device = (Device){ .power = &memory->memory.parts.power, .shape = shape.value };
     return EE_OK;
 }
 
 /* An opening ends with this status: the store is off unless it is EE_OK. */
-static ee_result opening_ended(ee_store *memory, ee_result status) {
-    const ee_result ended = status_of(memory, status);
-    if (ended != EE_OK) {
-        memory->memory.parts.flash = NULL;
+EE_APART ee_result opening_ended(ee_result status, ee_store *memory) {
+    const ee_result answer = ended(status, memory);
+    if (answer != EE_OK) {
+        memory->memory.parts.power = (struct ee_power){ .flash = NULL, .idle = NULL };
     }
-    return ended;
+    return answer;
 }
 
 /* Keeps the store of a device that an opening gave this, and gives its status. */
@@ -80,8 +110,8 @@ static ee_result keep_opened(ee_store *memory, const Device *device,
 /* Looks a flash of numbers through before it is opened, unless its erases clear first: EE_FOREIGN
  * where a word is no store's. */
 static ee_result looked_through(const Device *device) {
-    const ee_flash *const flash = *device->power;
-    if (flash->pairs == 1u) {
+    const ee_flash *const flash = device->power->flash;
+    if (flash->kind == EE_PAIRS) {
         const Numbers numbers = numbers_of(device, flash);
         if (first_low(&numbers).some) {
             return EE_FOREIGN;
@@ -116,7 +146,7 @@ ee_result ee_open(ee_store *store, const ee_flash *flash) {
         const LayoutOrOpenFault answer = open_on(&device);
         status = keep_opened(store, &device, &answer);
     }
-    return opening_ended(store, status);
+    return opening_ended(status, store);
 }
 
 /* Where a flash of numbers holds more than a first start leaves it is opened, and no first store
@@ -129,11 +159,11 @@ ee_result ee_start(ee_store *store, const ee_flash *flash) {
     }
     status = looked_through(&device);
     if (status == EE_OK) {
-        const bool holds = flash->pairs != 0u && holds_more(&device, flash->pairs == 2u);
+        const bool holds = flash->kind != EE_WORDS && holds_more(&device, flash->kind == EE_PAIRS_CLEARING);
         const LayoutOrOpenFault answer = holds ? open_on(&device) : start_on(&device);
         status = keep_opened(store, &device, &answer);
     }
-    return opening_ended(store, status);
+    return opening_ended(status, store);
 }
 
 /* A flash of numbers isn't wiped before: a format itself erases each page that isn't blank, by rising
@@ -146,10 +176,10 @@ ee_result ee_format(ee_store *store, const ee_flash *flash) {
     }
     const LayoutOrCut answer = write_format(&device);
     if (!answer.ok) {
-        return opening_ended(store, EE_DRIVER);
+        return opening_ended(EE_DRIVER, store);
     }
     store->memory.parts.store = store_of(device, answer.value);
-    return opening_ended(store, EE_OK);
+    return opening_ended(EE_OK, store);
 }
 
 static ee_result rescue_status(RescueFault fault) {
@@ -173,10 +203,10 @@ ee_result ee_rescue(ee_store *store, const ee_flash *flash) {
     }
     const RescueResult answer = rescue_uncounted(device);
     if (!answer.ok) {
-        return opening_ended(store, rescue_status(answer.error.second));
+        return opening_ended(rescue_status(answer.error.second), store);
     }
     store->memory.parts.store = answer.value.first;
-    return opening_ended(store, EE_OK);
+    return opening_ended(EE_OK, store);
 }
 
 ee_result ee_bad_words(const ee_flash *flash, uint32_t *count) {
@@ -190,17 +220,17 @@ ee_result ee_bad_words(const ee_flash *flash, uint32_t *count) {
         return EE_NULL;
     }
     const uint32_t bad = bad_words(&device);
-    const ee_result answer = status_of(&looked, EE_OK);
-    if (answer == EE_OK) {
-        *count = bad;
+    if (is_broken(&looked)) {
+        return EE_DRIVER;
     }
-    return answer;
+    *count = bad;
+    return EE_OK;
 }
 
 static ee_result write_status(WriteFault fault) {
     switch (fault) {
     case WriteFault_Off:
-        return EE_OFF;
+        return EE_NOT_OPEN;
     case WriteFault_Full:
     case WriteFault_Memory: /* This store keeps no index, and never says it. */
         return EE_FULL;
@@ -213,23 +243,23 @@ static ee_result write_status(WriteFault fault) {
 }
 
 ee_result ee_write(ee_store *store, uint16_t address, uint32_t value) {
-    const ee_result standing_so = standing(store);
-    if (standing_so != EE_OK) {
-        return standing_so;
-    }
-    if (!address_new(address).some) {
-        return EE_WRONG_NUMBER;
+    const ee_result refused = begun(store, address, store);
+    if (refused != EE_OK) {
+        return refused;
     }
     const WriteResult answer = store_write(&store->memory.parts.store, address, value);
-    return status_of(store, answer.ok ? (ee_result)EE_OK : write_status(answer.error));
+    if (answer.ok && answer.value == Written_Appended) {
+        return ended_well(EE_OK, store); /* Its last step was made, so nothing failed before. */
+    }
+    return ended(answer.ok ? (ee_result)EE_OK : write_status(answer.error), store);
 }
 
 static ee_result write_all_status(WriteAllFault fault) {
     switch (fault.tag) {
     case WriteAllFault_Off:
-        return EE_OFF;
+        return EE_NOT_OPEN;
     case WriteAllFault_Twice:
-        return EE_TWICE;
+        return EE_DUPLICATE;
     case WriteAllFault_Full:
     case WriteAllFault_Memory: /* As of `write_status`. */
         return EE_FULL;
@@ -242,27 +272,24 @@ static ee_result write_all_status(WriteAllFault fault) {
 }
 
 ee_result ee_write_all(ee_store *store, const ee_value *values, uint32_t count) {
-    const ee_result standing_so = standing(store);
-    if (standing_so != EE_OK) {
-        return standing_so;
-    }
-    if (values == NULL) {
-        return EE_NULL;
+    const ee_result refused = begun(store, EE_NO_ADDRESS, values);
+    if (refused != EE_OK) {
+        return refused;
     }
     for (uint32_t at = 0u; at < count; at++) {
         if (!address_new(values[at].address).some) {
-            return EE_WRONG_NUMBER;
+            return ended_well(EE_WRONG_NUMBER, store);
         }
     }
     const ListOfPut list = { .items = values, .len = count };
     const WriteAllResult answer = store_write_all(&store->memory.parts.store, list);
-    return status_of(store, answer.ok ? (ee_result)EE_OK : write_all_status(answer.error));
+    return ended(answer.ok ? (ee_result)EE_OK : write_all_status(answer.error), store);
 }
 
 static ee_result forget_status(ForgetFault fault) {
     switch (fault) {
     case ForgetFault_Off:
-        return EE_OFF;
+        return EE_NOT_OPEN;
     case ForgetFault_Absent:
         return EE_ABSENT;
     case ForgetFault_Spent:
@@ -274,21 +301,18 @@ static ee_result forget_status(ForgetFault fault) {
 }
 
 ee_result ee_forget(ee_store *store, uint16_t address) {
-    const ee_result standing_so = standing(store);
-    if (standing_so != EE_OK) {
-        return standing_so;
-    }
-    if (!address_new(address).some) {
-        return EE_WRONG_NUMBER;
+    const ee_result refused = begun(store, address, store);
+    if (refused != EE_OK) {
+        return refused;
     }
     const ForgetResult answer = store_forget(&store->memory.parts.store, address);
-    return status_of(store, answer.ok ? (ee_result)EE_OK : forget_status(answer.error));
+    return ended(answer.ok ? (ee_result)EE_OK : forget_status(answer.error), store);
 }
 
 static ee_result clear_status(ClearFault fault) {
     switch (fault) {
     case ClearFault_Off:
-        return EE_OFF;
+        return EE_NOT_OPEN;
     case ClearFault_Spent:
         return EE_SPENT;
     case ClearFault_Cut:
@@ -297,82 +321,77 @@ static ee_result clear_status(ClearFault fault) {
     }
 }
 
-ee_result ee_clear(ee_store *store) {
-    const ee_result standing_so = standing(store);
-    if (standing_so != EE_OK) {
-        return standing_so;
+ee_result ee_forget_all(ee_store *store) {
+    const ee_result refused = begun(store, EE_NO_ADDRESS, store);
+    if (refused != EE_OK) {
+        return refused;
     }
     const ClearResult answer = store_clear(&store->memory.parts.store);
-    return status_of(store, answer.ok ? (ee_result)EE_OK : clear_status(answer.error));
+    return ended(answer.ok ? (ee_result)EE_OK : clear_status(answer.error), store);
 }
 
 ee_result ee_clean(ee_store *store) {
-    const ee_result standing_so = standing(store);
-    if (standing_so != EE_OK) {
-        return standing_so;
+    const ee_result refused = begun(store, EE_NO_ADDRESS, store);
+    if (refused != EE_OK) {
+        return refused;
     }
     const CleanResult answer = store_clean_step(&store->memory.parts.store);
-    return status_of(store, answer.ok && answer.value ? (ee_result)EE_OK : (ee_result)EE_NOTHING);
+    return ended(answer.ok && answer.value ? (ee_result)EE_OK : (ee_result)EE_NOTHING, store);
 }
 
 ee_result ee_read(const ee_store *store, uint16_t address, uint32_t *value) {
-    const ee_result standing_so = standing(store);
-    if (standing_so != EE_OK) {
-        return standing_so;
-    }
-    if (value == NULL) {
-        return EE_NULL;
-    }
-    if (!address_new(address).some) {
-        return EE_WRONG_NUMBER;
+    const ee_result refused = begun(store, address, value);
+    if (refused != EE_OK) {
+        return refused;
     }
     const ReadResult answer = store_read(&store->memory.parts.store, address);
-    const bool found = answer.ok && answer.value.some;
-    const ee_result status = status_of(store, found ? (ee_result)EE_OK : (ee_result)EE_NOTHING);
-    if (status == EE_OK) {
-        *value = answer.value.value;
+    if (is_broken(store)) {
+        return EE_DRIVER;
     }
-    return status;
+    if (!answer.ok || !answer.value.some) {
+        return ended_well(EE_NOTHING, store);
+    }
+    *value = answer.value.value;
+    return ended_well(EE_OK, store);
 }
 
 ee_result ee_next(const ee_store *store, uint16_t *address, uint32_t *value) {
-    const ee_result standing_so = standing(store);
-    if (standing_so != EE_OK) {
-        return standing_so;
+    const ee_result refused = begun(store, EE_NO_ADDRESS, value);
+    if (refused != EE_OK) {
+        return refused;
     }
-    if (address == NULL || value == NULL) {
-        return EE_NULL;
+    if (address == NULL) {
+        return ended_well(EE_NULL, store);
     }
     const MaybeAddress after = address_new(*address);
     if (*address != 0u && !after.some) {
-        return EE_WRONG_NUMBER;
+        return ended_well(EE_WRONG_NUMBER, store);
     }
     const MaybeLive found = store_next_live(&store->memory.parts.store, after);
-    const ee_result answer = found.some ? (ee_result)EE_OK : (ee_result)EE_NOTHING;
-    const ee_result status = status_of(store, answer);
-    if (status == EE_OK) {
-        *address = found.value.first;
-        *value = found.value.second;
+    if (is_broken(store)) {
+        return EE_DRIVER;
     }
-    return status;
+    if (!found.some) {
+        return ended_well(EE_NOTHING, store);
+    }
+    *address = found.value.first;
+    *value = found.value.second;
+    return ended_well(EE_OK, store);
 }
 
 ee_result ee_counts(const ee_store *store, ee_numbers *numbers) {
-    const ee_result standing_so = standing(store);
-    if (standing_so != EE_OK) {
-        return standing_so;
-    }
-    if (numbers == NULL) {
-        return EE_NULL;
+    const ee_result refused = begun(store, EE_NO_ADDRESS, numbers);
+    if (refused != EE_OK) {
+        return refused;
     }
     const Store *const it = &store->memory.parts.store;
     const uint32_t live = store_live_count(it);
     const uint32_t torn = store_torn_slots(it);
     const uint32_t pending = store_pending(it);
-    const ee_result status = status_of(store, EE_OK);
-    if (status == EE_OK) {
-        *numbers = (ee_numbers){ .slots = store_slots(it), .fill = store_fill(it), .live = live,
-            .pending = pending, .torn = torn, .generation = store_generation(it) };
+    if (is_broken(store)) {
+        return EE_DRIVER;
     }
-    return status;
+    *numbers = (ee_numbers){ .slots = store_slots(it), .fill = store_fill(it), .live = live,
+        .pending = pending, .torn = torn, .generation = store_generation(it) };
+    return ended_well(EE_OK, store);
 }

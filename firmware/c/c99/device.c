@@ -1,16 +1,16 @@
 /* ---- By hand: the device over the three functions of an `ee_flash`. */
 
 static bool device_is_on(const Device *device) {
-    return *device->power != NULL;
+    return device->power->flash != NULL;
 }
 
 static void turn_off(const Device *device) {
-    *device->power = NULL;
+    device->power->flash = NULL;
 }
 
 /* C's flash, while it is on and has this page; else NULL, and the device is off. */
 static const ee_flash *flash_with(const Device *device, uint32_t page) {
-    const ee_flash *const flash = *device->power;
+    const ee_flash *const flash = device->power->flash;
     if (flash != NULL && page < 2u * flash->pages) {
         return flash;
     }
@@ -23,7 +23,7 @@ static const ee_flash *flash_with(const Device *device, uint32_t page) {
 static bool device_found(const Device *device, const ee_flash *flash, uint32_t page, uint32_t at,
         uint64_t *value) {
     const uint32_t failed = flash->word(flash->context, page, at, value);
-    if (failed == EE_READ_FAILED) {
+    if (failed != 0u && failed != EE_TORN) {
         turn_off(device);
     }
     return failed == 0u;
@@ -51,7 +51,7 @@ static ListOfU64 device_seen(const ee_flash *flash, uint32_t page, uint32_t at, 
  * none is made of it. No read follows one that failed. While the device is on it has the flash that
  * it had. */
 static uint64_t numbers_read(const Numbers *numbers, uint32_t page, uint32_t at) {
-    const ee_flash *const flash = *numbers->device->power;
+    const ee_flash *const flash = numbers->device->power->flash;
     uint64_t number = 0u;
     if (flash == NULL || !device_found(numbers->device, flash, page, at, &number)) {
         return 0u;
@@ -79,12 +79,12 @@ static Numbers numbers_of(const Device *device, const ee_flash *flash) {
  * Slots and pages are looked through within the shape. Only a move goes on from page to page, as far
  * as words say that change from look to look, and it asks for the first word of each page first. */
 static Word device_word(const Device *device, uint32_t page, uint32_t at) {
-    const ee_flash *const flash = *device->power;
+    const ee_flash *const flash = device->power->flash;
     if (flash == NULL || (at == 0u && page >= 2u * flash->pages)) {
         turn_off(device);
         return word_torn();
     }
-    if (flash->pairs != 0u) {
+    if (flash->kind != EE_WORDS) {
         const Numbers numbers = numbers_of(device, flash);
         return pairs_word(&numbers, page, at);
     }
@@ -106,10 +106,10 @@ static void device_fill(const Device *device, const ee_flash *flash, uint32_t pa
         const uint32_t failed = flash->word(flash->context, page, at + place, &room.items[place]);
         if (failed != 0u) {
             room.items[place] = 0u;
-        }
-        if (failed == EE_READ_FAILED) {
-            turn_off(device);
-            return;
+            if (failed != EE_TORN) {
+                turn_off(device);
+                return;
+            }
         }
     }
 }
@@ -119,12 +119,12 @@ static void device_fill(const Device *device, const ee_flash *flash, uint32_t pa
  * `device_word` does. */
 static ListOfU64 device_run(const Device *device, uint32_t page, uint32_t at, RoomOfU64 room) {
     const ListOfU64 filled = { .items = room.items, .len = room.len };
-    const ee_flash *const flash = *device->power;
+    const ee_flash *const flash = device->power->flash;
     if (flash == NULL || (at == 0u && page >= 2u * flash->pages)) {
         turn_off(device);
         return filled;
     }
-    if (flash->pairs != 0u) {
+    if (flash->kind != EE_WORDS) {
         const Numbers numbers = numbers_of(device, flash);
         return pairs_run(&numbers, page, at, room);
     }
@@ -141,7 +141,7 @@ static Step device_program(const Device *device, uint32_t page, uint32_t at, uin
     if (flash == NULL) {
         return CUT;
     }
-    if (flash->pairs != 0u) {
+    if (flash->kind != EE_WORDS) {
         Numbers numbers = numbers_of(device, flash);
         return pairs_program(&numbers, page, at, value);
     }

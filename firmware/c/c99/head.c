@@ -1,8 +1,8 @@
 /* ee: variables in flash, the library of ee.h as one file of C99.
  *
  * Made by firmware/c/to_c of firmware/rust/ee-store, which is made of proved sources, and of parts
- * that are written by hand: the device over the three functions of an `ee_flash`, and the ten calls
- * of ee.h. Change none of it here. */
+ * that are written by hand: the device over the three functions of an `ee_flash`, and the thirteen
+ * calls of ee.h. Change none of it here. */
 #include "ee.h"
 
 #include <stdbool.h>
@@ -14,8 +14,11 @@
 #if defined(__GNUC__)
 #define EE_IN_PLACE static inline __attribute__((always_inline))
 #define EE_APART static __attribute__((noinline))
+/* An interrupt sees what stands before this, and nothing of what stands behind it. */
+#define EE_IN_ORDER() __asm__ volatile("" : : : "memory")
 #else
 #define EE_IN_PLACE static inline
 #define EE_APART static
+#define EE_IN_ORDER() ((void)0)
 #endif
 

@@ -55,7 +55,7 @@ static uint32_t word(void *context, uint32_t page, uint32_t place, uint64_t *val
     uint32_t i = first_of(page) + place;
     (void)context;
     *value = words[i];
-    return torn[i];
+    return torn[i] ? EE_TORN : 0;
 }
 
 #if MAPPED
@@ -224,11 +224,11 @@ static int is_off(void) {
     uint32_t value;
     uint16_t address = 0;
 #if LISTS
-    if (ee_write_all(&never, list, 2) != EE_OFF) return 0;
+    if (ee_write_all(&never, list, 2) != EE_NOT_OPEN) return 0;
 #endif
-    return ee_write(&never, 1, 1) == EE_OFF && ee_forget(&never, 1) == EE_OFF && ee_clean(&never) == EE_OFF &&
-           ee_read(&never, 1, &value) == EE_OFF && ee_next(&never, &address, &value) == EE_OFF &&
-           ee_counts(&never, &numbers) == EE_OFF;
+    return ee_write(&never, 1, 1) == EE_NOT_OPEN && ee_forget(&never, 1) == EE_NOT_OPEN && ee_clean(&never) == EE_NOT_OPEN &&
+           ee_read(&never, 1, &value) == EE_NOT_OPEN && ee_next(&never, &address, &value) == EE_NOT_OPEN &&
+           ee_counts(&never, &numbers) == EE_NOT_OPEN;
 }
 
 uint64_t checksum(void) {
@@ -237,7 +237,7 @@ uint64_t checksum(void) {
     seed = 20261123;
     for (int shape = 0; shape < SHAPES; shape++) {
         flash.pages = shapes[shape].pages, flash.page_words = shapes[shape].page_words;
-        flash.word = word, flash.program = program, flash.erase = erase, flash.pairs = PAIRS;
+        flash.word = word, flash.program = program, flash.erase = erase, flash.kind = PAIRS;
 #if MAPPED
         flash.words = several;
 #endif

@@ -47,7 +47,7 @@ static const ee_flash flash = {
 #if MAPPED
     .words = several,
 #endif
-    .pages = 1, .page_words = PAGE_WORDS, .word = word, .program = program, .erase = erase, .pairs = PAIRS};
+    .pages = 1, .page_words = PAGE_WORDS, .word = word, .program = program, .erase = erase, .kind = PAIRS};
 
 static void check(uint32_t status) {
     if (status != EE_OK) end(0);

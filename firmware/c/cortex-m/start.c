@@ -28,7 +28,7 @@ static void mark_stack(void) {
 }
 
 void reset(void) {
-    for (unsigned char *at = bss_start; at < bss_end; at++) *at = 0;
+    for (unsigned char *at = bss_start; at != bss_end; at++) *at = 0;
     mark_stack();
     uint64_t sum = checksum();
     const unsigned char *low = stack_low;

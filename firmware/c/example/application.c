@@ -7,14 +7,22 @@ static ee_result written(ee_store *store, const ee_value *values, uint32_t count
     return count == 1 ? ee_update(store, values[0].address, values[0].value) : ee_write_all(store, values, count);
 }
 
+/* The same by a list of two at least, which moves all values to the other set. */
+static ee_result moved(ee_store *store, const ee_value *values, uint32_t count) {
+    const ee_value two[] = {values[0], {.address = SPARE, .value = 0}};
+    return count == 1 ? ee_write_all(store, two, 2) : ee_write_all(store, values, count);
+}
+
 /* The one place that changes the store, and so the one that meets its refusals. Where the flash failed, as a brown-out makes it,
- * the store is off: it is opened, and the change is made once more. The old values or the new ones are there in any case. No
- * other refusal gets better by trying. */
+ * the store is off: it is opened, and the change is made once more. If that fails too a slot may be bad, which a move leaves behind.
+ * The old values or the new ones are there in any case. No other refusal gets better by trying. */
 static ee_result kept(application *device, const ee_value *values, uint32_t count) {
     ee_result status = written(&device->store, values, count);
-    if (status != EE_DRIVER && status != EE_OFF) return status;
-    status = ee_start(&device->store, device->flash);
-    return status == EE_OK ? written(&device->store, values, count) : status;
+    for (int i = 0; i < 2 && (status == EE_DRIVER || status == EE_NOT_OPEN); i++) {
+        status = ee_start(&device->store, device->flash);
+        if (status == EE_OK) status = (i == 0 ? written : moved)(&device->store, values, count);
+    }
+    return status;
 }
 
 static ee_result kept_one(application *device, uint16_t address, uint32_t value) {

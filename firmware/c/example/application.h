@@ -16,6 +16,7 @@ enum {
     MUTED = 3,  /* a bool */
     OFFSET = 4, /* degrees, a signed number */
     STARTS = 5,
+    SPARE = 6, /* means nothing: a list of two has it beside one value */
     GAINS = 10 /* a float, and the next ones in the addresses behind it */
 };
 enum { GAIN_COUNT = 6, MOST_VOLUME = 10, LAYOUT_NOW = 2 };

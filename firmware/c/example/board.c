@@ -8,7 +8,7 @@ void reset(void);
 extern unsigned char bss_start[], bss_end[], stack_top[];
 
 void reset(void) {
-    for (volatile unsigned char *at = bss_start; at < bss_end; at++) *at = 0;
+    for (volatile unsigned char *at = bss_start; at != bss_end; at++) *at = 0;
     end(main() == 0);
 }
 

@@ -10,7 +10,9 @@ static ee_store store;
 static uint32_t count_starts(uint32_t *starts) {
     uint32_t status = ee_start(&store, &file_flash); /* opens the store, or makes it on a new part */
     if (status != EE_OK) return status;
-    if (ee_read(&store, STARTS, starts) == EE_NOTHING) *starts = 0;
+    status = ee_read(&store, STARTS, starts);
+    if (status == EE_NOTHING) *starts = 0;
+    else if (status != EE_OK) return status;
     return ee_write(&store, STARTS, ++*starts);
 }
 

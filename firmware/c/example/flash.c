@@ -26,7 +26,7 @@ static int moved(int operation, uint32_t at, uint64_t *value) {
 
 static uint32_t word(void *context, uint32_t page, uint32_t place, uint64_t *value) {
     (void)context;
-    return !moved(SYS_READ, page * PAGE_WORDS + place, value);
+    return moved(SYS_READ, page * PAGE_WORDS + place, value) ? 0 : EE_READ_FAILED;
 }
 
 static uint32_t program(void *context, uint32_t page, uint32_t place, uint64_t value) {

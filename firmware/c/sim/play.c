@@ -88,7 +88,7 @@ static const char *answer(uint32_t status) {
     case EE_SPENT: return "spent";
     case EE_ABSENT: return "absent";
     case EE_DRIVER: return "cut";
-    case EE_OFF: return "off";
+    case EE_NOT_OPEN: return "off";
     default: return "refused";
     }
 }

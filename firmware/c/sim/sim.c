@@ -83,7 +83,7 @@ static uint32_t word(void *context, uint32_t page, uint32_t place, uint64_t *val
     owed(is_place(part, page, place), "no such word is there to be read", page, place);
     part->read++;
     *value = part->words[page][place];
-    return (uint32_t)is_torn(part, page, place);
+    return is_torn(part, page, place) ? EE_TORN : 0;
 }
 
 static uint32_t program(void *context, uint32_t page, uint32_t place, uint64_t value) {
@@ -153,7 +153,7 @@ ee_flash sim_flash(sim *part) {
         .word = word,
         .program = program,
         .erase = erase,
-        .pairs = part->pairs << part->clears_first,
+        .kind = part->clears_first ? EE_PAIRS_CLEARING : part->pairs ? EE_PAIRS : EE_WORDS,
     };
     return flash;
 }
@@ -187,12 +187,31 @@ void sim_write(const sim *part, FILE *file) {
     }
 }
 
+/* The number that a text is, in a base of at most 16. Whether it is of such digits alone, and no greater. */
+static int read_digits(const char *text, unsigned base, uint64_t most, uint64_t *number) {
+    static const char digits[] = "0123456789abcdef";
+    *number = 0;
+    for (const char *at = text; *at; at++) {
+        const char *digit = memchr(digits, *at, base);
+        if (!digit || *number > (most - (uint64_t)(digit - digits)) / base) return 0;
+        *number = *number * base + (uint64_t)(digit - digits);
+    }
+    return 1;
+}
+
+/* Reads a number as an image has it, with no digit too many. Whether there is one, of this range. */
+static int read_number(FILE *file, uint64_t least, uint64_t most, uint64_t *number) {
+    char text[22];
+    if (fscanf(file, "%21s", text) != 1 || (text[0] == '0' && text[1])) return 0;
+    return read_digits(text, 10, most, number) && *number >= least;
+}
+
 /* Takes a word as its text says. Whether it is one. */
 static int read_word(sim *part, uint32_t page, uint32_t place, const char *text) {
     uint64_t *at = &part->words[page][place << part->pairs];
     if (strcmp(text, "-") == 0) return 1;
     if (strcmp(text, "?") != 0) {
-        if (sscanf(text, "%16" SCNx64, at) != 1) return 0;
+        if (strlen(text) != 16 || !read_digits(text, 16, UINT64_MAX - 1, at)) return 0;
         if (part->pairs) at[1] = ~at[0];
     } else if (part->pairs) {
         at[0] = picked(part) >> 1 | 1;
@@ -202,18 +221,18 @@ static int read_word(sim *part, uint32_t page, uint32_t place, const char *text)
 }
 
 static int read_part(sim *part, FILE *file, uint32_t pairs) {
-    uint32_t pages, page_words;
-    if (fscanf(file, "ee %" SCNu32 " %" SCNu32, &pages, &page_words) != 2) return 0;
-    if (pages < 1 || pages > SIM_MOST_PAGES || page_words < 5 || page_words > SIM_MOST_WORDS) return 0;
-    new_part(part, pages, page_words, pairs);
+    char text[18];
+    uint64_t pages, page_words;
+    if (fscanf(file, "%3s", text) != 1 || strcmp(text, "ee") != 0) return 0;
+    if (!read_number(file, 1, SIM_MOST_PAGES, &pages) || !read_number(file, 5, SIM_MOST_WORDS, &page_words)) return 0;
+    new_part(part, (uint32_t)pages, (uint32_t)page_words, pairs);
     for (uint32_t page = 0; page < 2 * pages; page++) {
-        if (fscanf(file, "%" SCNu64, &part->wear[page]) != 1) return 0;
+        if (!read_number(file, 0, UINT64_MAX, &part->wear[page])) return 0;
         for (uint32_t place = 0; place < page_words; place++) {
-            char text[17];
-            if (fscanf(file, "%16s", text) != 1 || !read_word(part, page, place, text)) return 0;
+            if (fscanf(file, "%17s", text) != 1 || !read_word(part, page, place, text)) return 0;
         }
     }
-    return 1;
+    return fscanf(file, "%1s", text) != 1;
 }
 
 int sim_read(sim *part, FILE *file) { return read_part(part, file, 0); }

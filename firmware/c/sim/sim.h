@@ -60,10 +60,10 @@ typedef struct sim {
 /* A new part: all erased, with no wear, and on. */
 void sim_new(sim *part, uint32_t pages, uint32_t page_words);
 
-/* The same without error correction: it has numbers, and its `ee_flash` has `pairs`. */
+/* The same without error correction: it has numbers, and its `ee_flash` is of EE_PAIRS. */
 void sim_new_pairs(sim *part, uint32_t pages, uint32_t page_words);
 
-/* The same where an erase clears the cells of its page first, as many serial flashes do: `pairs` of its `ee_flash` is 2. */
+/* The same where an erase clears the cells of its page first, as many serial flashes do: EE_PAIRS_CLEARING. */
 void sim_new_clearing(sim *part, uint32_t pages, uint32_t page_words);
 
 /* What the store reaches the part by. */

@@ -2,92 +2,125 @@
 
 use crate::values::{listed, Value};
 use crate::{
-    Counts, Kept, Memory, Power, EE_ABSENT, EE_DRIVER, EE_FULL, EE_NOTHING, EE_NULL, EE_OFF, EE_OK,
-    EE_SPENT, EE_TWICE, EE_WRONG_NUMBER,
+    Counts, Kept, Memory, EE_ABSENT, EE_BUSY, EE_DRIVER, EE_DUPLICATE, EE_FULL, EE_NOTHING,
+    EE_NOT_OPEN, EE_NULL, EE_OK, EE_SPENT, EE_WRONG_NUMBER,
 };
 use core::hint::unreachable_unchecked;
-use core::ptr::addr_of;
+use core::ptr::{addr_of, eq, null};
+use core::sync::atomic::{compiler_fence, Ordering};
 use ee_store::proved::{Flash as _, ForgetFault, Lookup, Variables, WriteAllFault, WriteFault};
 use ee_store::{Address, Written};
 
-/// A store that is on.
+/// A store that is on, while a call is made on it.
 pub struct Running<'a, L: Lookup> {
-    power: &'a Power,
+    memory: *const Memory<L>,
     pub store: &'a mut Kept<L>,
 }
 
 impl<L: Lookup> Running<'_, L> {
-    /// Whether the flash failed since: what the store says then counts for nothing.
-    fn is_broken(&self) -> bool {
-        self.power.get().is_null()
-    }
-
-    /// The status of a call that answered this.
-    fn status(&self, status: u32) -> u32 {
+    /// Ends a call that answered this, and gives its status. Where the flash failed what the store says counts for nothing.
+    #[inline(always)]
+    pub fn ended(self, status: u32) -> u32 {
         if self.is_broken() {
             return EE_DRIVER;
         }
+        self.ended_well(status)
+    }
+
+    /// The same where the flash didn't fail: the store takes a call again.
+    #[inline(always)]
+    fn ended_well(self, status: u32) -> u32 {
+        // An interrupt that comes behind this finds the store as the call left it.
+        compiler_fence(Ordering::SeqCst);
+        // SAFETY: `running` had it of C.
+        unsafe { (*addr_of!((*self.memory).idle)).set(self.memory) };
         status
     }
+
+    /// Whether the flash failed since.
+    #[inline(always)]
+    fn is_broken(&self) -> bool {
+        // SAFETY: `running` had it of C.
+        unsafe { (*addr_of!((*self.memory).power)).get().is_null() }
+    }
 }
 
-/// Why the store in the memory that C lends is not on, or EE_OK. The pointer is null, or good: to what `opened` left, to a copy
-/// of that, or to zeros.
+/// Begins a call on the store in the memory that C lends: EE_OK, or why not. The pointer is null, or good: to what `opened` left,
+/// to a copy of that, or to zeros. No call begins with another pointer that is null, nor with a number that is no address.
 #[inline(never)]
-unsafe fn standing<L: Lookup>(memory: *const Memory<L>) -> u32 {
-    // SAFETY: a pointer that is not null is good.
-    let Some(power) = (unsafe { memory.as_ref() }).map(|memory| &memory.power) else {
+unsafe fn begun<L: Lookup>(memory: *const Memory<L>, address: u16, other: *const ()) -> u32 {
+    if memory.is_null() {
         return EE_NULL;
-    };
-    if power.get().is_null() {
-        return EE_OFF;
     }
-    // SAFETY: where it is not null `opened` wrote the store, here or where this one was copied from.
-    let store = unsafe { &*addr_of!((*memory).store).cast::<Kept<L>>() };
-    // A copy is off: its device looks at the memory that it was opened in.
-    match store.flash().is_in(power) {
-        true => EE_OK,
-        false => EE_OFF,
+    // SAFETY: a pointer that is not null is good.
+    let (power, idle) = unsafe { (&*addr_of!((*memory).power), &*addr_of!((*memory).idle)) };
+    if eq(idle.get(), memory) {
+        if other.is_null() {
+            return EE_NULL;
+        }
+        if Address::new(address).is_none() {
+            return EE_WRONG_NUMBER;
+        }
+        idle.set(null());
+        // A call of an interrupt's that came before this has ended, and may have failed. Behind it there is none.
+        compiler_fence(Ordering::SeqCst);
+        if !power.get().is_null() {
+            return EE_OK;
+        }
+    }
+    match idle.get().is_null() && !power.get().is_null() {
+        true => EE_BUSY,
+        false => EE_NOT_OPEN,
     }
 }
 
-/// The store in the memory that C lends, while it is on. The pointer is as of `standing`.
-pub unsafe fn running<'a, L: Lookup>(memory: *const Memory<L>) -> Result<Running<'a, L>, u32> {
-    match unsafe { standing(memory) } {
-        // SAFETY: it is on, so the memory has a store. C owes that no other call is on it.
+/// An address for `begun` of a call that has none.
+const NO_ADDRESS: u16 = 1;
+
+/// The store in the memory that C lends, where a call can be made on it, with this address and this other pointer; `ended` ends
+/// that. The first pointer is as of `begun`.
+unsafe fn running<'a, L: Lookup>(
+    memory: *const Memory<L>,
+    address: u16,
+    other: *const (),
+) -> Result<(Running<'a, L>, Address), u32> {
+    match unsafe { begun(memory, address, other) } {
+        // SAFETY: it is on, so the memory has a store, and no other call is on it, as `begun` saw; and that it is an address.
         EE_OK => Ok(unsafe {
             let store = &mut *addr_of!((*memory).store).cast::<Kept<L>>().cast_mut();
-            // As `standing` saw: its device looks at this power, which is not null. So the calls need not ask again.
+            // Its device looks at this power, which `begun` saw too. So the calls need not ask again.
             if !store.flash().is_on() {
                 unreachable_unchecked();
             }
-            Running {
-                power: &(*memory).power,
-                store,
-            }
+            let address = Address::new(address).unwrap_unchecked();
+            (Running { memory, store }, address)
         }),
         status => Err(status),
     }
 }
 
+/// The same for a call that has neither.
+pub unsafe fn running_alone<'a, L: Lookup>(
+    memory: *const Memory<L>,
+) -> Result<Running<'a, L>, u32> {
+    unsafe { running(memory, NO_ADDRESS, memory.cast()) }.map(|(running, _)| running)
+}
+
 #[inline(always)]
 pub unsafe fn write<L: Lookup>(store: *mut Memory<L>, address: u16, value: u32) -> u32 {
-    let running = match unsafe { running(store) } {
+    let (running, address) = match unsafe { running(store, address, store.cast()) } {
         Ok(running) => running,
         Err(status) => return status,
     };
-    let Some(address) = Address::new(address) else {
-        return EE_WRONG_NUMBER;
-    };
     let status = match running.store.write(address, value) {
         // Its last step was made, so nothing failed before.
-        Ok(Written::Appended) => return EE_OK,
+        Ok(Written::Appended) => return running.ended_well(EE_OK),
         Ok(Written::Moved) => EE_OK,
         Err(WriteFault::Full) => EE_FULL,
         // Or it was cut, and is broken. It takes no memory, and never says `Memory`.
         Err(_) => EE_SPENT,
     };
-    running.status(status)
+    running.ended(status)
 }
 
 #[inline(always)]
@@ -97,50 +130,46 @@ pub unsafe fn write_all<L: Lookup>(
     count: u32,
     one: unsafe extern "C" fn(*mut Memory<L>, u16, u32) -> u32,
 ) -> u32 {
-    let running = match unsafe { running(store) } {
+    let (running, _) = match unsafe { running(store, NO_ADDRESS, values.cast()) } {
         Ok(running) => running,
         Err(status) => return status,
     };
-    let values = match unsafe { listed(values, count) } {
-        Ok(values) => values,
-        Err(status) => return status,
+    let Some(values) = (unsafe { listed(values, count) }) else {
+        return running.ended_well(EE_WRONG_NUMBER);
     };
     // A list of one is written as by this call of one value, whose code is there already.
     if let [put] = values {
+        running.ended_well(EE_OK);
         return unsafe { one(store, put.address.get(), put.value) };
     }
     let status = match running.store.write_all(values) {
-        Ok(Written::Appended) => return EE_OK,
-        Ok(Written::Moved) => EE_OK,
-        Err(WriteAllFault::Twice(_)) => EE_TWICE,
+        Ok(_) => EE_OK,
+        Err(WriteAllFault::Twice(_)) => EE_DUPLICATE,
         Err(WriteAllFault::Full) => EE_FULL,
         // As of `write`.
         Err(_) => EE_SPENT,
     };
-    running.status(status)
+    running.ended(status)
 }
 
 #[inline(always)]
 pub unsafe fn forget<L: Lookup>(store: *mut Memory<L>, address: u16) -> u32 {
-    let running = match unsafe { running(store) } {
+    let (running, address) = match unsafe { running(store, address, store.cast()) } {
         Ok(running) => running,
         Err(status) => return status,
     };
-    let Some(address) = Address::new(address) else {
-        return EE_WRONG_NUMBER;
-    };
     let status = match running.store.forget(address) {
-        Ok(Written::Appended) => return EE_OK,
+        Ok(Written::Appended) => return running.ended_well(EE_OK),
         Ok(Written::Moved) => EE_OK,
         Err(ForgetFault::Absent) => EE_ABSENT,
         Err(_) => EE_SPENT,
     };
-    running.status(status)
+    running.ended(status)
 }
 
 #[inline(always)]
 pub unsafe fn clear<L: Lookup>(store: *mut Memory<L>) -> u32 {
-    let running = match unsafe { running(store) } {
+    let running = match unsafe { running_alone(store) } {
         Ok(running) => running,
         Err(status) => return status,
     };
@@ -149,12 +178,12 @@ pub unsafe fn clear<L: Lookup>(store: *mut Memory<L>) -> u32 {
         // Or it was cut, and is broken.
         Err(_) => EE_SPENT,
     };
-    running.status(status)
+    running.ended(status)
 }
 
 #[inline(always)]
 pub unsafe fn clean<L: Lookup>(store: *mut Memory<L>) -> u32 {
-    let running = match unsafe { running(store) } {
+    let running = match unsafe { running_alone(store) } {
         Ok(running) => running,
         Err(status) => return status,
     };
@@ -162,63 +191,59 @@ pub unsafe fn clean<L: Lookup>(store: *mut Memory<L>) -> u32 {
         Ok(true) => EE_OK,
         _ => EE_NOTHING,
     };
-    running.status(status)
+    running.ended(status)
 }
 
 #[inline(always)]
 pub unsafe fn read<L: Lookup>(store: *const Memory<L>, address: u16, value: *mut u32) -> u32 {
-    let running = match unsafe { running(store) } {
+    let (running, address) = match unsafe { running(store, address, value.cast_const().cast()) } {
         Ok(running) => running,
         Err(status) => return status,
-    };
-    let Some(value) = (unsafe { value.as_mut() }) else {
-        return EE_NULL;
-    };
-    let Some(address) = Address::new(address) else {
-        return EE_WRONG_NUMBER;
     };
     let found = running.store.read(address);
     if running.is_broken() {
         return EE_DRIVER;
     }
     let Ok(Some(held)) = found else {
-        return EE_NOTHING;
+        return running.ended_well(EE_NOTHING);
     };
-    *value = held;
-    EE_OK
+    // SAFETY: `begun` saw that it is not null, so it is good.
+    unsafe { *value = held };
+    running.ended_well(EE_OK)
 }
 
 #[inline(always)]
 pub unsafe fn next<L: Lookup>(store: *const Memory<L>, address: *mut u16, value: *mut u32) -> u32 {
-    let running = match unsafe { running(store) } {
+    let (running, _) = match unsafe { running(store, NO_ADDRESS, value.cast_const().cast()) } {
         Ok(running) => running,
         Err(status) => return status,
     };
-    let (Some(address), Some(value)) = (unsafe { (address.as_mut(), value.as_mut()) }) else {
-        return EE_NULL;
+    let Some(address) = (unsafe { address.as_mut() }) else {
+        return running.ended_well(EE_NULL);
     };
     let after = match (*address, Address::new(*address)) {
         (0, _) => None,
         (_, Some(after)) => Some(after),
-        (_, None) => return EE_WRONG_NUMBER,
+        (_, None) => return running.ended_well(EE_WRONG_NUMBER),
     };
     let found = running.store.next_live(after);
-    let status = running.status(found.map_or(EE_NOTHING, |_| EE_OK));
-    if let (EE_OK, Some((found, held))) = (status, found) {
-        *address = found.get();
-        *value = held;
+    if running.is_broken() {
+        return EE_DRIVER;
     }
-    status
+    let Some((found, held)) = found else {
+        return running.ended_well(EE_NOTHING);
+    };
+    *address = found.get();
+    // SAFETY: as of `read`.
+    unsafe { *value = held };
+    running.ended_well(EE_OK)
 }
 
 #[inline(always)]
 pub unsafe fn counts<L: Lookup>(store: *const Memory<L>, numbers: *mut Counts) -> u32 {
-    let running = match unsafe { running(store) } {
+    let (running, _) = match unsafe { running(store, NO_ADDRESS, numbers.cast_const().cast()) } {
         Ok(running) => running,
         Err(status) => return status,
-    };
-    let Some(numbers) = (unsafe { numbers.as_mut() }) else {
-        return EE_NULL;
     };
     let store = &running.store;
     let live = store.live_count() as u32;
@@ -227,7 +252,7 @@ pub unsafe fn counts<L: Lookup>(store: *const Memory<L>, numbers: *mut Counts) -
     if running.is_broken() {
         return EE_DRIVER;
     }
-    *numbers = Counts {
+    let counted = Counts {
         slots: store.slots() as u32,
         fill: store.fill() as u32,
         live,
@@ -235,5 +260,7 @@ pub unsafe fn counts<L: Lookup>(store: *const Memory<L>, numbers: *mut Counts) -
         torn,
         generation: store.generation(),
     };
-    EE_OK
+    // SAFETY: as of `read`.
+    unsafe { *numbers = counted };
+    running.ended_well(EE_OK)
 }

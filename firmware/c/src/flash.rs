@@ -4,7 +4,7 @@ use crate::numbers::Numbers;
 use core::cell::Cell;
 use core::ffi::c_void;
 use core::mem::MaybeUninit;
-use core::ptr::{eq, null};
+use core::ptr::null;
 use core::slice::from_raw_parts;
 use ee_store::proved::{self, Cut, Flash as _, Pairs};
 use ee_store::{Shape, Word};
@@ -23,7 +23,8 @@ pub struct Flash {
     pub word: Option<WordCall>,
     pub program: Option<ProgramCall>,
     pub erase: Option<EraseCall>,
-    pub pairs: u32,
+    /// 0 for words, 1 for pairs of numbers, 2 for those where an erase clears first.
+    pub kind: u32,
     pub words: Option<WordsCall>,
 }
 
@@ -33,8 +34,8 @@ impl Flash {
     }
 }
 
-/// What `word` answers where the read itself failed: `EE_READ_FAILED` of `ee.h`.
-const READ_FAILED: u32 = 0x00ee_00ee;
+/// What `word` answers where the word can't be read: `EE_TORN` of `ee.h`. Of all others but 0 the read itself failed.
+const TORN: u32 = 0x00ee_7042;
 
 /// A flash in C while it is on, and null from a read or a step on that failed, or a page that it doesn't have: then no step is
 /// made, and what the proved store says counts for nothing. It stands in the memory that C lends.
@@ -54,11 +55,6 @@ impl Device {
         Device { power, shape }
     }
 
-    /// Whether it looks at this power.
-    pub fn is_in(&self, power: &Power) -> bool {
-        eq(self.power, power)
-    }
-
     fn power(&self) -> &Power {
         // SAFETY: as of `new`.
         unsafe { &*self.power }
@@ -76,7 +72,7 @@ impl Device {
 
     /// Its numbers, while it is on and has some.
     pub fn numbers(&self) -> Option<Numbers<'_>> {
-        let flash = self.flash().filter(|flash| flash.pairs != 0)?;
+        let flash = self.flash().filter(|flash| flash.kind != 0)?;
         Some(self.numbers_of(flash))
     }
 
@@ -152,10 +148,10 @@ impl Device {
     #[cold]
     #[inline(never)]
     pub(crate) fn unread(&self, failed: u32) -> bool {
-        if failed == READ_FAILED {
+        if failed != TORN {
             self.turn_off();
         }
-        failed == READ_FAILED
+        failed != TORN
     }
 
     /// C's flash, while it is on and has this page. Where it has not the device goes off.
@@ -229,7 +225,7 @@ impl proved::Flash for Device {
                 return Word::Torn;
             }
         };
-        if flash.pairs != 0 {
+        if flash.kind != 0 {
             return Pairs::known(self.numbers_of(flash)).word(page, at);
         }
         self.found(flash, page, at).map_or(Word::Torn, Word::from)
@@ -240,7 +236,7 @@ impl proved::Flash for Device {
     fn run<'a>(&'a self, page: usize, at: usize, room: &'a mut [u64]) -> &'a [u64] {
         match self.flash() {
             Some(flash) if at != 0 || flash.has(page) => {
-                if flash.pairs != 0 {
+                if flash.kind != 0 {
                     self.fill_pairs(flash, page, at, room);
                 } else if let Some(words) = self.seen(flash, page, at, room.len()) {
                     return words;
@@ -257,7 +253,7 @@ impl proved::Flash for Device {
     #[inline(never)]
     fn program(&mut self, page: usize, at: usize, value: u64) -> Result<(), Cut> {
         let flash = self.flash_with(page)?;
-        if flash.pairs != 0 {
+        if flash.kind != 0 {
             return Pairs::known(self.numbers_of(flash)).program(page, at, value);
         }
         self.write(flash, page, at, value)

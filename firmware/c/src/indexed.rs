@@ -1,6 +1,6 @@
 //! A store that finds values by an index in memory that C lends.
 
-use crate::calls::{self, running};
+use crate::calls::{self, running_alone};
 use crate::flash::Flash;
 use crate::numbers::How;
 use crate::opening::opened;
@@ -14,7 +14,7 @@ use ee_store::Address;
 /// `ee_indexed` of `ee.h`.
 type Indexed = Memory<LentIndex<'static>>;
 
-const _: () = assert!(size_of::<Indexed>() <= size_of::<[usize; 12]>());
+const _: () = assert!(size_of::<Indexed>() <= size_of::<[usize; 13]>());
 const _: () = assert!(size_of::<Entry>() == 4);
 
 /// What stands in a place of the index that is not used.
@@ -78,9 +78,11 @@ pub unsafe extern "C" fn ee_indexed_format(
 /// Whether the store goes by its index.
 #[no_mangle]
 pub unsafe extern "C" fn ee_indexed_in_use(store: *const Indexed) -> u32 {
-    match unsafe { running(store) } {
-        Ok(running) if running.store.lookup().is_given_up() => EE_NOTHING,
-        Ok(_) => EE_OK,
+    match unsafe { running_alone(store) } {
+        Ok(running) => {
+            let is_given_up = running.store.lookup().is_given_up();
+            running.ended(if is_given_up { EE_NOTHING } else { EE_OK })
+        }
         Err(status) => status,
     }
 }
@@ -105,7 +107,7 @@ pub unsafe extern "C" fn ee_indexed_forget(store: *mut Indexed, address: u16) ->
 }
 
 #[no_mangle]
-pub unsafe extern "C" fn ee_indexed_clear(store: *mut Indexed) -> u32 {
+pub unsafe extern "C" fn ee_indexed_forget_all(store: *mut Indexed) -> u32 {
     unsafe { calls::clear(store) }
 }
 

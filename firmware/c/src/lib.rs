@@ -3,7 +3,7 @@
 //! and `flash.rs` calls the functions of C's driver.
 //!
 //! C's flash is a device of the proved store itself, not a driver of the package: it has no error to carry, and a store of
-//! eight pointers has room for the one pointer that says whether it is on.
+//! nine pointers has room for the two that say whether it is on, and whether a call is being made on it.
 #![no_std]
 #![deny(unsafe_op_in_unsafe_fn)]
 #![allow(clippy::missing_safety_doc)] // `ee.h` says it.
@@ -20,6 +20,7 @@ mod plain;
 mod rescuing;
 mod values;
 
+use core::cell::Cell;
 use core::mem::{size_of, MaybeUninit};
 use ee_store::proved::{self, Lookup, Slots};
 use flash::{Device, Power};
@@ -34,11 +35,12 @@ const EE_NO_LIVE_SET: u32 = 6;
 const EE_TWO_LIVE: u32 = 7;
 const EE_FOREIGN: u32 = 8;
 const EE_DRIVER: u32 = 9;
-const EE_OFF: u32 = 10;
+const EE_NOT_OPEN: u32 = 10;
 const EE_WRONG_SHAPE: u32 = 11;
 const EE_WRONG_NUMBER: u32 = 12;
 const EE_NULL: u32 = 13;
-const EE_TWICE: u32 = 14;
+const EE_DUPLICATE: u32 = 14;
+const EE_BUSY: u32 = 15;
 
 /// `ee_numbers` of `ee.h`.
 #[repr(C)]
@@ -58,11 +60,14 @@ pub struct Memory<L: Lookup = Slots> {
     store: MaybeUninit<Kept<L>>,
     /// Null while the store is off.
     power: Power,
+    /// Where this memory stands, while the store is on and no call is made on it; so a copy has where another stands. Null in a call,
+    /// and while the store is off.
+    idle: Cell<*const Memory<L>>,
 }
 
 type Kept<L = Slots> = proved::Store<Device, L>;
 
-const _: () = assert!(size_of::<Memory>() <= size_of::<[usize; 8]>());
+const _: () = assert!(size_of::<Memory>() <= size_of::<[usize; 9]>());
 
 /// No call comes here: an index out of range, which is all that could, is proved not to be.
 #[panic_handler]

@@ -17,7 +17,7 @@ impl Nor for Numbers<'_> {
     }
 
     fn clears_first(&self) -> bool {
-        self.flash.pairs == 2
+        self.flash.kind == 2 // EE_PAIRS_CLEARING
     }
 
     fn wear(&self, page: usize) -> u64 {

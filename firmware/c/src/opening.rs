@@ -71,8 +71,9 @@ pub unsafe fn opened<L: Lookup>(
         return EE_NULL;
     }
     // SAFETY: a pointer that is not null is good, here and below. The device looks at the power while the store is written.
-    let power = unsafe { &*addr_of!((*lent).power) };
+    let (power, idle) = unsafe { (&*addr_of!((*lent).power), &*addr_of!((*lent).idle)) };
     power.set(null());
+    idle.set(null());
     let Some(given) = (unsafe { flash.as_ref() }) else {
         return EE_NULL;
     };
@@ -80,7 +81,7 @@ pub unsafe fn opened<L: Lookup>(
         return EE_NULL;
     }
     let shape = Shape::new(given.pages as usize, given.page_words as usize);
-    let (Some(shape), 0..=2) = (shape, given.pairs) else {
+    let (Some(shape), 0..=2) = (shape, given.kind) else {
         return EE_WRONG_SHAPE;
     };
     power.set(flash);
@@ -96,8 +97,9 @@ pub unsafe fn opened<L: Lookup>(
     if power.get().is_null() {
         return EE_DRIVER;
     }
-    if status != EE_OK {
-        power.set(null());
+    match status {
+        EE_OK => idle.set(lent),
+        _ => power.set(null()),
     }
     status
 }

@@ -46,7 +46,7 @@ pub unsafe extern "C" fn ee_forget(store: *mut Memory, address: u16) -> u32 {
 }
 
 #[no_mangle]
-pub unsafe extern "C" fn ee_clear(store: *mut Memory) -> u32 {
+pub unsafe extern "C" fn ee_forget_all(store: *mut Memory) -> u32 {
     unsafe { calls::clear(store) }
 }
 

@@ -19,7 +19,7 @@ unsafe fn shape_of(flash: *const Flash) -> Result<Shape, u32> {
         return Err(EE_NULL);
     }
     let shape = Shape::new(given.pages as usize, given.page_words as usize);
-    match (shape, given.pairs) {
+    match (shape, given.kind) {
         (Some(shape), 0..=2) => Ok(shape),
         _ => Err(EE_WRONG_SHAPE),
     }
@@ -32,8 +32,9 @@ pub unsafe extern "C" fn ee_rescue(store: *mut Memory, flash: *const Flash) -> u
         return EE_NULL;
     }
     // SAFETY: a pointer that is not null is good, here and below. The device looks at the power while the store is written.
-    let power = unsafe { &*addr_of!((*store).power) };
+    let (power, idle) = unsafe { (&*addr_of!((*store).power), &*addr_of!((*store).idle)) };
     power.set(null());
+    idle.set(null());
     let shape = match unsafe { shape_of(flash) } {
         Ok(shape) => shape,
         Err(status) => return status,
@@ -55,8 +56,9 @@ pub unsafe extern "C" fn ee_rescue(store: *mut Memory, flash: *const Flash) -> u
     if power.get().is_null() {
         return EE_DRIVER;
     }
-    if status != EE_OK {
-        power.set(null());
+    match status {
+        EE_OK => idle.set(store),
+        _ => power.set(null()),
     }
     status
 }

@@ -1,6 +1,5 @@
 //! C's lists of values, as the store's.
 
-use crate::{EE_NULL, EE_WRONG_NUMBER};
 use core::mem::{align_of, size_of, transmute};
 use core::slice::from_raw_parts;
 use ee_store::{Address, Put};
@@ -30,16 +29,13 @@ const _: () = assert!(is_laid_out_alike(258));
 const _: () = assert!(size_of::<Value>() == size_of::<Put>());
 const _: () = assert!(align_of::<Value>() == align_of::<Put>());
 
-/// C's list as one of the store's, or why it is none. The pointer is null, or good for so many values.
-pub unsafe fn listed<'a>(values: *const Value, count: u32) -> Result<&'a [Put], u32> {
-    if values.is_null() {
-        return Err(EE_NULL);
-    }
-    // SAFETY: a pointer that is not null is good.
+/// C's list as one of the store's, none where one of its numbers is no address. The pointer is good for so many values.
+pub unsafe fn listed<'a>(values: *const Value, count: u32) -> Option<&'a [Put]> {
+    // SAFETY: the pointer is good.
     let given = unsafe { from_raw_parts(values, count as usize) };
     if given.iter().any(|it| Address::new(it.address).is_none()) {
-        return Err(EE_WRONG_NUMBER);
+        return None;
     }
     // SAFETY: each address is proper, so each is a `Put`, which is laid out alike.
-    Ok(unsafe { from_raw_parts(values.cast(), count as usize) })
+    Some(unsafe { from_raw_parts(values.cast(), count as usize) })
 }

@@ -1,6 +1,6 @@
 /* A flash that answers anything: whatever its functions say, the library asks for no page and no word that it doesn't have. A
  * look gives what stands there, or now and then anything that a store might have written, another number, a torn word or
- * EE_READ_FAILED; a step is made, fails, or does nothing. The argument is how many calls are made, on words, as many on
+ * a read that failed; a step is made, fails, or does nothing. The argument is how many calls are made, on words, as many on
  * pairs of numbers, and as many on pairs whose erase clears first. */
 #define MOST_PAGES 6
 #define MOST_WORDS 12
@@ -36,21 +36,21 @@ static uint64_t anything(void) {
 }
 
 static void check(uint32_t page, uint32_t place) {
-    CHECK(page < 2 * flash.pages && place < flash.page_words << (flash.pairs != 0));
+    CHECK(page < 2 * flash.pages && place < flash.page_words << (flash.kind != 0));
 }
 
 static uint32_t word(void *context, uint32_t page, uint32_t place, uint64_t *value) {
     (void)context;
     check(page, place);
-    if (fails()) return EE_READ_FAILED;
+    if (fails()) return below(2) ? EE_READ_FAILED : 1 + below(99);
     *value = below(odds) ? words[page][place] : anything();
-    return below(8 * odds) == 0;
+    return below(8 * odds) == 0 ? EE_TORN : 0;
 }
 
 /* Now and then what stands there, for any place and any count that the flash has. */
 static const uint64_t *several(void *context, uint32_t page, uint32_t place, uint32_t count) {
     (void)context;
-    CHECK(count >= 1 && count <= 16u << (flash.pairs != 0));
+    CHECK(count >= 1 && count <= 16u << (flash.kind != 0));
     check(page, place);
     check(page, place + count - 1);
     return below(4) ? &words[page][place] : NULL;
@@ -95,13 +95,13 @@ static void run(uint32_t pairs, unsigned long calls) {
     while (made < calls) {
         memset(words, 0xff, sizeof words);
         flash = (ee_flash){.pages = 1 + below(3), .page_words = 5 + below(6), .word = word, .program = program, .erase = erase,
-                           .pairs = pairs, .words = below(2) ? several : NULL};
+                           .kind = pairs, .words = below(2) ? several : NULL};
         odds = some_odds[below(5)], faults = some_faults[below(4)];
         for (int round = 0; round < 4; round++) {
             uint32_t how = below(4);
             uint32_t status = how == 0 ? ee_open(&store, &flash) : how == 1 ? ee_format(&store, &flash) : ee_start(&store, &flash);
             opened += status == EE_OK, made++;
-            for (int i = 0; i < 100 && status != EE_OFF; i++, made++) status = call(&store);
+            for (int i = 0; i < 100 && status != EE_NOT_OPEN; i++, made++) status = call(&store);
         }
     }
     CHECK(opened > calls / 200);

@@ -20,6 +20,7 @@ static ee_flash flash, failing;
 static application device;
 static unsigned fails_in;      /* the step that fails while power is on, 0 for none */
 static unsigned fails_read_in; /* the read that does */
+static uint32_t stuck;         /* the place of a slot of page 0 that takes no program, 0 for none */
 
 /* A part as firmware 1 left it: some changes from full, so that the moves come in each place. */
 static void old_part(unsigned used) {
@@ -75,6 +76,7 @@ static bool cut(int deed, unsigned used, unsigned step, sim_tear tear) {
 /* The flash with a step that fails. */
 static uint32_t failing_program(void *context, uint32_t page, uint32_t place, uint64_t value) {
     if (fails_in != 0 && --fails_in == 0) return 1;
+    if (stuck != 0 && page == 0 && place == stuck) return 1;
     return flash.program(context, page, place, value);
 }
 
@@ -96,6 +98,19 @@ static void unread(void) {
         CHECK(application_start(&device, &flash) == EE_OK && holds(1) && starts(&device) <= 2);
     }
     fails_read_in = 0;
+}
+
+/* A slot that takes no program stops no change. */
+static void left_behind(void) {
+    for (stuck = 20; stuck < 32; stuck++) {
+        old_part(3);
+        failing = flash;
+        failing.program = failing_program;
+        CHECK(application_start(&device, &failing) == EE_OK);
+        for (uint32_t i = 0; i < 100; i++) CHECK(set_volume(&device, i % 10) == EE_OK && volume(&device) == i % 10);
+        CHECK(application_start(&device, &failing) == EE_OK && volume(&device) == 9);
+    }
+    stuck = 0;
 }
 
 static void refused(void) {
@@ -121,6 +136,7 @@ int main(void) {
             for (unsigned tear = 0; tear < 4; tear++)
                 for (unsigned step = 1; cut(deed, used, step, tears[tear]); step++) continue;
     refused();
+    left_behind();
     unread();
     sim_new(&part, 1, 32); /* a new part */
     flash = sim_flash(&part);

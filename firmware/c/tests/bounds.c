@@ -40,7 +40,7 @@ static uint32_t made(enum kind kind, uint16_t address) {
     case WRITE: return ee_write(&store, address, value);
     case WRITE_ALL: return ee_write_all(&store, list, listed);
     case FORGET: return ee_forget(&store, address);
-    case CLEAR: return ee_clear(&store);
+    case CLEAR: return ee_forget_all(&store);
     case CLEAN: return ee_clean(&store);
     case READ: return ee_read(&store, address, &value);
     case NEXT: return ee_next(&store, &address, &value);

@@ -35,7 +35,7 @@ static inline ee_result format_by_index(store_by_index *store, const ee_flash *f
 #define ee_write(store, address, value) ee_indexed_write((ee_indexed *)(store), address, value)
 #define ee_write_all(store, values, count) ee_indexed_write_all((ee_indexed *)(store), values, count)
 #define ee_forget(store, address) ee_indexed_forget((ee_indexed *)(store), address)
-#define ee_clear(store) ee_indexed_clear((ee_indexed *)(store))
+#define ee_forget_all(store) ee_indexed_forget_all((ee_indexed *)(store))
 #define ee_clean(store) ee_indexed_clean((ee_indexed *)(store))
 #define ee_read(store, address, value) ee_indexed_read((const ee_indexed *)(store), address, value)
 #define ee_next(store, address, value) ee_indexed_next((const ee_indexed *)(store), address, value)

@@ -65,15 +65,15 @@ static void kept(void) {
 
 /* No two statuses have one text. */
 static void texts(void) {
-    for (uint32_t a = EE_OK; a <= EE_TWICE + 1; a++)
+    for (uint32_t a = EE_OK; a <= EE_BUSY + 1; a++)
         for (uint32_t b = EE_OK; b < a; b++) CHECK(strcmp(ee_status_text(a), ee_status_text(b)) != 0);
-    CHECK(strcmp(ee_status_text(EE_TWICE + 1), ee_status_text(UINT32_MAX)) == 0);
+    CHECK(strcmp(ee_status_text(EE_BUSY + 1), ee_status_text(UINT32_MAX)) == 0);
 }
 
 /* A read that fails: the store is off, and what was made of a default isn't written. */
 static void failed(void) {
     p.read = 0, p.fails_in = 1;
-    CHECK(ee_read_or(&store, 1, 0) == 0 && ee_write(&store, 1, 1) == EE_OFF && ee_update(&store, 1, 1) == EE_OFF);
+    CHECK(ee_read_or(&store, 1, 0) == 0 && ee_write(&store, 1, 1) == EE_NOT_OPEN && ee_update(&store, 1, 1) == EE_NOT_OPEN);
     p.failed = 0, p.fails_in = 0;
 }
 
@@ -81,7 +81,7 @@ int main(void) {
     char version[32];
     blank(&p, 1, 16);
     ee_flash flash = flash_of(&p);
-    CHECK(ee_update(&store, 1, 5) == EE_OFF && ee_read_or(&store, 1, 7) == 7 && ee_read_int(&store, 1, NULL) == EE_OFF);
+    CHECK(ee_update(&store, 1, 5) == EE_NOT_OPEN && ee_read_or(&store, 1, 7) == 7 && ee_read_int(&store, 1, NULL) == EE_NOT_OPEN);
     CHECK(ee_start(&store, &flash) == EE_OK);
     updates();
     defaults();

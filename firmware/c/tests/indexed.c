@@ -70,7 +70,7 @@ static void call(uint32_t kind, uint16_t address, uint32_t value, const ee_value
     case 0: status = ee_forget(&plain, address), same = ee_indexed_forget(&indexed, address); break;
     case 1: status = ee_clean(&plain), same = ee_indexed_clean(&indexed); break;
     case 2: status = ee_write_all(&plain, list, count), same = ee_indexed_write_all(&indexed, list, count); break;
-    case 3: status = ee_clear(&plain), same = ee_indexed_clear(&indexed); break;
+    case 3: status = ee_forget_all(&plain), same = ee_indexed_forget_all(&indexed); break;
     default: status = ee_write(&plain, address, value), same = ee_indexed_write(&indexed, address, value); break;
     }
     CHECK(status == same && are_alike());
@@ -96,7 +96,7 @@ int main(void) {
             int was = ee_indexed_in_use(&indexed) == EE_OK;
             call(kind, address, below(UINT32_MAX), list, count);
             one.cut_in = other.cut_in = 0;
-            if (ee_indexed_in_use(&indexed) == EE_OFF) {
+            if (ee_indexed_in_use(&indexed) == EE_NOT_OPEN) {
                 cuts++;
                 start(room);
             } else {

@@ -97,9 +97,9 @@ static inline uint32_t part_word(void *context, uint32_t page, uint32_t place, u
     spoil(p);
     if (++p->read == p->fails_in) {
         p->failed = 1;
-        return EE_READ_FAILED;
+        return p->read % 2 ? EE_READ_FAILED : 1; /* any answer but 0 and EE_TORN */
     }
-    if (p->torn[page][place]) return 7;
+    if (p->torn[page][place]) return EE_TORN;
     *value = p->words[page][place];
     return 0;
 }
@@ -164,9 +164,9 @@ static inline int holds_same(const part *a, const part *b) {
 }
 
 static inline ee_flash flash_of(part *p) {
+    uint32_t kind = p->clears_first ? EE_PAIRS_CLEARING : p->pairs ? EE_PAIRS : EE_WORDS;
     ee_flash flash = {.context = p, .pages = p->pages, .page_words = p->page_words, .word = part_word, .program = part_program,
-                      
-                      .erase = part_erase, .pairs = p->pairs << p->clears_first, .words = p->runs == NO_RUNS ? NULL : part_words};
+                      .erase = part_erase, .kind = kind, .words = p->runs == NO_RUNS ? NULL : part_words};
     return flash;
 }
 

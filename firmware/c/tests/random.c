@@ -74,7 +74,7 @@ static uint32_t made(ee_store *store, call c) {
     case WRITE: return ee_write(store, c.address, c.value);
     case FORGET: return ee_forget(store, c.address);
     case CLEAN: return ee_clean(store);
-    case CLEAR: return ee_clear(store);
+    case CLEAR: return ee_forget_all(store);
     default: return ee_write_all(store, c.values, c.count);
     }
 }
@@ -100,7 +100,7 @@ static uint32_t expected(const call *c, const map *old, uint32_t slots, uint32_t
     case FORGET: return there ? EE_OK : EE_ABSENT;
     case CLEAN: return pending > 0 ? EE_OK : EE_NOTHING;
     case CLEAR: return EE_OK;
-    default: return !with_list(&new, c) ? EE_TWICE : live_in(&new) > slots ? EE_FULL : EE_OK;
+    default: return !with_list(&new, c) ? EE_DUPLICATE : live_in(&new) > slots ? EE_FULL : EE_OK;
     }
 }
 
@@ -126,7 +126,7 @@ static void cut_everywhere(const part *before, const map *old, call c, const map
             p.steps = 0, p.cut_in = step, p.tear = (enum tear)tear;
             if (made(&store, c) != EE_DRIVER) return;
             cuts++;
-            CHECK(ee_clean(&store) == EE_OFF);
+            CHECK(ee_clean(&store) == EE_NOT_OPEN);
             p.cut_in = 0;
             CHECK(ee_open(&store, &flash) == EE_OK);
             map m = held(&store);
@@ -148,7 +148,7 @@ static void fail_everywhere(const part *before, const map *old, call c, const ma
         uint32_t status = made(&store, c);
         if (!p.failed) return;
         failures++;
-        CHECK(status == EE_DRIVER && ee_clean(&store) == EE_OFF);
+        CHECK(status == EE_DRIVER && ee_clean(&store) == EE_NOT_OPEN);
         p.failed = 0;
         CHECK(ee_open(&store, &flash) == EE_OK);
         map m = held(&store);

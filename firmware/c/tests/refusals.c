@@ -14,11 +14,11 @@ static void zeros(void) {
     static ee_store never;
     for (int round = 0; round < 2; round++) {
         value = 99, address = 1;
-        CHECK(ee_read(&never, 1, &value) == EE_OFF && ee_next(&never, &address, &value) == EE_OFF);
-        CHECK(ee_counts(&never, &numbers) == EE_OFF && value == 99 && address == 1);
-        CHECK(ee_write(&never, 1, 1) == EE_OFF && ee_forget(&never, 1) == EE_OFF && ee_clean(&never) == EE_OFF);
-        CHECK(ee_write_all(&never, list, 2) == EE_OFF && ee_write_all(&never, list, 0) == EE_OFF);
-        CHECK(ee_clear(&never) == EE_OFF);
+        CHECK(ee_read(&never, 1, &value) == EE_NOT_OPEN && ee_next(&never, &address, &value) == EE_NOT_OPEN);
+        CHECK(ee_counts(&never, &numbers) == EE_NOT_OPEN && value == 99 && address == 1);
+        CHECK(ee_write(&never, 1, 1) == EE_NOT_OPEN && ee_forget(&never, 1) == EE_NOT_OPEN && ee_clean(&never) == EE_NOT_OPEN);
+        CHECK(ee_write_all(&never, list, 2) == EE_NOT_OPEN && ee_write_all(&never, list, 0) == EE_NOT_OPEN);
+        CHECK(ee_forget_all(&never) == EE_NOT_OPEN);
         /* So is one whose opening was refused. */
         ee_flash flash = flash_of(&p);
         CHECK(ee_open(&never, &flash) == EE_UNFORMATTED);
@@ -32,10 +32,10 @@ static void copies(void) {
     CHECK(ee_start(&store, &flash) == EE_OK && ee_write(&store, 1, 10) == EE_OK);
     copy = store;
     value = 99, address = 0;
-    CHECK(ee_read(&copy, 1, &value) == EE_OFF && ee_next(&copy, &address, &value) == EE_OFF);
-    CHECK(ee_counts(&copy, &numbers) == EE_OFF && value == 99 && address == 0);
-    CHECK(ee_write(&copy, 1, 11) == EE_OFF && ee_forget(&copy, 1) == EE_OFF && ee_clean(&copy) == EE_OFF);
-    CHECK(ee_write_all(&copy, list, 2) == EE_OFF && ee_clear(&copy) == EE_OFF);
+    CHECK(ee_read(&copy, 1, &value) == EE_NOT_OPEN && ee_next(&copy, &address, &value) == EE_NOT_OPEN);
+    CHECK(ee_counts(&copy, &numbers) == EE_NOT_OPEN && value == 99 && address == 0);
+    CHECK(ee_write(&copy, 1, 11) == EE_NOT_OPEN && ee_forget(&copy, 1) == EE_NOT_OPEN && ee_clean(&copy) == EE_NOT_OPEN);
+    CHECK(ee_write_all(&copy, list, 2) == EE_NOT_OPEN && ee_forget_all(&copy) == EE_NOT_OPEN);
     CHECK(ee_read(&store, 1, &value) == EE_OK && value == 10);
     CHECK(ee_open(&copy, &flash) == EE_OK && ee_read(&copy, 1, &value) == EE_OK && value == 10);
 }
@@ -55,11 +55,11 @@ static void nulls(void) {
     CHECK(ee_rescue(NULL, &flash) == EE_NULL && ee_rescue(&store, NULL) == EE_NULL && ee_rescue(&store, &lacking) == EE_NULL);
     CHECK(ee_bad_words(NULL, &value) == EE_NULL && ee_bad_words(&flash, NULL) == EE_NULL);
     CHECK(ee_bad_words(&lacking, &value) == EE_NULL);
-    CHECK(ee_write(&store, 1, 1) == EE_OFF);
-    CHECK(ee_read(&store, 1, &value) == EE_OFF);
-    CHECK(ee_clear(&store) == EE_OFF && ee_clear(NULL) == EE_NULL);
+    CHECK(ee_write(&store, 1, 1) == EE_NOT_OPEN);
+    CHECK(ee_read(&store, 1, &value) == EE_NOT_OPEN);
+    CHECK(ee_forget_all(&store) == EE_NOT_OPEN && ee_forget_all(NULL) == EE_NULL);
     CHECK(ee_write(NULL, 1, 1) == EE_NULL);
-    CHECK(ee_write_all(&store, list, 2) == EE_OFF && ee_write_all(&store, list, 0) == EE_OFF);
+    CHECK(ee_write_all(&store, list, 2) == EE_NOT_OPEN && ee_write_all(&store, list, 0) == EE_NOT_OPEN);
     CHECK(ee_write_all(NULL, list, 2) == EE_NULL);
     CHECK(ee_forget(NULL, 1) == EE_NULL);
     CHECK(ee_clean(NULL) == EE_NULL);
@@ -83,13 +83,13 @@ static void shapes(void) {
         CHECK(ee_open(&store, &flash) == EE_WRONG_SHAPE);
         CHECK(ee_format(&store, &flash) == EE_WRONG_SHAPE && ee_rescue(&store, &flash) == EE_WRONG_SHAPE);
         CHECK(ee_bad_words(&flash, &value) == EE_WRONG_SHAPE);
-        CHECK(ee_write(&store, 1, 1) == EE_OFF);
+        CHECK(ee_write(&store, 1, 1) == EE_NOT_OPEN);
     }
     ee_flash flash = flash_of(&p);
-    for (flash.pairs = 4; flash.pairs != 0; flash.pairs <<= 1) {
+    for (flash.kind = 4; flash.kind != 0; flash.kind <<= 1) {
         CHECK(ee_start(&store, &flash) == EE_WRONG_SHAPE && ee_format(&store, &flash) == EE_WRONG_SHAPE);
     }
-    flash.pairs = 3;
+    flash.kind = 3;
     CHECK(ee_start(&store, &flash) == EE_WRONG_SHAPE && ee_rescue(&store, &flash) == EE_WRONG_SHAPE);
 }
 
@@ -125,7 +125,7 @@ static void lists(void) {
     CHECK(ee_format(&store, &flash) == EE_OK && ee_write(&store, 5, 10) == EE_OK);
     part before = p;
     CHECK(ee_write_all(&store, list, 0) == EE_OK);
-    CHECK(ee_write_all(&store, list, 3) == EE_TWICE && ee_write_all(&store, list, 2) == EE_FULL);
+    CHECK(ee_write_all(&store, list, 3) == EE_DUPLICATE && ee_write_all(&store, list, 2) == EE_FULL);
     CHECK(ee_write_all(&store, list, 4) == EE_WRONG_NUMBER && ee_write_all(&store, list + 4, 1) == EE_WRONG_NUMBER);
     CHECK(holds_same(&before, &p));
     CHECK(ee_write_all(&store, list + 5, 2) == EE_OK && p.words[1][4] == 0x0000001900000004);
@@ -144,7 +144,7 @@ static void no_store(void) {
     CHECK(ee_open(&store, &flash) == EE_OK);
     p.words[0][4] = 0;
     CHECK(ee_open(&store, &flash) == EE_FOREIGN);
-    CHECK(ee_read(&store, 1, &value) == EE_OFF);
+    CHECK(ee_read(&store, 1, &value) == EE_NOT_OPEN);
     p.words[1][0] = 0xaaaaaaaa00000001;
     p.words[1][1] = 0xaaaaaaaaaaaaaaaa;
     CHECK(ee_open(&store, &flash) == EE_TWO_LIVE);
@@ -156,12 +156,12 @@ static void no_store(void) {
     CHECK(ee_write(&store, 1, 1) == EE_SPENT && ee_forget(&store, 1) == EE_SPENT);
     CHECK(ee_write_all(&store, list, 2) == EE_SPENT && ee_write_all(&store, list, 1) == EE_SPENT);
     part before = p;
-    CHECK(ee_clear(&store) == EE_SPENT && ee_rescue(&store, &flash) == EE_SPENT && holds_same(&before, &p));
-    CHECK(ee_read(&store, 1, &value) == EE_OFF);
+    CHECK(ee_forget_all(&store) == EE_SPENT && ee_rescue(&store, &flash) == EE_SPENT && holds_same(&before, &p));
+    CHECK(ee_read(&store, 1, &value) == EE_NOT_OPEN);
     p.words[0][4] = p.words[0][5] = UINT64_MAX;
-    CHECK(ee_open(&store, &flash) == EE_OK && ee_clear(&store) == EE_OK);
+    CHECK(ee_open(&store, &flash) == EE_OK && ee_forget_all(&store) == EE_OK);
     blank(&p, 1, 6);
-    CHECK(ee_rescue(&store, &flash) == EE_NOTHING && ee_clear(&store) == EE_OFF);
+    CHECK(ee_rescue(&store, &flash) == EE_NOTHING && ee_forget_all(&store) == EE_NOT_OPEN);
     value = 99;
     CHECK(ee_bad_words(&flash, &value) == EE_OK && value == 0);
 }
@@ -174,7 +174,7 @@ static void first_starts(void) {
         p.steps = 0, p.cut_in = 1 + round % 3, p.tear = (enum tear)(round % TEARS);
         uint32_t status = ee_start(&store, &flash);
         if (status == EE_OK) blank(&p, 1, 6);
-        else CHECK(status == EE_DRIVER && ee_read(&store, 1, &value) == EE_OFF);
+        else CHECK(status == EE_DRIVER && ee_read(&store, 1, &value) == EE_NOT_OPEN);
     }
     p.cut_in = 0;
     CHECK(ee_start(&store, &flash) == EE_OK);
@@ -213,9 +213,9 @@ static void failing(void) {
     CHECK(ee_format(&store, &flash) == EE_OK);
     p.steps = 0, p.cut_in = 1, p.tear = TEAR_TORN;
     CHECK(ee_write(&store, 1, 10) == EE_DRIVER);
-    CHECK(ee_write(&store, 1, 10) == EE_OFF && ee_clean(&store) == EE_OFF && ee_forget(&store, 1) == EE_OFF);
-    CHECK(ee_write_all(&store, list, 2) == EE_OFF);
-    CHECK(ee_counts(&store, &numbers) == EE_OFF && ee_next(&store, &address, &value) != EE_OK);
+    CHECK(ee_write(&store, 1, 10) == EE_NOT_OPEN && ee_clean(&store) == EE_NOT_OPEN && ee_forget(&store, 1) == EE_NOT_OPEN);
+    CHECK(ee_write_all(&store, list, 2) == EE_NOT_OPEN);
+    CHECK(ee_counts(&store, &numbers) == EE_NOT_OPEN && ee_next(&store, &address, &value) != EE_OK);
     CHECK(ee_open(&store, &flash) == EE_OK && ee_read(&store, 1, &value) == EE_NOTHING);
     CHECK(ee_counts(&store, &numbers) == EE_OK && numbers.fill == 1 && numbers.torn == 1);
 }
@@ -231,9 +231,9 @@ static void foreign_numbers(void) {
             p.words[page][place ^ 1] = UINT64_MAX - 6;
             part before = p;
             CHECK(ee_open(&store, &flash) == EE_FOREIGN && ee_start(&store, &flash) == EE_FOREIGN);
-            CHECK(ee_write(&store, 1, 1) == EE_OFF && holds_same(&before, &p));
+            CHECK(ee_write(&store, 1, 1) == EE_NOT_OPEN && holds_same(&before, &p));
             p.steps = 0, p.cut_in = 1, p.tear = TEAR_TORN;
-            CHECK(ee_format(&store, &flash) == EE_DRIVER && ee_write(&store, 1, 1) == EE_OFF);
+            CHECK(ee_format(&store, &flash) == EE_DRIVER && ee_write(&store, 1, 1) == EE_NOT_OPEN);
             p.cut_in = 0, p.erased = 0;
             CHECK(ee_format(&store, &flash) == EE_OK && p.erased == 1);
             CHECK(ee_write(&store, 1, 10) == EE_OK && ee_start(&store, &flash) == EE_OK);
@@ -258,15 +258,15 @@ static void low_numbers(void) {
         ee_flash flash = flash_of(&p);
         CHECK(ee_start(&store, &flash) == EE_OK && ee_write(&store, 1, 10) == EE_OK);
         for (uint32_t place = page == 0 ? 10 : 0; place < 12; place++) p.words[page][place] = 5 + place;
-        flash.pairs = 1;
+        flash.kind = EE_PAIRS;
         CHECK(ee_start(&store, &flash) == EE_FOREIGN);
-        flash.pairs = 2;
+        flash.kind = EE_PAIRS_CLEARING;
         if (page == 1) CHECK(ee_start(&store, &flash) != EE_OK && ee_rescue(&store, &flash) == EE_OK);
         else CHECK(ee_start(&store, &flash) == EE_OK && ee_counts(&store, &numbers) == EE_OK);
         if (page == 0) CHECK(numbers.torn == 1);
         while (ee_clean(&store) == EE_OK) {}
         CHECK(ee_read(&store, 1, &value) == EE_OK && value == 10);
-        flash.pairs = 1;
+        flash.kind = EE_PAIRS;
         CHECK(ee_start(&store, &flash) == (page == 0 ? EE_FOREIGN : EE_OK));
     }
 }
@@ -287,7 +287,7 @@ static void data(void) {
         part before = p;
         uint32_t status = ee_start(&store, &flash);
         CHECK(status == EE_NO_LIVE_SET || status == EE_FOREIGN);
-        CHECK(ee_write(&store, 1, 1) == EE_OFF && holds_same(&before, &p) && p.steps == 0);
+        CHECK(ee_write(&store, 1, 1) == EE_NOT_OPEN && holds_same(&before, &p) && p.steps == 0);
     }
     for (uint32_t i = 0; i < 48; i++) {
         blank(&p, 2, 6);
@@ -320,12 +320,37 @@ static void failed_reads(void) {
                                   : call == 5 ? ee_counts(&store, &numbers)
                                   : call == 6 ? ee_write_all(&store, list, 1)
                                   : call == 7 ? ee_forget(&store, 2)
-                                  : call == 8 ? ee_clear(&store)
+                                  : call == 8 ? ee_forget_all(&store)
                                               : ee_rescue(&store, &flash);
                 if (!p.failed) last = read + 1;
-                else CHECK(status == EE_DRIVER && ee_read(&store, 1, &value) == EE_OFF && ee_clean(&store) == EE_OFF);
+                else CHECK(status == EE_DRIVER && ee_read(&store, 1, &value) == EE_NOT_OPEN && ee_clean(&store) == EE_NOT_OPEN);
             }
             CHECK(last > 3 || call == 3);
+        }
+    }
+}
+
+static uint32_t no_word(void *context, uint32_t page, uint32_t place, uint64_t *word) {
+    (void)page, (void)place, (void)word;
+    return *(uint32_t *)context;
+}
+
+/* A driver that answers a status of its own for every word, as the HAL's for an error: no call makes a step, and nothing is lost. */
+static void statuses_of_drivers(void) {
+    static uint32_t answers[] = {1, 2, 3, EE_READ_FAILED, EE_READ_FAILED + 1, EE_TORN - 1, EE_TORN + 1, UINT32_MAX};
+    for (size_t i = 0; i < sizeof answers / sizeof *answers; i++) {
+        for (uint32_t kind = 0; kind < 3; kind++) {
+            blank(&p, 1, 6);
+            p.pairs = kind > 0, p.clears_first = kind == 2;
+            ee_flash flash = flash_of(&p), failing = flash;
+            CHECK(ee_start(&store, &flash) == EE_OK && ee_write(&store, 1, 10) == EE_OK);
+            part before = p;
+            failing.word = no_word, failing.context = &answers[i];
+            for (int round = 0; round < 4; round++) CHECK(ee_start(&store, &failing) == EE_DRIVER && ee_clean(&store) == EE_NOT_OPEN);
+            CHECK(ee_open(&store, &failing) == EE_DRIVER && ee_rescue(&store, &failing) == EE_DRIVER);
+            CHECK(ee_format(&store, &failing) == EE_DRIVER && ee_bad_words(&failing, &value) == EE_DRIVER);
+            CHECK(holds_same(&before, &p) && p.steps == before.steps);
+            CHECK(ee_start(&store, &flash) == EE_OK && ee_read(&store, 1, &value) == EE_OK && value == 10);
         }
     }
 }
@@ -379,6 +404,7 @@ int main(int count, char **argument) {
     foreign_numbers();
     data();
     failed_reads();
+    statuses_of_drivers();
     halves();
     unreadable_numbers();
     return 0;

@@ -74,6 +74,39 @@ static void check_image(void) {
     fclose(file);
 }
 
+/* What is no image, and what is. */
+static void check_texts(void) {
+    static const struct {
+        int is_image;
+        const char *text;
+    } texts[] = {
+        {1, "ee 1 5\n0 - ? 0000000000000012 - -\n18446744073709551615 - - - - fffffffffffffffe\n"},
+        {0, "ee 1 5\n0 - - 12zz - -\n0 - - - - -\n"},
+        {0, "ee 1 5\n0 - - -1 - -\n0 - - - - -\n"},
+        {0, "ee 1 5\n0 - - 12 - -\n0 - - - - -\n"},
+        {0, "ee 1 5\n0 - - 00000000000000012 - -\n0 - - - - -\n"},
+        {0, "ee 1 5\n0 - - 000000000000001A - -\n0 - - - - -\n"},
+        {0, "ee 1 5\n0 - - ffffffffffffffff - -\n0 - - - - -\n"},
+        {0, "ee 1 5\n-1 - - - - -\n0 - - - - -\n"},
+        {0, "ee 1 5\n18446744073709551616 - - - - -\n0 - - - - -\n"},
+        {0, "ee 1 5\n01 - - - - -\n0 - - - - -\n"},
+        {0, "ee 4294967297 5\n0 - - - - -\n0 - - - - -\n"},
+        {0, "ee 1 4294967301\n0 - - - - -\n0 - - - - -\n"},
+        {0, "ee 1 5\n0 - - - - -\n0 - - - -\n"},
+        {0, "ee 1 5\n0 - - - - -\n0 - - - - - -\n"},
+        {0, "eee 1 5\n0 - - - - -\n0 - - - - -\n"},
+    };
+    for (size_t i = 0; i < sizeof texts / sizeof *texts; i++) {
+        FILE *file = tmpfile();
+        CHECK(file != NULL && fputs(texts[i].text, file) >= 0);
+        for (int pairs = 0; pairs < 2; pairs++) {
+            rewind(file);
+            CHECK((pairs ? sim_read_pairs(&again, file) : sim_read(&again, file)) == texts[i].is_image);
+        }
+        fclose(file);
+    }
+}
+
 int main(void) {
     static const sim_tear ways[4] = {SIM_NOTHING, SIM_DONE, SIM_TORN, SIM_MIXED};
     for (uint64_t run = 0; run < RUNS; run++) {
@@ -86,5 +119,6 @@ int main(void) {
     sim_new_pairs(&part, 1, WORDS);
     cut_erase(SIM_TORN);
     check_image();
+    check_texts();
     return 0;
 }

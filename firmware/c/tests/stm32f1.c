@@ -27,6 +27,8 @@ static stm32f1 part = {.registers = &registers, .flash = memory, .page_words = W
 static uint32_t keys, steps, fails_in, busy_for;
 static int is_queued; /* a write to the flash isn't there yet */
 static int is_off;
+static int clears; /* an erase clears the cells of its page before it sets them */
+static uint32_t cleared; /* cut erases that did */
 static enum fault fault;
 
 static void barrier(void) { is_queued = 0; }
@@ -41,13 +43,16 @@ static int fails(uint32_t turns) {
     return is_failing;
 }
 
-static void erase_page(uint32_t address) {
+static void erase_page_of_model(uint32_t address) {
     uint32_t page = (address - (uint32_t)(uintptr_t)memory) / (OF_PAGE * 2);
     CHECK(page < PAGES && address == (uint32_t)(uintptr_t)(memory + page * OF_PAGE));
     int is_failing = fails(7);
     if (is_off || (is_failing && fault == WRITE_PROTECTED)) return;
+    uint32_t kind = is_failing && clears ? below(3) : 0;
+    cleared += kind > 0;
     for (uint32_t i = page * OF_PAGE; i < (page + 1) * OF_PAGE; i++) {
-        memory[i] |= is_failing ? (uint16_t)any_bits() : UINT16_MAX;
+        if (kind > 0) memory[i] &= kind == 1 ? (uint16_t)any_bits() : 0;
+        if (kind != 1) memory[i] |= is_failing ? (uint16_t)any_bits() : UINT16_MAX;
     }
     is_off = is_failing && fault == POWER;
 }
@@ -77,7 +82,7 @@ static void set_control(uint32_t value) {
     if (value >> 7 & 1) lock_model();
     if (value >> 6 & 1) {
         CHECK(value == (1u << 6 | 1u << 1) && busy_for == 0);
-        erase_page(registers.ar);
+        erase_page_of_model(registers.ar);
     }
 }
 
@@ -133,7 +138,7 @@ static void failing(enum fault kind) {
         steps = 0, fails_in = step, fault = kind;
         for (n = 0; n < 600 && status == EE_OK; n++) status = ee_write(&store, 1, n);
         if (kind == SILENT && status == EE_OK) continue; /* the cells that were left are those that were asked for */
-        CHECK(status == EE_DRIVER && ee_write(&store, 1, 0) == EE_OFF);
+        CHECK(status == EE_DRIVER && ee_write(&store, 1, 0) == EE_NOT_OPEN);
         fault = NONE, busy_for = 0, is_off = 0;
         CHECK(ee_open(&store, &flash) == EE_OK);
         CHECK(ee_read(&store, 9, &value) == EE_OK && value == 90);
@@ -158,13 +163,14 @@ static void read_back(void) {
 
 int main(void) {
     static const model here = {cut, is_cut, power};
-    for (int with_cuts = 0; with_cuts < 2; with_cuts++) {
+    for (int with_cuts = 0; with_cuts < 3; with_cuts++) {
+        clears = with_cuts == 2;
         ee_flash flash = new_part();
-        moves(&flash, &here, with_cuts);
+        moves(&flash, &here, with_cuts > 0);
         CHECK(registers.cr == 1u << 7 && registers.acr == AFTER_RESET);
     }
     read_back();
     for (enum fault kind = WRITE_PROTECTED; kind <= STAYS_LOCKED; kind++) failing(kind);
-    CHECK(waited > 0);
+    CHECK(waited > 0 && cleared > 50);
     return 0;
 }

@@ -1,11 +1,14 @@
-/* The port for an STM32F4 against a model of its flash: registers, sectors of words of 32 bits, and the data cache. */
+/* The port for an STM32F4 against a model of its flash: registers, sectors that are programmed by 32 bits, and the data cache.
+ * stm32f4_by_16.c and stm32f4_by_8.c make it again for supplies that allow fewer bits at once. */
 #include "moves.h"
 
 static void set(volatile uint32_t *address, uint32_t value);
 static uint32_t get(volatile uint32_t *address);
+static void set_unit(volatile uint8_t *address, uint32_t value);
 static void barrier(void);
 #define STM32F4_SET(address, value) set(address, value)
 #define STM32F4_GET(address) get(address)
+#define STM32F4_SET_UNIT(address, value) set_unit((volatile uint8_t *)(address), value)
 #define STM32F4_BARRIER() barrier()
 #define STM32F4_MOST_TURNS 1000
 #define STM32F4_WAIT() (waited++)
@@ -27,6 +30,8 @@ static uint32_t keys, steps, fails_in, busy_for, acr_after_reset;
 static int is_queued; /* a write to the flash isn't there yet */
 static int is_off, is_settled;
 static int updates; /* a program writes what was asked for into the data cache too; else it leaves an old line there */
+static int clears; /* an erase clears the cells of its sector before it sets them */
+static uint32_t cleared; /* cut erases that did */
 static enum fault fault;
 static uint32_t lines[CACHE_LINES][LINE], line_of[CACHE_LINES], next_line;
 
@@ -60,23 +65,33 @@ static int fails(uint32_t turns) {
     return is_failing;
 }
 
-static void erase_sector(uint32_t number) {
+static void erase_sector_of_model(uint32_t number) {
     CHECK(number == FIRST || number == FIRST + 1);
     int is_failing = fails(7);
     if (is_off || (is_failing && fault == WRITE_PROTECTED)) return;
     uint32_t *sector = memory + (number - FIRST) * SECTOR;
-    for (uint32_t i = 0; i < SECTOR; i++) sector[i] |= is_failing ? any_bits() : UINT32_MAX;
+    uint32_t kind = is_failing && clears ? below(3) : 0;
+    cleared += kind > 0;
+    for (uint32_t i = 0; i < SECTOR; i++) {
+        if (kind > 0) sector[i] &= kind == 1 ? any_bits() : 0;
+        if (kind != 1) sector[i] |= is_failing ? any_bits() : UINT32_MAX;
+    }
     is_off = is_failing && fault == POWER;
 }
 
-static void program_half(uint32_t i, uint32_t value) {
-    CHECK(registers.cr == (2u << 8 | 1) && busy_for == 0);
+/* A unit is programmed, the lowest bit of it in a half. */
+static void set_unit(volatile uint8_t *address, uint32_t value) {
+    size_t byte = (size_t)(address - (volatile uint8_t *)memory), i = byte / 4;
+    uint32_t shift = (uint32_t)(byte % 4 * 8), ones = UINT32_MAX >> (32 - STM32F4_BITS);
+    CHECK(i < 2 * SECTOR && i % SECTOR < 4 * WORDS && byte % (STM32F4_BITS / 8) == 0);
+    CHECK(registers.cr == (STM32F4_BITS / 16 << 8 | 1) && busy_for == 0 && (registers.acr >> 10 & 1) == 0);
+    is_queued = 1;
     int is_failing = fails(3);
     if (is_off || (is_failing && fault == WRITE_PROTECTED)) return;
-    CHECK(memory[i] == UINT32_MAX && value != UINT32_MAX);
-    memory[i] = is_failing ? value | any_bits() : value;
+    CHECK((memory[i] >> shift & ones) == ones && value < ones);
+    memory[i] &= (is_failing ? value | any_bits() | (fault == SILENT) : value) << shift | ~(ones << shift);
     for (int k = 0; k < CACHE_LINES && updates; k++) {
-        if (line_of[k] == i / LINE) lines[k][i % LINE] = value;
+        if (line_of[k] == i / LINE) lines[k][i % LINE] = (memory[i] & ~(ones << shift)) | value << shift;
     }
     is_off = is_failing && fault == POWER;
 }
@@ -89,8 +104,8 @@ static void set_control(uint32_t value) {
     registers.cr = value & ~(1u << 16);
     if (value >> 31) lock_model();
     if (value >> 16 & 1) {
-        CHECK((value & ~(0x1fu << 3)) == (1u << 16 | 2u << 8 | 1u << 1) && busy_for == 0);
-        erase_sector(value >> 3 & 0x1f);
+        CHECK((value & ~(0x1fu << 3)) == (1u << 16 | STM32F4_BITS / 16 << 8 | 1u << 1) && busy_for == 0);
+        erase_sector_of_model(value >> 3 & 0x1f);
     }
 }
 
@@ -112,13 +127,9 @@ static void set(volatile uint32_t *address, uint32_t value) {
         registers.sr &= ~value;
     } else if (address == &registers.cr) {
         set_control(value);
-    } else if (address == &registers.acr) {
-        set_access(value);
     } else {
-        size_t i = (size_t)(address - memory);
-        CHECK(i < 2 * SECTOR && i % SECTOR < 4 * WORDS);
-        is_queued = 1;
-        program_half((uint32_t)i, value);
+        CHECK(address == &registers.acr);
+        set_access(value);
     }
 }
 
@@ -181,7 +192,7 @@ static void failing(enum fault kind) {
             read_by_others();
         }
         if (kind == SILENT && status == EE_OK) continue; /* the cells that were left are those that were asked for */
-        CHECK(status == EE_DRIVER && ee_write(&store, 1, 0) == EE_OFF);
+        CHECK(status == EE_DRIVER && ee_write(&store, 1, 0) == EE_NOT_OPEN);
         fault = NONE, busy_for = 0, is_off = 0;
         CHECK(ee_open(&store, &flash) == EE_OK);
         CHECK(ee_read(&store, 9, &value) == EE_OK && value == 90);
@@ -210,7 +221,7 @@ int main(void) {
     static const model here = {cut, is_cut, power};
     for (int with_cuts = 0; with_cuts < 2; with_cuts++) {
         for (int kind = 0; kind < 3; kind++) {
-            updates = kind == 1;
+            updates = kind == 1, clears = kind != 1;
             ee_flash flash = new_part(kind == 2 ? 0 : CACHES_ON);
             moves(&flash, &here, with_cuts);
             CHECK(registers.cr == 1u << 31 && registers.acr == acr_after_reset);
@@ -218,6 +229,6 @@ int main(void) {
     }
     for (updates = 0; updates < 2; updates++) read_back();
     for (enum fault kind = WRITE_PROTECTED; kind <= STAYS_LOCKED; kind++) failing(kind);
-    CHECK(waited > 0);
+    CHECK(waited > 0 && cleared > 50);
     return 0;
 }

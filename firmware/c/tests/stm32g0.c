@@ -3,32 +3,40 @@
 
 static void set(volatile uint32_t *address, uint32_t value);
 static uint32_t get(volatile uint32_t *address);
+static volatile uint32_t *at(uint32_t address);
 static void barrier(void);
 #define STM32G0_SET(address, value) set(address, value)
 #define STM32G0_GET(address) get(address)
+#define STM32G0_AT(address) at(address)
 #define STM32G0_BARRIER() barrier()
 #define STM32G0_MOST_TURNS 1000
 #define STM32G0_WAIT() (waited++)
 static uint32_t waited; /* turns of the port's loop */
 #include "../port/stm32g0.c"
 
-enum { FIRST = 60, WORDS = 256, PAGES = 4, COUNT = PAGES * WORDS, CACHE_LINES = 8, CACHE_WORDS = 4 /* of a line: 32 bytes */ };
+enum { FIRST = 60, WORDS = 256, MOST_WORDS = 4 * WORDS, LATEST = 6, CACHE_LINES = 8, CACHE_WORDS = 4 /* of a line: 32 bytes */ };
 enum fault { NONE, WRITE_PROTECTED, POWER, SILENT, LAZY, STAYS_BUSY, STAYS_LOCKED };
 enum state { FINE, CORRECTED, TORN }; /* of a double word */
 static const uint32_t AFTER_RESET = 0x40600, FLAGS = 3u << 30, CORRECTIONS = 1u << 30, DETECTIONS = 1u << 31;
+static const uint32_t PROGERR = 1u << 3, PGSERR = 1u << 7, CLOCKS_ON = 0x10000000;
 
 static stm32g0_registers registers;
-static uint32_t memory[2 * COUNT];
-static uint8_t states[COUNT];
-static stm32g0 part = {.registers = &registers, .flash = memory, .first_page = FIRST};
-static uint32_t keys, first_half, steps, fails_in, busy_for, others;
+static uint32_t memory[2 * MOST_WORDS];
+static uint8_t states[MOST_WORDS];
+static stm32g0 part = {.registers = &registers};
+/* What the part is: its number, its flash, where the model's pages begin in it, and the bank that they are built in. */
+static uint32_t device, flash_kb, has_two, is_exchanged, clocks, base, bank;
+static uint32_t keys, first_half, steps, fails_in, busy_for, others, lies, faints;
 static int is_queued; /* a write to the flash isn't there yet */
-static int is_off, is_settled, is_raised, is_in_nmi;
+static int is_off, is_settled, is_in_nmi;
+static uint32_t raised_for; /* an NMI comes so many accesses later, or at a barrier; 0 where none is raised */
 static int updates; /* a program writes what was asked for into the cache too; else it leaves an old line there */
 static int hides;   /* while a flag stands no other error is told; else its flag is, with the address of before */
+static int is_late; /* it doesn't come at a barrier */
+static int is_lying; /* the address of an error may be any other one */
 static enum fault fault;
 
-/* The cache, as if it held data too, and what the flash read last with the cache off: a second read of either raises no NMI. */
+/* The cache, and what the flash read last with the cache off: a second read of either raises no NMI. */
 static uint32_t lines[CACHE_LINES][2 * CACHE_WORDS], line_of[CACHE_LINES], next_line, buffer[2], buffer_of;
 enum { NO_LINE = UINT16_MAX };
 
@@ -38,14 +46,20 @@ static void empty_caches(void) {
 }
 
 /* The register of the bank's errors. The other bank's stays as it is. */
-static volatile uint32_t *ecc(void) { return part.bank ? &registers.ecc2r : &registers.eccr; }
+static volatile uint32_t *ecc(void) { return bank ? &registers.ecc2r : &registers.eccr; }
 
-/* An error with its flag, and where no flag stands its address. */
+/* An error with its flag, and where no flag stands its address, or another one. */
 static void tell(uint32_t address, uint32_t flag) {
-    if ((*ecc() & FLAGS & ~flag) != 0 && hides && (*ecc() & ECCR_ADDR) != address) return;
-    if ((*ecc() & FLAGS) == 0) *ecc() = (*ecc() & 1u << 24) | address;
+    static uint32_t kept;
+    if ((*ecc() & FLAGS & ~flag) != 0 && hides && kept != address) return;
+    if ((*ecc() & FLAGS) == 0) {
+        kept = address;
+        uint32_t told = is_lying && below(4) == 0 ? below(1 << 16) : address;
+        lies += told != address;
+        *ecc() = (*ecc() & 1u << 24) | told;
+    }
     *ecc() |= flag;
-    if (flag & DETECTIONS) is_raised = 1;
+    if ((flag & DETECTIONS) != 0 && raised_for == 0) raised_for = 1 + (is_late ? below(LATEST) : 0);
 }
 
 /* The flash reads a double word, and tells what is wrong. */
@@ -71,26 +85,35 @@ static uint32_t fetched(uint32_t half) {
     if (i == CACHE_LINES) {
         i = next_line++ % CACHE_LINES;
         for (uint32_t k = 0; k < CACHE_WORDS; k++) sense(line * CACHE_WORDS + k);
+        buffer_of = (line + 1) * CACHE_WORDS - 1; /* what the flash read last */
+        memcpy(buffer, memory + buffer_of * 2, sizeof buffer);
         line_of[i] = line;
         memcpy(lines[i], memory + line * 2 * CACHE_WORDS, sizeof lines[i]);
     }
     return lines[i][half % (2 * CACHE_WORDS)];
 }
 
-static void barrier(void) {
-    is_settled = 1, is_queued = 0;
-    if (!is_raised || is_in_nmi) return;
-    is_raised = 0, is_in_nmi = 1;
+/* An access goes by, or a barrier: an NMI that is raised comes nearer. */
+static void pass(int is_barrier) {
+    if (raised_for == 0 || is_in_nmi || (is_late ? --raised_for > 0 : !is_barrier)) return;
+    raised_for = 0, is_in_nmi = 1;
     others += stm32g0_nmi(&part) == 0; /* the product's own handler */
     CHECK(is_settled); /* the flag is down when the handler returns */
     is_in_nmi = 0;
 }
 
+static void barrier(void) {
+    is_settled = 1, is_queued = 0;
+    pass(1);
+}
+
 static void lock(void) { registers.cr |= 1u << 31, keys = 0; }
 
-/* A step begins. Whether it is the one that fails: behind it power is off, and steps do nothing. */
+/* A step begins, which no error of before may stand against. Whether it is the one that fails: behind it power is off, and steps
+ * do nothing. */
 static int fails(uint32_t turns) {
-    int is_failing = fault != NONE && fault != STAYS_LOCKED && ++steps == fails_in;
+    CHECK(is_off || (registers.sr & SR_ERRORS) == 0);
+    int is_failing = fault != NONE && fault < STAYS_LOCKED && ++steps == fails_in;
     buffer_of = NO_LINE;
     busy_for = is_failing && fault == STAYS_BUSY ? UINT32_MAX : turns;
     if (is_failing && fault == WRITE_PROTECTED) registers.sr |= 1u << 4;
@@ -98,16 +121,18 @@ static int fails(uint32_t turns) {
     return is_failing;
 }
 
-/* What a step that fails leaves of a double word: nothing done, done, done and read with a correction, or torn. */
+/* What a step that fails leaves of a double word: nothing done, done, done and read with a correction, all ones by a correction,
+ * or torn. */
 static void leave(uint32_t i, uint32_t low, uint32_t high, int is_failing) {
-    uint32_t kind = !is_failing ? 1 : fault == LAZY ? 0 : fault == SILENT ? 3 : below(6);
+    uint32_t kind = !is_failing ? 1 : fault == LAZY ? 0 : fault == SILENT ? 4 : below(7);
     if (kind == 0) return;
-    memory[2 * i] = kind < 3 ? low : low | any_bits();
-    memory[2 * i + 1] = kind < 3 ? high : high | any_bits();
-    states[i] = kind == 1 ? FINE : kind == 2 ? CORRECTED : TORN;
+    memory[2 * i] = kind < 3 ? low : kind == 3 ? UINT32_MAX : low | any_bits();
+    memory[2 * i + 1] = kind < 3 ? high : kind == 3 ? UINT32_MAX : high | any_bits();
+    states[i] = kind == 1 ? FINE : kind < 4 ? CORRECTED : TORN;
+    faints += states[i] == CORRECTED && (memory[2 * i] & memory[2 * i + 1]) == UINT32_MAX;
 }
 
-static void erase_page(uint32_t page) {
+static void erase_page_of_model(uint32_t page) {
     CHECK(page < part.pages && busy_for == 0);
     int is_failing = fails(7);
     if (is_off || (is_failing && fault == WRITE_PROTECTED)) return;
@@ -118,6 +143,10 @@ static void erase_page(uint32_t page) {
 static void program_word(uint32_t i, uint32_t low, uint32_t high) {
     int is_failing = fails(3);
     if (is_off || (is_failing && fault == WRITE_PROTECTED)) return;
+    if (states[i] == CORRECTED) { /* no cell is programmed, but the word was */
+        registers.sr |= PROGERR;
+        return;
+    }
     CHECK(memory[2 * i] == UINT32_MAX && memory[2 * i + 1] == UINT32_MAX && states[i] != TORN);
     leave(i, low, high, is_failing);
     for (int k = 0; k < CACHE_LINES && updates; k++) {
@@ -145,14 +174,23 @@ static void set_control(uint32_t value) {
     registers.cr = value & ~(1u << 16);
     if (value >> 31) lock();
     if (value >> 16 & 1) {
-        CHECK((value & 2) != 0 && (value >> 13 & 1) == part.bank && (registers.acr >> 9 & 1) == 0);
-        erase_page((value >> 3 & 0xff) - FIRST);
+        CHECK((value & 2) != 0 && (value >> 13 & 1) == bank && (registers.acr >> 9 & 1) == 0);
+        erase_page_of_model((value >> 3 & 0xff) - FIRST);
     }
+}
+
+/* Where an address of the part is: the pages are memory, and registers beside those of the flash stay numbers. */
+static volatile uint32_t *at(uint32_t address) {
+    uint32_t offset = address - base;
+    return offset < sizeof memory ? memory + offset / 4 : (volatile uint32_t *)(uintptr_t)address;
 }
 
 static void set(volatile uint32_t *address, uint32_t value) {
     is_settled = 0;
-    if (address == &registers.keyr) {
+    pass(0);
+    if (address == at(0x4002103c)) {
+        clocks = value;
+    } else if (address == &registers.keyr) {
         keys = value == 0x45670123 ? 1 : keys == 1 && value == 0xcdef89ab ? 2 : 3;
         if (keys == 2 && fault != STAYS_LOCKED) registers.cr &= ~(1u << 31);
     } else if (address == &registers.sr) {
@@ -166,7 +204,8 @@ static void set(volatile uint32_t *address, uint32_t value) {
         set_control(value);
     } else {
         size_t i = (size_t)(address - memory);
-        CHECK(i < 2 * part.pages * WORDS && registers.cr == 1 && busy_for == 0 && (registers.acr >> 9 & 1) == 0);
+        CHECK(address >= memory && i < 2 * part.pages * WORDS && registers.cr == 1);
+        CHECK(busy_for == 0 && (registers.acr >> 9 & 1) == 0);
         is_queued = 1;
         if (i % 2 == 0) first_half = value;
         else program_word((uint32_t)(i / 2), first_half, value);
@@ -174,7 +213,11 @@ static void set(volatile uint32_t *address, uint32_t value) {
 }
 
 static uint32_t get(volatile uint32_t *address) {
-    if (address >= memory && address < memory + 2 * COUNT) {
+    pass(0);
+    if (address == at(0x40015800)) return (clocks >> 27 & 1) != 0 ? 0x20010000 | device : 0; /* as while its clock is off */
+    if (address == at(0x1fff75e0)) return 0xffff0000 | flash_kb;
+    if (address == at(0x4002103c)) return clocks;
+    if (address >= memory && address < memory + 2 * MOST_WORDS) {
         CHECK(address < memory + 2 * part.pages * WORDS);
         return fetched((uint32_t)(address - memory));
     }
@@ -182,24 +225,26 @@ static uint32_t get(volatile uint32_t *address) {
     CHECK(!is_queued);
     uint32_t busy = busy_for > 0;
     if (busy_for > 0 && busy_for != UINT32_MAX) busy_for--;
-    return registers.sr | busy << (below(2) ? 18 : 16 + part.bank);
+    return registers.sr | busy << (below(2) ? 18 : 16 + bank);
 }
 
-/* The product reads the pages too, by the cache, which holds nothing old. */
-static void read_by_others(void) {
+/* The product reads the first words of the pages too, by the cache, which holds nothing old. */
+static void read_by_others(uint32_t most) {
     CHECK(others == 0);
     for (uint32_t n = below(6); n > 0; n--) {
-        uint32_t half = below(2 * part.pages * WORDS);
+        uint32_t half = below(2 * most);
         barrier();
         CHECK(fetched(half) == memory[half]);
-        barrier();
+        do barrier();
+        while (raised_for > 0);
         if (others) *ecc() &= ~FLAGS, others = 0; /* beside one that was corrected: the product's own handler */
     }
 }
 
 /* The model for moves. */
 static void cut(uint32_t in) {
-    read_by_others();
+    read_by_others(part.pages * WORDS);
+    if (below(4) == 0) registers.sr |= PGSERR; /* the product's own write went wrong */
     steps = 0, fails_in = in, fault = in ? POWER : NONE;
 }
 static int is_cut(void) { return is_off; }
@@ -208,39 +253,46 @@ static void power(void) {
     memset(&registers, 0, sizeof registers);
     registers.acr = AFTER_RESET;
     registers.eccr = registers.ecc2r = 1u << 24;
+    registers.optr = 0xffcffeaa | has_two << 21 | (is_exchanged ^ 1) << 20;
+    clocks = CLOCKS_ON;
     lock();
     empty_caches();
-    busy_for = 0, others = 0, is_off = 0, is_raised = 0, is_queued = 0, is_settled = 0, fault = NONE;
-    part.error = part.corrected = 0;
+    busy_for = 0, others = 0, is_off = 0, raised_for = 0, is_queued = 0, is_settled = 0, fault = NONE;
+    part.error = part.faint = part.corrected = part.is_stale = 0;
 }
 
-static ee_flash new_part(uint32_t bank) {
+/* A part of 512 KB with a device number, whose pages 60 on of a bank are the store's. */
+static ee_flash new_part(uint32_t number, uint32_t two_banks, uint32_t exchanged, uint32_t is_second, uint32_t pages) {
     memset(memory, 0xff, sizeof memory);
     memset(states, FINE, sizeof states);
-    part.bank = bank;
+    device = number, flash_kb = 512, has_two = two_banks, is_exchanged = exchanged, bank = is_second ^ (two_banks & exchanged);
+    base = 0x08000000 + is_second * 0x40000 + FIRST * 2048;
     power();
-    return stm32g0_flash(&part, PAGES / 2);
+    ee_flash flash = stm32g0_flash(&part, base, pages);
+    CHECK(flash.pages == pages && clocks == CLOCKS_ON);
+    return flash;
 }
 
 /* All that the team has is as it was: the caches, the interrupt of a corrected error, and no other NMI. */
 static int is_as_before(void) {
     return registers.cr == 1u << 31 && registers.acr == AFTER_RESET && (*ecc() & 1u << 24) != 0 && others == 0 &&
-           (part.bank ? registers.eccr : registers.ecc2r) == 1u << 24;
+           (bank ? registers.eccr : registers.ecc2r) == 1u << 24 && clocks == CLOCKS_ON;
 }
 
 /* Writes go wrong in each of their steps; what was stored before is there. */
 static void failing(enum fault kind) {
-    for (uint32_t step = 1; step < 120; step++) {
-        ee_flash flash = new_part(step % 2);
+    for (uint32_t step = 1; step < 1100; step += step < 20 ? 1 : 61) {
+        ee_flash flash = new_part(0x467, 1, step % 2, 1, 2);
         ee_store store;
         uint32_t value, n, status = EE_OK;
         CHECK(ee_open(&store, &flash) == EE_UNFORMATTED);
         CHECK(ee_format(&store, &flash) == EE_OK);
         CHECK(ee_write(&store, 9, 90) == EE_OK);
         steps = 0, fails_in = step, fault = kind;
-        for (n = 0; n < 600 && status == EE_OK; n++) status = ee_write(&store, 1, n);
-        CHECK(status == EE_DRIVER && ee_write(&store, 1, 0) == EE_OFF);
+        for (n = 0; n < 1200 && status == EE_OK; n++) status = ee_write(&store, 1, n);
+        CHECK(status == EE_DRIVER && ee_write(&store, 1, 0) == EE_NOT_OPEN);
         fault = NONE, busy_for = 0, is_off = 0;
+        registers.sr |= PGSERR;
         CHECK(ee_open(&store, &flash) == EE_OK);
         CHECK(ee_read(&store, 9, &value) == EE_OK && value == 90);
         if (ee_read(&store, 1, &value) == EE_OK) CHECK(value == n - 1 || value == n - 2);
@@ -260,13 +312,21 @@ static void raised(uint32_t eccr, int is_claimed, uint32_t flags) {
     *ecc() = 1u << 24;
 }
 
-/* The handler takes the errors in the store's pages alone. */
-static void addresses(uint32_t bank) {
-    uint32_t begin = FIRST * WORDS, end = begin + COUNT, d = 1u << 31, c = 1u << 30;
-    new_part(bank);
+/* The handler takes the errors in the store's pages alone, and while the port reads each. */
+static void addresses(uint32_t is_second) {
+    uint32_t begin = FIRST * WORDS, end = begin + 4 * WORDS, d = 1u << 31, c = 1u << 30;
+    bank = 0;
+    memset(&part, 0, sizeof part);
+    part.registers = &registers;
+    raised(d, 0, d); /* before there is a store */
+    new_part(0x467, 1, 0, is_second, 2);
     raised(d | begin, 1, 0);
     raised(d | (end - 1), 1, 0);
     raised(d | c | begin, 0, d | c); /* the address may be that of the corrected one, and the error anywhere */
+    part.is_reading = 1;
+    raised(d | c | begin, 1, c);
+    raised(d, 1, 0);
+    part.is_reading = 0;
     raised(c | begin, 0, c); /* another cause */
     raised(begin, 0, 0);
     uint32_t far[] = {0, begin - 1, end, 0x7fff};
@@ -276,43 +336,113 @@ static void addresses(uint32_t bank) {
     raised(0, 0, 0); /* the other bank */
 }
 
+/* An address and so many pages of a set; whether they fit, and then the bank and the number of the first page. */
+static void placed(uint32_t address, uint32_t pages, int fits, uint32_t in_bank, uint32_t first) {
+    ee_store store;
+    ee_flash flash = stm32g0_flash(&part, address, pages);
+    CHECK(flash.pages == (fits ? pages : 0));
+    if (fits) CHECK(part.bank == in_bank && part.first_page == first);
+    else CHECK(ee_start(&store, &flash) == EE_WRONG_SHAPE && ee_format(&store, &flash) == EE_WRONG_SHAPE);
+}
+
+/* Where pages are, by the part's number, its size and its options. */
+static void places(void) {
+    for (uint32_t swaps = 0; swaps < 2; swaps++) {
+        new_part(0x467, 1, swaps, 0, 1);
+        placed(0x0807f000, 1, 1, 1 ^ swaps, 126);
+        placed(0x0803f000, 1, 1, swaps, 126);
+        placed(0x0803f800, 1, 0, 0, 0); /* over two banks */
+        placed(0x0807f800, 1, 0, 0, 0); /* over the end */
+        placed(0x0807f400, 1, 0, 0, 0); /* no page begins there */
+        placed(0x08080000, 1, 0, 0, 0);
+        placed(0x07fff000, 1, 0, 0, 0);
+        placed(0x0007f000, 1, 0, 0, 0);
+        placed(0x08040000, 64, 1, 1 ^ swaps, 0);
+        placed(0x08040000, 65, 0, 0, 0);
+        placed(0x0807f000, UINT32_MAX, 0, 0, 0);
+        flash_kb = 128; /* the second bank begins behind the first */
+        placed(0x0801f000, 1, 1, 1 ^ swaps, 30);
+        placed(0x0800f000, 1, 1, swaps, 30);
+        placed(0x0804f000, 1, 0, 0, 0);
+        has_two = 0;
+        power();
+        placed(0x0800f000, 1, 1, 0, 30);
+        placed(0x0801f000, 1, 0, 0, 0); /* whose register tells its errors is open */
+        uint32_t ones[] = {0x456, 0x460, 0x466}; /* have one bank, whatever stands in the options */
+        has_two = 1;
+        power();
+        for (int i = 0; i < 3; i++) device = ones[i], placed(0x0801f000, 1, 1, 0, 62), placed(0x0800f800, 1, 1, 0, 31);
+        uint32_t unknown[] = {0, 0x415, 0xfff}, sizes[] = {0, 1024, 0xffff};
+        for (int i = 0; i < 3; i++) device = unknown[i], placed(0x0801f000, 1, 0, 0, 0);
+        device = 0x467;
+        for (int i = 0; i < 3; i++) flash_kb = sizes[i], placed(0x0807f000, 1, 0, 0, 0);
+    }
+}
+
 /* Each read of a torn word tells it, and reads of its neighbours do not; so it is behind a corrected error in the program. */
-static void torn(uint32_t bank) {
-    ee_flash flash = new_part(bank);
+static void torn(uint32_t is_second) {
+    ee_flash flash = new_part(0x467, 1, 0, is_second, 1);
     uint64_t value;
     for (uint32_t i = 0; i < 8; i++) CHECK(flash.program(&part, 0, i, 7 + i) == 0);
     states[3] = states[4] = states[5] = TORN;
-    states[6] = CORRECTED;
+    states[6] = states[9] = states[11] = CORRECTED; /* 9 and 11 are all ones */
     for (uint32_t n = 0; n < 4000; n++) {
-        uint32_t place = below(8);
+        uint32_t place = below(12), is_torn = (place >= 3 && place <= 5) || place == 9 || place == 11;
         if (below(4) == 0) tell(below(100), 1u << 30);
+        if (below(4) == 0) empty_caches(), read_by_others(12);
         for (uint32_t again = below(3); again < 3; again++) {
-            uint32_t stood = *ecc(), status = flash.word(&part, 0, place, &value);
-            CHECK((status != 0) == (place >= 3 && place <= 5));
-            CHECK(status != 0 || value == 7 + place);
-            CHECK((stood & CORRECTIONS) == 0 || part.corrected == stood);
+            uint32_t status = flash.word(&part, 0, place, &value);
+            CHECK(status == (is_torn ? EE_TORN : 0));
+            CHECK(status != 0 || value == (place < 8 ? 7 + place : UINT64_MAX));
             CHECK((*ecc() & DETECTIONS) == 0);
         }
     }
+    tell(6, 1u << 30);
+    uint32_t stood = *ecc();
+    CHECK(flash.word(&part, 0, 0, &value) == 0 && part.corrected == stood);
     CHECK(is_as_before());
     steps = 0, fails_in = 1, fault = SILENT;
     CHECK(flash.erase(&part, 0) != 0); /* with no flag of the part */
     fault = NONE;
-    CHECK(flash.erase(&part, 0) == 0 && flash.word(&part, 0, 4, &value) == 0 && value == UINT64_MAX && is_as_before());
+    for (uint32_t place = 0; place < 12; place++) {
+        if (place == 0) CHECK(flash.erase(&part, 0) == 0);
+        CHECK(flash.word(&part, 0, place, &value) == 0 && value == UINT64_MAX && is_as_before());
+    }
+}
+
+/* An error that nobody takes is no torn word: nothing is known of it. */
+static void untaken(void) {
+    ee_flash flash = new_part(0x467, 1, 0, 1, 1);
+    ee_store store;
+    uint64_t value;
+    CHECK(ee_start(&store, &flash) == EE_OK);
+    states[3] = TORN, is_in_nmi = 1; /* as in a handler of more weight */
+    CHECK(flash.word(&part, 0, 3, &value) == EE_READ_FAILED);
+    steps = 0, fails_in = UINT32_MAX, fault = POWER;
+    CHECK(ee_start(&store, &flash) == EE_DRIVER && steps == 0);
+    raised_for = 0, is_in_nmi = 0;
 }
 
 int main(void) {
     static const model here = {cut, is_cut, power};
     for (int with_cuts = 0; with_cuts < 2; with_cuts++) {
         for (updates = 0; updates < 2; updates++) {
-            hides = updates;
-            ee_flash flash = new_part((uint32_t)updates);
-            moves(&flash, &here, with_cuts);
-            CHECK(is_as_before() && waited > 0);
+            hides = is_late = updates, is_lying = !updates;
+            ee_flash narrow = new_part(0x467, 1, (uint32_t)updates, 1, 1);
+            moves(&narrow, &here, with_cuts);
+            CHECK(is_as_before());
         }
+        is_late = is_lying = 1;
+        ee_flash one = new_part(0x467, 0, 0, 0, 2);
+        moves(&one, &here, with_cuts);
+        CHECK(is_as_before());
     }
-    for (hides = 0; hides < 2; hides++) torn(0), torn(1);
+    for (int kind = 0; kind < 8; kind++) hides = kind & 1, is_late = kind >> 1 & 1, is_lying = kind >> 2, torn(0), torn(1);
+    hides = is_late = is_lying = 0;
     addresses(0), addresses(1);
+    places();
     for (enum fault kind = WRITE_PROTECTED; kind <= STAYS_LOCKED; kind++) failing(kind);
+    untaken();
+    CHECK(waited > 0 && lies > 1000 && faints > 1000);
     return 0;
 }

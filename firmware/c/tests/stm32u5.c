@@ -4,28 +4,39 @@
 
 static void set(volatile uint32_t *address, uint32_t value);
 static uint32_t get(volatile uint32_t *address);
+static volatile uint32_t *at(uint32_t address);
 static void barrier(void);
+static uint32_t interrupts_off(void);
+static void interrupts_as(uint32_t before);
 #define STM32U5_SET(address, value) set(address, value)
 #define STM32U5_GET(address) get(address)
+#define STM32U5_AT(address) at(address)
 #define STM32U5_BARRIER() barrier()
 #define STM32U5_MOST_TURNS 1000
 #define STM32U5_WAIT() (waited++)
 static uint32_t waited; /* turns of the port's loop */
 #include "../port/stm32u5.c"
 
-enum { PAGES = 4, WORDS = 512, FIRST = 200, BANK = 1, UNITS = PAGES * WORDS, NO_UNIT = UNITS };
+enum { PAGES = 4, WORDS = 512, FIRST = 20, UNITS = PAGES * WORDS, NO_UNIT = UNITS, LATEST = 6 };
 enum fault { NONE, WRITE_PROTECTED, POWER, SILENT, STAYS_BUSY, STAYS_LOCKED, CACHE_STAYS_BUSY };
 enum state { FINE, CORRECTED, TORN }; /* of a unit */
 static const uint32_t FLAGS = 3u << 30, CORRECTION = 1u << 30, DETECTION = 1u << 31, CACHE_ON = 0x30005;
+static const uint32_t PROGERR = 1u << 3, PGSERR = 1u << 7;
 
 static stm32u5_registers registers;
 static stm32u5_cache cache;
 static uint32_t memory[4 * UNITS];
 static uint8_t states[UNITS];
-static stm32u5 part = {.registers = &registers, .cache = &cache, .flash = memory, .first_page = FIRST, .bank = BANK};
-static uint32_t keys, asked[3], filled, steps, fails_in, busy_for, cache_busy_for, others;
+static stm32u5 part = {.registers = &registers, .cache = &cache};
+/* What the part is: the size of its flash, its options, where the model's pages begin, and the bank that they are built in. */
+static uint32_t flash_kb, options, aircr, base, bank;
+static uint32_t keys, asked[3], filled, steps, fails_in, busy_for, cache_busy_for, cache_rests_for, off_for;
+static uint32_t others, lies, faints, late; /* counts */
 static int is_queued; /* a write to the flash isn't there yet */
-static int is_off, is_settled, is_raised, is_in_nmi;
+static int is_off, is_settled, is_in_nmi, is_masked;
+static uint32_t raised_for; /* an NMI comes so many accesses later, or at a barrier; 0 where none is raised */
+static int is_late;  /* it doesn't come at a barrier; and the cache tells late that it is off, and that it is busy */
+static int is_lying; /* the address of an error may be any other one */
 static int empties; /* the cache is emptied as it is turned off */
 static int hides;   /* while a flag stands no other error is told; else its flag is, with the address of before */
 static enum fault fault;
@@ -37,14 +48,19 @@ static uint8_t is_cached[UNITS];
 static void empty(void) {
     memset(is_cached, 0, sizeof is_cached);
     cache_busy_for = fault == CACHE_STAYS_BUSY && ++steps >= fails_in ? UINT32_MAX : 9;
+    cache_rests_for = is_late ? below(4) : 0;
 }
 
-/* An error with its flag, and where no flag stands its address. */
+/* An error with its flag, and where no flag stands its address, or another one. */
 static void tell(uint32_t address, uint32_t flag) {
     if ((registers.eccr & FLAGS) != 0 && hides) return;
-    if ((registers.eccr & FLAGS) == 0) registers.eccr = (registers.eccr & 1u << 24) | BANK << 21 | address;
+    if ((registers.eccr & FLAGS) == 0) {
+        uint32_t told = is_lying && below(4) == 0 ? 16 * below(ECCR_ADDR / 16) : address;
+        lies += told != address;
+        registers.eccr = (registers.eccr & 1u << 24) | bank << 21 | told;
+    }
     registers.eccr |= flag;
-    is_raised |= flag == DETECTION;
+    if (flag == DETECTION && raised_for == 0) raised_for = 1 + (is_late ? below(LATEST) : 0);
 }
 
 /* The flash reads a unit, and tells what is wrong, but for what it has from the last read. */
@@ -71,19 +87,37 @@ static uint32_t fetched(uint32_t quarter) {
     return buffer[quarter % 4];
 }
 
-static void barrier(void) {
-    is_settled = 1, is_queued = 0;
-    if (!is_raised || is_in_nmi) return;
-    is_raised = 0, is_in_nmi = 1;
+/* An access goes by, or a barrier: an NMI that is raised comes nearer. */
+static void pass(int is_barrier) {
+    if (raised_for == 0 || is_in_nmi || (is_late ? --raised_for > 0 : !is_barrier)) return;
+    raised_for = 0, is_in_nmi = 1;
     others += stm32u5_nmi(&part) == 0; /* the product's own handler */
     is_settled = 1;
     is_in_nmi = 0;
 }
 
+static void barrier(void) {
+    is_settled = 1, is_queued = 0;
+    pass(1);
+}
+
+static uint32_t interrupts_off(void) {
+    CHECK(!is_masked);
+    is_masked = 1;
+    return 5;
+}
+
+static void interrupts_as(uint32_t before) {
+    CHECK(is_masked && before == 5 && filled == 0);
+    is_masked = 0;
+}
+
 static void lock(void) { registers.nscr |= 1u << 31, keys = 0; }
 
-/* A step begins. Whether it is the one that fails: behind it power is off, and steps do nothing. */
+/* A step begins, which no error of before may stand against. Whether it is the one that fails: behind it power is off, and steps
+ * do nothing. */
 static int fails(uint32_t turns) {
+    CHECK(is_off || (registers.nssr & SR_ERRORS) == 0);
     int is_failing = fault >= WRITE_PROTECTED && fault <= STAYS_BUSY && ++steps == fails_in;
     buffer_of = NO_UNIT;
     busy_for = is_failing && fault == STAYS_BUSY ? UINT32_MAX : turns;
@@ -92,15 +126,20 @@ static int fails(uint32_t turns) {
     return is_failing;
 }
 
-/* What a step that fails leaves of a unit: nothing done, done, done and read with a correction, or torn. */
+/* What a step that fails leaves of a unit: nothing done, done, done and read with a correction, all ones by a correction, or
+ * torn. */
 static void leave(uint32_t unit, const uint32_t *new, int is_failing) {
-    uint32_t kind = !is_failing ? 1 : fault == SILENT ? 3 : below(6);
+    uint32_t kind = !is_failing ? 1 : fault == SILENT ? 4 : below(7), all = UINT32_MAX;
     if (kind == 0) return;
-    for (int i = 0; i < 4; i++) memory[4 * unit + i] = kind < 4 ? new[i] : new[i] | any_bits();
-    states[unit] = kind == 1 ? FINE : kind == 2 ? CORRECTED : TORN;
+    for (int i = 0; i < 4; i++) {
+        memory[4 * unit + i] = kind == 3 ? UINT32_MAX : kind < 5 ? new[i] : new[i] | any_bits();
+        all &= memory[4 * unit + i];
+    }
+    states[unit] = kind == 1 ? FINE : kind < 4 ? CORRECTED : TORN;
+    faints += states[unit] == CORRECTED && all == UINT32_MAX;
 }
 
-static void erase_page(uint32_t page) {
+static void erase_page_of_model(uint32_t page) {
     static const uint32_t blank[4] = {UINT32_MAX, UINT32_MAX, UINT32_MAX, UINT32_MAX};
     CHECK(page < part.pages && busy_for == 0 && (cache.cr & 1) == 0);
     int is_failing = fails(7);
@@ -113,6 +152,10 @@ static void program_unit(uint32_t i, uint32_t last) {
     uint32_t *unit = memory + 4 * i, new[4] = {asked[0], asked[1], asked[2], last};
     int is_failing = fails(3);
     if (is_off || (is_failing && fault == WRITE_PROTECTED)) return;
+    if (states[i] == CORRECTED) { /* no cell is programmed, but the unit was */
+        registers.nssr |= PROGERR;
+        return;
+    }
     CHECK((unit[0] & unit[1] & unit[2] & unit[3]) == UINT32_MAX && states[i] != TORN);
     leave(i, new, is_failing);
     is_off = is_failing && fault == POWER;
@@ -126,20 +169,30 @@ static void set_control(uint32_t value) {
     registers.nscr = value & ~(1u << 16);
     if (value >> 31) lock();
     if (value >> 16 & 1) {
-        CHECK((value & 2) != 0 && (value >> 11 & 1) == BANK);
-        erase_page((value >> 3 & 0xff) - FIRST);
+        CHECK((value & 2) != 0 && (value >> 11 & 1) == bank);
+        erase_page_of_model((value >> 3 & 0xff) - FIRST);
     }
 }
 
 static void set_cache(uint32_t value) {
     uint32_t before = cache.cr;
-    CHECK(((value ^ before) & ~3u) == 0 && cache_busy_for == 0);
+    CHECK(((value ^ before) & ~3u) == 0);
+    CHECK((value & ~before & 1) == 0 || cache_busy_for == 0 || cache_busy_for == UINT32_MAX); /* it is turned on when it is empty */
     cache.cr = value & ~2u;
+    off_for = is_late && (before & ~value & 1) != 0 ? below(4) : 0;
+    if (cache_busy_for > 0) return; /* it is being emptied */
     if (value >> 1 & 1 || (empties && (before & ~value & 1) != 0)) empty();
+}
+
+/* Where an address of the part is: the pages are memory, and registers beside those of the flash stay numbers. */
+static volatile uint32_t *at(uint32_t address) {
+    uint32_t offset = address - base;
+    return offset < sizeof memory ? memory + offset / 4 : (volatile uint32_t *)(uintptr_t)address;
 }
 
 static void set(volatile uint32_t *address, uint32_t value) {
     is_settled = 0;
+    pass(0);
     if (address == &registers.nskeyr) {
         keys = value == 0x45670123 ? 1 : keys == 1 && value == 0xcdef89ab ? 2 : 3;
         if (keys == 2 && fault != STAYS_LOCKED) registers.nscr &= ~(1u << 31);
@@ -156,8 +209,8 @@ static void set(volatile uint32_t *address, uint32_t value) {
         set_control(value);
     } else {
         size_t i = (size_t)(address - memory);
-        CHECK(i < 4 * part.pages * WORDS && registers.nscr == 1 && i % 4 == filled);
-        CHECK(busy_for == 0 && (cache.cr & 1) == 0); /* a write while the cache is on is an error of the cache */
+        CHECK(address >= memory && is_masked && i < 4 * part.pages * WORDS && registers.nscr == 1 && i % 4 == filled);
+        CHECK(busy_for == 0 && (cache.cr & 1) == 0 && off_for == 0); /* a write while the cache is on is an error of the cache */
         is_queued = 1;
         if (filled < 3) {
             asked[filled++] = value;
@@ -176,11 +229,19 @@ static uint32_t turn(uint32_t *left) {
 }
 
 static uint32_t get(volatile uint32_t *address) {
+    pass(0);
+    if (address == at(0x0bfa07a0)) return 0xffff0000 | flash_kb;
+    if (address == at(0xe000ed0c)) return 0xfa050000 | aircr;
+    if (address == &cache.cr) return cache.cr | turn(&off_for);
     if (address >= memory && address < memory + 4 * UNITS) {
         CHECK(address < memory + 4 * part.pages * WORDS);
         return fetched((uint32_t)(address - memory));
     }
     if (address == &cache.sr) {
+        if (cache_rests_for > 0) {
+            cache_rests_for--, late++;
+            return cache.sr & ~1u; /* it will be busy */
+        }
         uint32_t is_busy = turn(&cache_busy_for);
         if (is_busy && cache_busy_for == 0) cache.sr |= 2;
         return (cache.sr & ~1u) | is_busy;
@@ -190,21 +251,23 @@ static uint32_t get(volatile uint32_t *address) {
     return registers.nssr | turn(&busy_for) << 16 | (filled > 0 ? 1u << 17 : 0);
 }
 
-/* The product reads the pages too, by the cache, which holds nothing old. */
-static void read_by_others(void) {
+/* The product reads the first units of the pages too, by the cache, which holds nothing old. */
+static void read_by_others(uint32_t most) {
     CHECK(others == 0);
     for (uint32_t n = below(6); n > 0; n--) {
-        uint32_t quarter = below(4 * part.pages * WORDS);
+        uint32_t quarter = below(4 * most);
         barrier();
         CHECK(fetched(quarter) == memory[quarter]);
-        barrier();
+        do barrier();
+        while (raised_for > 0);
         if (others) registers.eccr &= ~FLAGS, others = 0; /* beside one that was corrected: the product's own handler */
     }
 }
 
 /* The model for moves. */
 static void cut(uint32_t in) {
-    read_by_others();
+    read_by_others(part.pages * WORDS);
+    if (below(4) == 0) registers.nssr |= PGSERR; /* the product's own write went wrong */
     steps = 0, fails_in = in, fault = in ? POWER : NONE;
 }
 
@@ -216,32 +279,38 @@ static void power(void) {
     memset(&cache, 0, sizeof cache);
     memset(is_cached, 0, sizeof is_cached);
     registers.eccr = 1u << 24;
+    registers.optr = options;
     cache.cr = cache_after_reset; /* the program turned it on */
     lock();
     buffer_of = NO_UNIT;
-    busy_for = 0, cache_busy_for = 0, filled = 0, others = 0, fault = NONE;
-    is_off = 0, is_raised = 0, is_queued = 0, is_settled = 0;
-    part.error = part.corrected = 0;
+    busy_for = 0, cache_busy_for = 0, cache_rests_for = 0, off_for = 0, filled = 0, others = 0, fault = NONE;
+    is_off = 0, raised_for = 0, is_queued = 0, is_settled = 0;
+    part.error = part.faint = part.corrected = part.is_stale = 0;
 }
 
-static ee_flash new_part(uint32_t cache_register, uint32_t pages) {
+/* A part of 2 MB with two banks, exchanged or not, whose pages 20 on of a bank are the store's. */
+static ee_flash new_part(uint32_t cache_register, uint32_t exchanged, uint32_t is_second, uint32_t pages) {
     memset(memory, 0xff, sizeof memory);
     memset(states, FINE, sizeof states);
     cache_after_reset = cache_register;
+    flash_kb = 2048, options = 0x1fcff8aa | 1u << 21 | exchanged << 20, aircr = 0, bank = is_second ^ exchanged;
+    base = 0x08000000 + is_second * 0x100000 + FIRST * 8192;
     power();
-    return stm32u5_flash(&part, pages);
+    ee_flash flash = stm32u5_flash(&part, base, pages);
+    CHECK(flash.pages == pages);
+    return flash;
 }
 
 /* All that the team has is as it was: the cache, the interrupt of a corrected error, and no other NMI. */
 static int is_as_before(void) {
-    int is_cache = cache.cr == cache_after_reset && cache.sr == 0;
+    int is_cache = cache.cr == cache_after_reset && (cache.sr & ~2u) == 0 && !is_masked;
     return is_cache && registers.nscr == 1u << 31 && (registers.eccr & 1u << 24) != 0 && others == 0;
 }
 
 /* Writes go wrong in each of their steps; what was stored before is there. */
 static void failing(enum fault kind) {
     for (uint32_t step = 1; step < 400; step += step < 6 ? 1 : 37) {
-        ee_flash flash = new_part(CACHE_ON, 2);
+        ee_flash flash = new_part(CACHE_ON, 0, 1, 2);
         ee_store store;
         uint32_t value, n, status = EE_OK;
         CHECK(ee_open(&store, &flash) == EE_UNFORMATTED);
@@ -249,9 +318,13 @@ static void failing(enum fault kind) {
         CHECK(ee_write(&store, 9, 90) == EE_OK);
         steps = 0, fails_in = step, fault = kind;
         for (n = 0; n < 1200 && status == EE_OK; n++) status = ee_write(&store, 1, n);
-        CHECK(status == EE_DRIVER && ee_write(&store, 1, 0) == EE_OFF);
+        CHECK(status == EE_DRIVER && ee_write(&store, 1, 0) == EE_NOT_OPEN);
         fault = NONE, busy_for = 0, is_off = 0;
-        if (kind == CACHE_STAYS_BUSY) cache_busy_for = 0, cache.cr = CACHE_ON;
+        registers.nssr |= PGSERR;
+        if (kind == CACHE_STAYS_BUSY) {
+            CHECK(cache.cr == CACHE_ON && ee_open(&store, &flash) == EE_DRIVER); /* it is on, and nobody knows what it holds */
+            cache_busy_for = 0;
+        }
         CHECK(ee_open(&store, &flash) == EE_OK);
         CHECK(ee_read(&store, 9, &value) == EE_OK && value == 90);
         if (ee_read(&store, 1, &value) == EE_OK) CHECK(value == n - 1 || value == n - 2);
@@ -273,50 +346,124 @@ static void raised(uint32_t eccr, int is_claimed, uint32_t flags) {
 
 /* The handler takes the errors in the store's pages alone. */
 static void addresses(void) {
-    uint32_t page = WORDS * 16, begin = FIRST * page, end = begin + 4 * page, bank = 1u << 21;
-    new_part(CACHE_ON, 2);
-    raised(DETECTION | bank | begin, 1, 0);
-    raised(DETECTION | bank | (end - 16), 1, 0);
-    raised(FLAGS | bank | begin, 0, FLAGS); /* the address may be that of the corrected one, and the error anywhere */
+    uint32_t page = WORDS * 16, begin = FIRST * page, end = begin + 4 * page, in = 1u << 21;
+    memset(&part, 0, sizeof part);
+    part.registers = &registers, part.cache = &cache;
+    raised(DETECTION, 0, DETECTION); /* before there is a store */
+    new_part(CACHE_ON, 0, 1, 2);
+    raised(DETECTION | in | begin, 1, 0);
+    raised(DETECTION | in | (end - 16), 1, 0);
+    raised(FLAGS | in | begin, 0, FLAGS); /* the address may be that of the corrected one, and the error anywhere */
     part.is_reading = 1;
-    raised(FLAGS | bank | begin, 1, CORRECTION);
+    raised(FLAGS | in | begin, 1, CORRECTION);
+    raised(DETECTION, 1, 0);
     part.is_reading = 0;
-    raised(CORRECTION | bank | begin, 0, CORRECTION); /* another cause */
-    raised(bank | begin, 0, 0);
+    raised(CORRECTION | in | begin, 0, CORRECTION); /* another cause */
+    raised(in | begin, 0, 0);
     uint32_t far[] = {0, begin - 16, end, 0x1ffff0};
-    for (int i = 0; i < 4; i++) raised(DETECTION | bank | far[i], 0, DETECTION);
+    for (int i = 0; i < 4; i++) raised(DETECTION | in | far[i], 0, DETECTION);
     raised(DETECTION | begin, 0, DETECTION);                   /* the other bank */
-    raised(DETECTION | 1u << 22 | bank | begin, 0, DETECTION); /* the system's flash */
+    raised(DETECTION | 1u << 22 | in | begin, 0, DETECTION); /* the system's flash */
+}
+
+/* An address and so many pages of a set; whether they fit, and then the bank and the number of the first page. */
+static void placed(uint32_t address, uint32_t pages, int fits, uint32_t in_bank, uint32_t first) {
+    ee_store store;
+    ee_flash flash = stm32u5_flash(&part, address, pages);
+    CHECK(flash.pages == (fits ? pages : 0));
+    if (fits) CHECK(part.bank == in_bank && part.first_page == first);
+    else CHECK(ee_start(&store, &flash) == EE_WRONG_SHAPE && ee_format(&store, &flash) == EE_WRONG_SHAPE);
+}
+
+/* Where pages are, by the size of the flash and the options. */
+static void places(void) {
+    for (uint32_t swaps = 0; swaps < 2; swaps++) {
+        new_part(CACHE_ON, swaps, 0, 1);
+        placed(0x081fc000, 1, 1, 1 ^ swaps, 126);
+        placed(0x080fc000, 1, 1, swaps, 126);
+        placed(0x080fe000, 1, 0, 0, 0); /* over two banks */
+        placed(0x081fe000, 1, 0, 0, 0); /* over the end */
+        placed(0x081fd000, 1, 0, 0, 0); /* no page begins there */
+        placed(0x08200000, 1, 0, 0, 0);
+        placed(0x07ffc000, 1, 0, 0, 0);
+        placed(0x0c1fc000, 1, 0, 0, 0); /* the secure program's */
+        placed(0x08100000, 64, 1, 1 ^ swaps, 0);
+        placed(0x08100000, 65, 0, 0, 0);
+        placed(0x081fc000, UINT32_MAX, 0, 0, 0);
+        options |= 1u << 31; /* with TrustZone the NMI is the secure program's, unless that gave it away */
+        power();
+        placed(0x081fc000, 1, 0, 0, 0);
+        aircr = 1u << 13;
+        placed(0x081fc000, 1, 1, 1 ^ swaps, 126);
+        uint32_t sizes[] = {128, 256, 512, 1024, 2048, 4096};
+        for (int i = 0; i < 6; i++) {
+            uint32_t last = 0x08000000 + 1024 * sizes[i] - 0x4000, half = 0x08000000 + 512 * sizes[i] - 0x4000;
+            flash_kb = sizes[i], options |= 1u << 21;
+            power();
+            placed(last, 1, 1, 1 ^ swaps, sizes[i] / 16 - 2);
+            placed(half, 1, 1, swaps, sizes[i] / 16 - 2);
+            placed(half + 0x2000, 1, 0, 0, 0);
+            options &= ~(1u << 21);
+            power();
+            placed(last, 1, sizes[i] <= 256 || sizes[i] == 1024, 0, sizes[i] / 8 - 2);
+            placed(half + 0x2000, 1, sizes[i] <= 256 || sizes[i] == 1024, 0, sizes[i] / 16 - 1);
+        }
+        uint32_t unknown[] = {0, 8192, 0xffff};
+        for (int i = 0; i < 3; i++) flash_kb = unknown[i], options |= 1u << 21, power(), placed(0x08080000, 1, 0, 0, 0);
+    }
 }
 
 /* Each read of a torn word tells it, and reads of its neighbours do not; so it is behind a corrected error in the program. */
 static void torn(uint32_t cache_register) {
-    ee_flash flash = new_part(cache_register, 1);
+    ee_flash flash = new_part(cache_register, 0, 1, 1);
     uint64_t value;
     for (uint32_t i = 0; i < 8; i++) CHECK(flash.program(&part, 0, i, 7 + i) == 0);
     states[3] = states[4] = states[5] = TORN;
-    states[6] = CORRECTED;
+    states[6] = states[9] = states[11] = CORRECTED; /* 9 and 11 are all ones */
     for (uint32_t n = 0; n < 4000; n++) {
-        uint32_t place = below(8);
+        uint32_t place = below(12), is_torn = (place >= 3 && place <= 5) || place == 9 || place == 11;
         if (below(4) == 0) tell(below(100) * 16, CORRECTION);
+        if (below(4) == 0) read_by_others(12);
         for (uint32_t again = below(3); again < 3; again++) {
-            uint32_t stood = registers.eccr, status = flash.word(&part, 0, place, &value);
-            CHECK((status != 0) == (place >= 3 && place <= 5));
-            CHECK(status != 0 || value == 7 + place);
-            CHECK((stood & CORRECTION) == 0 || part.corrected == stood);
+            uint32_t status = flash.word(&part, 0, place, &value);
+            CHECK(status == (is_torn ? EE_TORN : 0));
+            CHECK(status != 0 || value == (place < 8 ? 7 + place : UINT64_MAX));
             CHECK((registers.eccr & DETECTION) == 0);
         }
     }
+    tell(96, CORRECTION);
+    uint32_t stood = registers.eccr;
+    CHECK(flash.word(&part, 0, 0, &value) == 0 && part.corrected == stood);
     CHECK(is_as_before());
     steps = 0, fails_in = 1, fault = SILENT;
     CHECK(flash.erase(&part, 0) != 0); /* with no flag of the part */
     fault = NONE;
-    CHECK(flash.erase(&part, 0) == 0 && flash.word(&part, 0, 4, &value) == 0 && value == UINT64_MAX && is_as_before());
+    for (uint32_t place = 0; place < 12; place++) {
+        if (place == 0) CHECK(flash.erase(&part, 0) == 0);
+        CHECK(flash.word(&part, 0, place, &value) == 0 && value == UINT64_MAX && is_as_before());
+    }
+}
+
+/* An error that nobody takes is no torn word: nothing is known of it. So it is where the cache isn't emptied. */
+static void untaken(void) {
+    ee_flash flash = new_part(CACHE_ON, 0, 1, 1);
+    ee_store store;
+    uint64_t value;
+    CHECK(ee_start(&store, &flash) == EE_OK);
+    states[3] = TORN, is_in_nmi = 1; /* as in a handler of more weight */
+    CHECK(flash.word(&part, 0, 3, &value) == EE_READ_FAILED);
+    steps = 0, fails_in = UINT32_MAX, fault = POWER;
+    CHECK(ee_start(&store, &flash) == EE_DRIVER && steps == 0);
+    raised_for = 0, is_in_nmi = 0;
+    power();
+    CHECK(flash.word(&part, 0, 3, &value) == EE_TORN);
+    fails_in = steps, fault = CACHE_STAYS_BUSY;
+    CHECK(flash.word(&part, 0, 3, &value) == EE_READ_FAILED && flash.word(&part, 0, 4, &value) == EE_READ_FAILED);
 }
 
 /* A unit whose halves don't fit each other is torn, with no error of the part. */
 static void halves(void) {
-    ee_flash flash = new_part(0, 2);
+    ee_flash flash = new_part(0, 0, 1, 2);
     ee_store store;
     ee_numbers numbers;
     uint32_t value;
@@ -332,16 +479,19 @@ int main(void) {
     static const model here = {cut, is_cut, power};
     for (int with_cuts = 0; with_cuts < 2; with_cuts++) {
         for (int on = 0; on < 2; on++) {
-            empties = hides = with_cuts ^ on;
-            ee_flash flash = new_part(on ? CACHE_ON : 0, 1);
+            empties = hides = with_cuts ^ on, is_late = on, is_lying = 1;
+            ee_flash flash = new_part(on ? CACHE_ON : 0, (uint32_t)with_cuts, 1, 1);
             moves(&flash, &here, with_cuts);
             CHECK(is_as_before());
         }
     }
-    for (hides = 0; hides < 2; hides++) torn(0), torn(CACHE_ON);
+    for (int kind = 0; kind < 8; kind++) hides = kind & 1, is_late = kind >> 1 & 1, is_lying = kind >> 2, torn(0), torn(CACHE_ON);
+    hides = is_late = is_lying = 0;
     halves();
     addresses();
+    places();
     for (enum fault kind = WRITE_PROTECTED; kind <= CACHE_STAYS_BUSY; kind++) failing(kind);
-    CHECK(waited > 0);
+    untaken();
+    CHECK(waited > 0 && lies > 1000 && faints > 1000 && late > 1000);
     return 0;
 }

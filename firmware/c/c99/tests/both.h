@@ -13,7 +13,7 @@ ee_result made_format(ee_store *store, const ee_flash *flash);
 ee_result made_write(ee_store *store, uint16_t address, uint32_t value);
 ee_result made_write_all(ee_store *store, const ee_value *values, uint32_t count);
 ee_result made_forget(ee_store *store, uint16_t address);
-ee_result made_clear(ee_store *store);
+ee_result made_forget_all(ee_store *store);
 ee_result made_clean(ee_store *store);
 ee_result made_read(const ee_store *store, uint16_t address, uint32_t *value);
 ee_result made_next(const ee_store *store, uint16_t *address, uint32_t *value);
@@ -56,7 +56,7 @@ static inline struct answer make(bool by_made, ee_store *store, const ee_flash *
     case READ: MAKE(read, store, it->address, &out.value); break;
     case NEXT: MAKE(next, store, &out.address, &out.value); break;
     case COUNTS: MAKE(counts, store, &out.numbers); break;
-    case CLEAR: MAKE(clear, store); break;
+    case CLEAR: MAKE(forget_all, store); break;
     case RESCUE: MAKE(rescue, store, flash); break;
     case BAD_WORDS: MAKE(bad_words, flash, &out.value); break;
     case CALLS: break;

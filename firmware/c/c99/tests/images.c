@@ -84,7 +84,7 @@ static uint32_t word(void *context, uint32_t page, uint32_t at, uint64_t *value)
     struct part *part = context;
     uint32_t place = place_of(page, at);
     note(&part->trace, 1 + 4 * place);
-    if (part->image.torn[place]) return 1;
+    if (part->image.torn[place]) return EE_TORN;
     *value = part->image.numbers[place];
     return 0;
 }
@@ -144,7 +144,7 @@ static bool is_within(const struct image *image) {
 static struct answer make_on(int which, const struct made_call *it) {
     ee_flash *flash = &flashes[which];
     *flash = (ee_flash){.context = &parts[which], .pages = 1, .page_words = WORDS, .word = word,
-                        .program = program, .erase = erase, .pairs = pairs};
+                        .program = program, .erase = erase, .kind = pairs};
     return make(which == 0, &stores[which], flash, it);
 }
 

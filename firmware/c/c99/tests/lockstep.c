@@ -42,7 +42,7 @@ static uint32_t word(void *context, uint32_t page, uint32_t at, uint64_t *value)
     uint32_t place = place_of(part, page, at);
     *value = part->numbers[place];
     if (part->torn[place] == READ_FAULT) return EE_READ_FAILED;
-    return part->torn[place] ? 7 : 0;
+    return part->torn[place] ? EE_TORN : 0;
 }
 
 /* The numbers where they stand, but every third time or so, and where one of them can't be read. */
@@ -170,7 +170,7 @@ static void begin(uint32_t addresses) {
     fill(addresses, page_words);
     theirs = ours;
     our_flash = (ee_flash){.context = &ours, .pages = pages, .page_words = page_words, .word = word,
-                           .program = program, .erase = erase, .pairs = pairs << clears_first,
+                           .program = program, .erase = erase, .kind = pairs << clears_first,
                            .words = below(2) == 0 ? words : NULL};
     their_flash = our_flash;
     their_flash.context = &theirs;
@@ -249,7 +249,7 @@ static void run(void) {
         }
         if (below(100) == 0) {
             ee_store copy = our_store;
-            if (made_read(&copy, 1, &(uint32_t){0}) != EE_OFF) fail("a copy is on");
+            if (made_read(&copy, 1, &(uint32_t){0}) != EE_NOT_OPEN) fail("a copy is on");
         }
     }
 }
