@@ -19,6 +19,7 @@ MOST_NUMBER = (1 << 64) - 1
 MOST_BYTES = 1 << 24
 MOST_SECONDS = 4
 MUTATIONS = 300
+HAS_OBJCOPY = shutil.which("objcopy") is not None
 
 
 class Wrong(Exception):
@@ -178,8 +179,8 @@ def bytes_and_texts(place):
 
 def objcopy(place):
     """What objcopy writes is read, and it reads what is written."""
-    if not shutil.which("objcopy"):
-        print("left out: HEX by objcopy, which is not here", flush=True)
+    if not HAS_OBJCOPY:
+        print("skipped: bench/test, HEX by objcopy: it is not here (apt-get install binutils)", flush=True)
         return
     chance, base = random.Random(2), 0x0807F000
     copy = lambda *words: subprocess.run(["objcopy", *words], cwd=place.folder, check=True)
