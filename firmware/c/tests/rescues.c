@@ -1,7 +1,7 @@
 /* One word of a store goes bad: it can't be read, or no store wrote it, or it reads as a set's first word, or one bit of a pair of
  * numbers falls or rises. Where the next start refuses the flash a rescue gives every value but one at the most, and all of them
  * where two sets are live. It gives the same where power is cut in each of its steps, in every way, before it is made again; of a
- * word that commits a set, where no page waited to be erased. */
+ * word that commits a set, where no page waited to be erased. Where such a word reads as erased an older set may be rescued. */
 #include "part.h"
 
 enum { ADDRESSES = 5, STORES = 40, CALLS = 30 };
@@ -139,7 +139,28 @@ static void run(uint32_t pairs, int clears_first) {
     CHECK(rescued > 5000 && lost > 500 && cuts > 50000 && two_live > 20);
 }
 
+/* What no promise covers: the word that commits the live set reads as erased. The older set is rescued where it waits, and none
+ * where it was cleaned. */
+static void commit_word_erased(int is_cleaned) {
+    part p;
+    uint32_t value = 0;
+    blank(&p, 1, 16);
+    ee_flash flash = flash_of(&p);
+    ee_store store;
+    CHECK(ee_format(&store, &flash) == EE_OK);
+    for (uint32_t i = 1; i <= 13; i++) CHECK(ee_write(&store, 1, i) == EE_OK); /* the last one moves: there are 12 slots */
+    if (is_cleaned) CHECK(ee_clean(&store) == EE_OK);
+    p.words[1][1] = UINT64_MAX;
+    part spoilt = p;
+    CHECK(ee_start(&store, &flash) == (is_cleaned ? EE_NO_LIVE_SET : EE_FOREIGN));
+    CHECK(ee_rescue(&store, &flash) == (is_cleaned ? EE_NOTHING : EE_OK));
+    if (is_cleaned) CHECK(holds_same(&p, &spoilt));
+    else CHECK(ee_read(&store, 1, &value) == EE_OK && value == 12);
+}
+
 int main(void) {
+    commit_word_erased(0);
+    commit_word_erased(1);
     run(0, 0);
     run(1, 0);
     run(1, 1);
