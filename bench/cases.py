@@ -5,15 +5,15 @@ import re
 import sys
 from collections import namedtuple
 
-sys.path.insert(0, os.path.join(os.path.dirname(os.path.dirname(os.path.abspath(__file__))), "docs"))
-import worked
+sys.path.insert(0, os.path.dirname(os.path.dirname(os.path.abspath(__file__))))
+from tools import worked  # noqa: E402
 
 # Scripts that are answered one after another, each on the image that the one before it left.
 Case = namedtuple("Case", "name image scripts")
 
 MARK = "a" * 16
 LAST_GENERATION = 4294967294
-MOST_WEAR = 2 ** 64 - 1
+MOST_WEAR = 2**64 - 1
 IMAGE_BYTES = 4194304
 SCRIPT_BYTES = 16777216
 
@@ -49,7 +49,9 @@ def limits():
 
 def examples():
     """The worked examples, and the limits."""
-    return [Case(run.name, worked.text_of(run.start), [run.script]) for run in worked.runs()] + limits()
+    return [
+        Case(run.name, worked.text_of(run.start), [run.script]) for run in worked.runs()
+    ] + limits()
 
 
 def random_size(dice):
@@ -70,28 +72,44 @@ def random_addresses(dice, slots):
 
 
 def random_value(dice):
-    return dice.choice([0, 1, 4294967295, dice.randrange(2 ** 32), dice.randrange(1000)])
+    return dice.choice([0, 1, 4294967295, dice.randrange(2**32), dice.randrange(1000)])
 
 
 def random_wear(dice):
-    return dice.choice([0, 0, 1, 2, dice.randrange(2 ** 64), MOST_WEAR - 1, MOST_WEAR])
+    return dice.choice([0, 0, 1, 2, dice.randrange(2**64), MOST_WEAR - 1, MOST_WEAR])
 
 
 def odd_word(dice):
     """A word that stands in few places, or in none; seldom one that no image may have."""
     value, address = random_value(dice), dice.randrange(65536)
-    return dice.choice(["-", "?", "-", "?", MARK, "0" * 16, "f" * 15 + dice.choice("0eeeef"),
-                        f"aaaaaaaa{dice.randrange(2 ** 32):08x}", f"{value:08x}00000000", f"{value:08x}0000ffff",
-                        f"{value:08x}0001{address:04x}", f"{value:08x}0002{address:04x}",
-                        f"{dice.randrange(MOST_WEAR):016x}"])
+    return dice.choice(
+        [
+            "-",
+            "?",
+            "-",
+            "?",
+            MARK,
+            "0" * 16,
+            "f" * 15 + dice.choice("0eeeef"),
+            f"aaaaaaaa{dice.randrange(2 ** 32):08x}",
+            f"{value:08x}00000000",
+            f"{value:08x}0000ffff",
+            f"{value:08x}0001{address:04x}",
+            f"{value:08x}0002{address:04x}",
+            f"{dice.randrange(MOST_WEAR):016x}",
+        ]
+    )
 
 
 def random_slots(dice, count, addresses):
     words = []
     for _ in range(count):
         kind = dice.random()
-        words.append("?" if kind < 0.05 else
-                     f"{random_value(dice):08x}{int(kind < 0.2):04x}{dice.choice(addresses):04x}")
+        words.append(
+            "?"
+            if kind < 0.05
+            else f"{random_value(dice):08x}{int(kind < 0.2):04x}{dice.choice(addresses):04x}"
+        )
     return words
 
 
@@ -104,12 +122,17 @@ def written_set(dice, pages, words, generation, addresses):
     receive = f"aaaaaaaa{generation:08x}"
     result = []
     for page in range(pages):
-        header = [dice.choice(["-", "?", receive]), dice.choice(["-", "?", MARK]), dice.choice(["-", "?", MARK]), "-"]
+        header = [
+            dice.choice(["-", "?", receive]),
+            dice.choice(["-", "?", MARK]),
+            dice.choice(["-", "?", MARK]),
+            "-",
+        ]
         if page == 0:
             header[:2] = [receive, MARK]
         elif page * per_page > fill or (page * per_page == fill and dice.random() < 0.7):
             header = ["-"] * 4
-        result.append(header + row[page * per_page:][:per_page])
+        result.append(header + row[page * per_page :][:per_page])
     return result
 
 
@@ -143,8 +166,10 @@ def random_image(dice, pages, words, addresses):
         generation = LAST_GENERATION - dice.randrange(4)
     elif kind < 0.2:
         generation = dice.randrange(1, LAST_GENERATION + 1)
-    sets = [written_set(dice, pages, words, generation, addresses),
-            other_set(dice, pages, words, generation, addresses)]
+    sets = [
+        written_set(dice, pages, words, generation, addresses),
+        other_set(dice, pages, words, generation, addresses),
+    ]
     if dice.random() < 0.5:
         sets.reverse()
     rows = sets[0] + sets[1]
@@ -162,17 +187,31 @@ def random_command(dice, kind, addresses):
     if kind in "fr":
         return f"{kind} {address}"
     if kind == "x":
-        step = dice.choice([1, 1, 2, 3, dice.randrange(1, 13), dice.randrange(1, 41), dice.choice([10, 2 ** 64 - 1])])
+        step = dice.choice(
+            [
+                1,
+                1,
+                2,
+                3,
+                dice.randrange(1, 13),
+                dice.randrange(1, 41),
+                dice.choice([10, 2**64 - 1]),
+            ]
+        )
         return f"x {step} {dice.choice('ndtm')}"
     return kind
 
 
 def random_script(dice, addresses):
     """Mostly changes; with cuts or without."""
-    weights = dice.choice([{"w": 60, "f": 10, "r": 20, "c": 10},
-                           {"w": 50, "f": 12, "r": 10, "c": 8, "x": 12, "p": 8},
-                           {"w": 40, "f": 10, "r": 6, "c": 14, "x": 15, "p": 15},
-                           {"w": 25, "f": 25, "r": 20, "c": 10, "x": 10, "p": 10}])
+    weights = dice.choice(
+        [
+            {"w": 60, "f": 10, "r": 20, "c": 10},
+            {"w": 50, "f": 12, "r": 10, "c": 8, "x": 12, "p": 8},
+            {"w": 40, "f": 10, "r": 6, "c": 14, "x": 15, "p": 15},
+            {"w": 25, "f": 25, "r": 20, "c": 10, "x": 10, "p": 10},
+        ]
+    )
     count = dice.choice([0, 1, 2, 5, 10, 10, 30, 30, 80, 200])
     kinds = dice.choices(list(weights), list(weights.values()), k=count)
     return script_text(*(random_command(dice, kind, addresses) for kind in kinds))
@@ -185,7 +224,7 @@ def change_bytes(dice, text):
         byte = bytes([dice.choice(b"0123456789abcdef -?\n\r\t\0AFgwrfcxp\xff")])
         if dice.random() < 0.1:
             byte = bytes([dice.randrange(256)])
-        text = text[:at] + dice.choice([byte + text[at + 1:], text[at + 1:], byte + text[at:]])
+        text = text[:at] + dice.choice([byte + text[at + 1 :], text[at + 1 :], byte + text[at:]])
     return text
 
 
@@ -195,10 +234,34 @@ def change_number(dice, text):
     if not places:
         return text
     place = dice.choice(places)
-    number = dice.choice([0, 1, 4, 5, 6, 64, 65, 512, 513, 65534, 65535, 65536, 65537, 2 ** 32 - 1, 2 ** 32,
-                          2 ** 64 - 1, 2 ** 64, 10 ** 19, 10 ** 20, 10 ** 40])
-    spelled = dice.choice([str(number), str(number), "", "+1", "-1", "00", "1.0", "0x1", "0" + place[0].decode()])
-    return text[:place.start()] + spelled.encode() + text[place.end():]
+    number = dice.choice(
+        [
+            0,
+            1,
+            4,
+            5,
+            6,
+            64,
+            65,
+            512,
+            513,
+            65534,
+            65535,
+            65536,
+            65537,
+            2**32 - 1,
+            2**32,
+            2**64 - 1,
+            2**64,
+            10**19,
+            10**20,
+            10**40,
+        ]
+    )
+    spelled = dice.choice(
+        [str(number), str(number), "", "+1", "-1", "00", "1.0", "0x1", "0" + place[0].decode()]
+    )
+    return text[: place.start()] + spelled.encode() + text[place.end() :]
 
 
 def change_lines(dice, text):
@@ -226,8 +289,16 @@ def lengthen(dice, text):
 
 def spell_elsewhere(dice, text):
     """The text as another system would have it."""
-    return dice.choice([text.replace(b"\n", b"\r\n"), text.replace(b"\n", b"\r"), b"\xef\xbb\xbf" + text,
-                        text.replace(b" ", b"\t"), text.decode("latin-1").encode("utf-16"), text + b"\x1a"])
+    return dice.choice(
+        [
+            text.replace(b"\n", b"\r\n"),
+            text.replace(b"\n", b"\r"),
+            b"\xef\xbb\xbf" + text,
+            text.replace(b" ", b"\t"),
+            text.decode("latin-1").encode("utf-16"),
+            text + b"\x1a",
+        ]
+    )
 
 
 def damaged(dice, text):
@@ -237,7 +308,7 @@ def damaged(dice, text):
     if kind < 0.65:
         return change_number(dice, text)
     if kind < 0.75:
-        return text[:dice.randrange(len(text) + 1)]
+        return text[: dice.randrange(len(text) + 1)]
     if kind < 0.85:
         return change_lines(dice, text)
     if kind < 0.92:
@@ -257,15 +328,24 @@ def spread_addresses(dice, count):
         return [256 * row + dice.randrange(1, 255) for row in dice.sample(range(255), count)]
     if kind == 2:
         rows = dice.sample(range(256), min(256, max(1, count // 10)))
-        return dice.sample([a for row in rows for a in range(256 * row, 256 * row + 256) if 0 < a < 65535], count)
+        return dice.sample(
+            [a for row in rows for a in range(256 * row, 256 * row + 256) if 0 < a < 65535], count
+        )
     return dice.sample(range(1, 65535), count)
 
 
 def long_script(dice, addresses, lines):
-    """Many lines, some addresses more often than others; with no cut, or with cuts that come early, late, or in the midst
-    alone."""
-    weights = dice.choice([{"w": 90, "r": 10}, {"w": 50, "r": 45, "f": 5}, {"r": 95, "w": 5}, {"w": 45, "f": 45, "r": 10},
-                           {"w": 30, "f": 5, "r": 60, "c": 5}])
+    """Many lines, some addresses more often than others; with no cut, or with cuts that come early,
+    late, or in the midst alone."""
+    weights = dice.choice(
+        [
+            {"w": 90, "r": 10},
+            {"w": 50, "r": 45, "f": 5},
+            {"r": 95, "w": 5},
+            {"w": 45, "f": 45, "r": 10},
+            {"w": 30, "f": 5, "r": 60, "c": 5},
+        ]
+    )
     often = dice.sample(addresses, max(1, len(addresses) // 16))
     among = [dice.choice([addresses, often]) for _ in range(7)]
     apart = dice.choice([0, 0, 25, 60, 300])
@@ -281,9 +361,12 @@ def long_script(dice, addresses, lines):
 
 
 def reads_of_the_newest(dice, addresses):
-    """A line that writes an address and many that read it, which a store without an index finds at once."""
+    """A line that writes an address and many that read it, which a store without an index finds at
+    once."""
     address = dice.choice(addresses)
-    return script_text(f"w {address} {random_value(dice)}", *[f"r {address}"] * dice.choice([100, 400, 2000]))
+    return script_text(
+        f"w {address} {random_value(dice)}", *[f"r {address}"] * dice.choice([100, 400, 2000])
+    )
 
 
 def choosing_script(dice, addresses):
@@ -296,18 +379,26 @@ def choosing_script(dice, addresses):
 
 
 def choosing_case(seed, number):
-    """Case `number` of a seed in which `ee run` has reason to make an index, or hardly none, and to give it back: about as
-    many live addresses as are counted sooner by one, sets that are full of them or hardly used, and scripts on both sides
-    of when looking has cost enough."""
+    """Case `number` of a seed in which `ee run` has reason to make an index, or hardly none, and to
+    give it back: about as many live addresses as are counted sooner by one, sets that are full of
+    them or hardly used, and scripts on both sides of when looking has cost enough."""
     dice = random.Random(f"{seed} choosing {number}")
-    pages, words = dice.choice([(1, 54), (1, 250), (1, 260), (4, 68), (1, 512), (5, 132), (2, 512), (8, 512)])
+    pages, words = dice.choice(
+        [(1, 54), (1, 250), (1, 260), (4, 68), (1, 512), (5, 132), (2, 512), (8, 512)]
+    )
     slots = pages * (words - 4)
-    count = min(slots, dice.choice([2, 17, 50, 100, 240, 256, 600, 623, 624, 625, slots - 1, slots]))
+    count = min(
+        slots, dice.choice([2, 17, 50, 100, 240, 256, 600, 623, 624, 625, slots - 1, slots])
+    )
     addresses = spread_addresses(dice, count)
     filled = script_text(*(f"w {address} {random_value(dice)}" for address in addresses))
     again = [filled] * dice.choice([1, 1, 2])
     scripts = [choosing_script(dice, addresses) for _ in range(dice.choice([1, 1, 2]))]
-    return Case(f"seed {seed} choosing {number}", worked.formatted(pages, words), [b"".join(again)] + scripts)
+    return Case(
+        f"seed {seed} choosing {number}",
+        worked.formatted(pages, words),
+        [b"".join(again)] + scripts,
+    )
 
 
 def random_case(seed, number):

@@ -1,6 +1,7 @@
-"""What bench/test tries of the commands: the words that each row of `ee --help` shows. Python's argparse is told the rows, and
-takes and refuses lines of words, some of which lack a word, have one more, or have a number at its bounds or spelled otherwise.
-The program is to take and to refuse the same. No clause says that the help shows what the program takes."""
+"""What bench/test tries of the commands: the words that each row of `ee --help` shows. Python's
+argparse is told the rows, and takes and refuses lines of words, some of which lack a word, have one
+more, or have a number at its bounds or spelled otherwise. The program is to take and to refuse the
+same. No clause says that the help shows what the program takes."""
 import argparse
 import os
 import re
@@ -10,9 +11,16 @@ from collections import namedtuple
 
 REFUSED = (2, "ee: bad command line\n")
 GREATEST = 4294967295
-BOUNDS = {"P": (1, 64), "W": (5, 512), "VALUE": (0, GREATEST), "CYCLES": (1, GREATEST), "RUNS": (1, GREATEST)}
+BOUNDS = {
+    "P": (1, 64),
+    "W": (5, 512),
+    "VALUE": (0, GREATEST),
+    "CYCLES": (1, GREATEST),
+    "RUNS": (1, GREATEST),
+}
 BASES = ["0807f000", "0807F000", "0807f004", "807f000", "00807f000", "0x807f00", "0807g000", ""]
-# What stands for a word where another one is tried. A path is its own name, and there is no such file.
+# What stands for a word where another one is tried. A path is its own name, and there is no such
+# file.
 USUAL = {"P": "2", "W": "6", "BASE": "08000000", "VALUE": "7", "CYCLES": "100", "RUNS": "5"}
 
 # A command: its flags, and its other words by name, of which the last ones may be left out.
@@ -30,10 +38,12 @@ class Parser(argparse.ArgumentParser):
 
 def number(least, most):
     """A number within bounds, in decimal, with no sign and no zero in front."""
+
     def read(word):
         if not re.fullmatch("0|[1-9][0-9]*", word) or not least <= int(word) <= most:
             raise ValueError
         return int(word)
+
     return read
 
 
@@ -48,8 +58,8 @@ KINDS = {"BASE": base, **{word: number(*bounds) for word, bounds in BOUNDS.items
 
 
 def commands_of(text):
-    """The commands by name, of the rows of the help. A row that ends in dots shows a flag alone, and one in capitals shows
-    words. `import[-hex]` are two commands."""
+    """The commands by name, of the rows of the help. A row that ends in dots shows a flag alone,
+    and one in capitals shows words. `import[-hex]` are two commands."""
     flags, words = {}, {}
     for row in re.findall(r"^  ee (\S.*?)  ", text, re.MULTILINE):
         name, *shown = row.split(" < ")[0].split(" ")
@@ -59,8 +69,14 @@ def commands_of(text):
             flags.setdefault(one, set()).update(word.strip("[]") for word in shown if "--" in word)
             if shown[-1] != "...":
                 words[one] = [word for word in shown if "--" not in word]
-    return {name: Command(sorted(flags[name]), [word.strip("[]") for word in shown], sum("[" not in word for word in shown))
-            for name, shown in words.items()}
+    return {
+        name: Command(
+            sorted(flags[name]),
+            [word.strip("[]") for word in shown],
+            sum("[" not in word for word in shown),
+        )
+        for name, shown in words.items()
+    }
 
 
 def parser_of(command):
@@ -68,16 +84,29 @@ def parser_of(command):
     for flag in command.flags:
         parser.add_argument(flag, action="store_true")
     for place, word in enumerate(command.words):
-        parser.add_argument(word, type=KINDS.get(word, str), nargs="?" if place >= command.least else None)
+        parser.add_argument(
+            word, type=KINDS.get(word, str), nargs="?" if place >= command.least else None
+        )
     return parser
 
 
 def tried(word):
-    """What is tried in the place of a word: a number at its bounds and past them, and spelled otherwise."""
+    """What is tried in the place of a word: a number at its bounds and past them, and spelled
+    otherwise."""
     if word not in BOUNDS:
         return BASES if word == "BASE" else []
     least, most = BOUNDS[word]
-    return [str(least - 1), str(least), str(most), str(most + 1), f"+{most}", f"0{most}", f"{most} ", hex(most), ""]
+    return [
+        str(least - 1),
+        str(least),
+        str(most),
+        str(most + 1),
+        f"+{most}",
+        f"0{most}",
+        f"{most} ",
+        hex(most),
+        "",
+    ]
 
 
 def lines_of(command):
@@ -89,7 +118,7 @@ def lines_of(command):
         yield [*flag, *usual, "more"]
         for place, word in enumerate(command.words):
             for other in tried(word):
-                yield [*flag, *usual[:place], other, *usual[place + 1:]]
+                yield [*flag, *usual[:place], other, *usual[place + 1 :]]
 
 
 def is_taken(parser, line):
@@ -102,8 +131,16 @@ def is_taken(parser, line):
 
 def takes(path, folder, words):
     """Whether the program takes these words, or says that they are a bad command line."""
-    done = subprocess.run([path, *words], cwd=folder, stdin=subprocess.DEVNULL, stdout=subprocess.DEVNULL, stderr=subprocess.PIPE,
-                          text=True, timeout=60, check=False)
+    done = subprocess.run(
+        [path, *words],
+        cwd=folder,
+        stdin=subprocess.DEVNULL,
+        stdout=subprocess.DEVNULL,
+        stderr=subprocess.PIPE,
+        text=True,
+        timeout=60,
+        check=False,
+    )
     if (done.returncode == REFUSED[0]) != (done.stderr == REFUSED[1]):
         raise ValueError(f"{words}: status {done.returncode}, {done.stderr!r}")
     return done.returncode != REFUSED[0]
@@ -121,14 +158,20 @@ def fault_of(path, folder, name, command):
                 return f"{name} {line}: argparse {'takes' if wanted else 'refuses'} it"
         except ValueError as fault:
             return str(fault)
-    return None if all(taken.values()) else f"{name}: no line is {'taken' if taken[False] else 'refused'}"
+    return (
+        None
+        if all(taken.values())
+        else f"{name}: no line is {'taken' if taken[False] else 'refused'}"
+    )
 
 
-def checks(path, folder):
+def checks(path, folder, _tally):
     """Tries each command, and gives for each its name and what is wrong with it."""
     shutil.rmtree(folder, ignore_errors=True)
     os.makedirs(folder)
-    text = subprocess.run([path, "--help"], stdout=subprocess.PIPE, text=True, timeout=60, check=True).stdout
+    text = subprocess.run(
+        [path, "--help"], stdout=subprocess.PIPE, text=True, timeout=60, check=True
+    ).stdout
     commands = commands_of(text)
     yield "rows", None if commands else "the help shows no command"
     for name, command in commands.items():

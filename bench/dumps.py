@@ -1,13 +1,15 @@
-"""What bench/test tries of dumps: bytes and Intel HEX of random parts, with ECC and without, written by `ee` and by this file,
-read by `ee`, by this file and by objcopy where there is one; pairs that a cut left, and others; broken lines; and a HEX text as
-long as may be read, with its time."""
-import os
+"""What bench/test tries of dumps: bytes and Intel HEX of random parts, with ECC and without,
+written by `ee` and by this file, read by `ee`, by this file and by objcopy where there is one;
+pairs that a cut left, and others; broken lines; and a HEX text as long as may be read, with its
+time."""
 import random
-import shutil
 import subprocess
 import time
 from collections import namedtuple
 from itertools import product
+
+from tools import trying
+from tools.places import is_here
 
 # The sizes that are tried: the least, one page of 2 KiB, and the greatest.
 PAGES, WORDS = 64, 512
@@ -19,74 +21,55 @@ MOST_NUMBER = (1 << 64) - 1
 MOST_BYTES = 1 << 24
 MOST_SECONDS = 4
 MUTATIONS = 300
-HAS_OBJCOPY = shutil.which("objcopy") is not None
 
 
-class Wrong(Exception):
-    """What a check found."""
-
-
-class Place:
-    """A folder of its own, in which a program is run."""
-
-    def __init__(self, program, folder):
-        shutil.rmtree(folder, ignore_errors=True)
-        os.makedirs(folder)
-        self.program, self.folder = program, folder
-
-    def put(self, name, data):
-        with open(os.path.join(self.folder, name), "wb") as file:
-            file.write(data)
-
-    def get(self, name):
-        with open(os.path.join(self.folder, name), "rb") as file:
-            return file.read()
-
-    def run(self, words):
-        done = subprocess.run([self.program, *words.split()], cwd=self.folder, stdin=subprocess.DEVNULL, stdout=subprocess.PIPE,
-                              stderr=subprocess.STDOUT, timeout=60, check=False)
-        return done.returncode, done.stdout.decode()
-
-    def expect(self, words, wanted):
-        found = self.run(words)
-        if found != wanted:
-            raise Wrong(f"{words}: wanted {wanted!r}, found {found!r}")
-
-    def same(self, name, wanted, what):
-        if self.get(name) != wanted:
-            raise Wrong(f"{what}: {name} isn't what was wanted")
+def expect(place, words, wanted):
+    """Runs a command, which is to end with this status and to print this."""
+    status, printed, said = place.run(words)
+    trying.expect(wanted, (status, (printed + said).decode()), words)
 
 
 def random_dump(chance, pages, words):
     """The bytes of a part: words with bytes of every kind, and erased ones."""
-    word = lambda: chance.choice([ALL_ONES, chance.randbytes(8), bytes([chance.randrange(256)]) * 8])
+    word = lambda: chance.choice(
+        [ALL_ONES, chance.randbytes(8), bytes([chance.randrange(256)]) * 8]
+    )
     return b"".join(word() for _ in range(2 * pages * words))
 
 
 def paired(dump):
-    """The bytes of a part without ECC that has these words: each number and its complement, or all ones."""
-    numbers = (dump[at:at + 8] for at in range(0, len(dump), 8))
-    return b"".join(2 * ALL_ONES if number == ALL_ONES else number + bytes(255 - byte for byte in number) for number in numbers)
+    """The bytes of a part without ECC that has these words: each number and its complement, or all
+    ones."""
+    numbers = (dump[at : at + 8] for at in range(0, len(dump), 8))
+    return b"".join(
+        2 * ALL_ONES if number == ALL_ONES else number + bytes(255 - byte for byte in number)
+        for number in numbers
+    )
 
 
 def image_text(texts, pages, words):
     """The image of words with these texts, whose pages were never erased."""
     lines = [f"ee {pages} {words}"]
-    lines += [" ".join(["0", *texts[page * words:(page + 1) * words]]) for page in range(2 * pages)]
+    lines += [
+        " ".join(["0", *texts[page * words : (page + 1) * words]]) for page in range(2 * pages)
+    ]
     return "".join(line + "\n" for line in lines).encode()
 
 
 def image_of(dump, pages, words):
     """The image of these bytes."""
-    word = lambda at: "-" if dump[at:at + 8] == ALL_ONES else dump[at:at + 8][::-1].hex()
+    word = lambda at: "-" if dump[at : at + 8] == ALL_ONES else dump[at : at + 8][::-1].hex()
     return image_text([word(at) for at in range(0, len(dump), 8)], pages, words)
 
 
 def image_of_pairs(dump, pages, words):
-    """The image of these bytes of a part without ECC, or the page and the place of the first two numbers that are too low."""
+    """The image of these bytes of a part without ECC, or the page and the place of the first two
+    numbers that are too low."""
     texts = []
     for at in range(0, len(dump), 16):
-        number, other = (int.from_bytes(dump[place:place + 8], "little") for place in (at, at + 8))
+        number, other = (
+            int.from_bytes(dump[place : place + 8], "little") for place in (at, at + 8)
+        )
         if number + other < MOST_NUMBER:
             return divmod(at // 16, words)
         whole = number + other == MOST_NUMBER and number != MOST_NUMBER
@@ -94,16 +77,20 @@ def image_of_pairs(dump, pages, words):
     return image_text(texts, pages, words)
 
 
-# A form of a dump: what stands behind the commands' names, the bytes of a part with these words, and the image of such bytes.
+# A form of a dump: what stands behind the commands' names, the bytes of a part with these words,
+# and the image of such bytes.
 Form = namedtuple("Form", "flag written read")
 FORMS = [Form("", bytes, image_of), Form(" --pairs", paired, image_of_pairs)]
 
 
 def told_of(found):
-    """What an import says where this was found: an image, a bad line, or the page and the place of numbers that are too low."""
+    """What an import says where this was found: an image, a bad line, or the page and the place of
+    numbers that are too low."""
     if isinstance(found, bytes):
         return 0, "imported\n"
-    return 3, f"ee: dump line {found}\n" if isinstance(found, int) else "ee: dump pair {} {}\n".format(*found)
+    return 3, f"ee: dump line {found}\n" if isinstance(
+        found, int
+    ) else "ee: dump pair {} {}\n".format(*found)
 
 
 def record(address, kind, data):
@@ -120,7 +107,7 @@ def hex_of(dump, base, row=16):
             upper = place >> 16
             parts.append(record(0, 4, upper.to_bytes(2, "big")))
         count = min(row, 0x10000 - (place & 0xFFFF), len(dump) - at)
-        parts.append(record(place & 0xFFFF, 0, dump[at:at + count]))
+        parts.append(record(place & 0xFFFF, 0, dump[at : at + count]))
         at += count
     return b"".join(parts) + record(0, 1, b"")
 
@@ -128,13 +115,21 @@ def hex_of(dump, base, row=16):
 def record_of(line):
     """The address, the type and the data of a line, if it is a record's."""
     digits = line.removesuffix(b"\r")
-    if digits[:1] != b":" or len(digits) % 2 == 0 or any(c not in b"0123456789abcdefABCDEF" for c in digits[1:]):
+    if (
+        digits[:1] != b":"
+        or len(digits) % 2 == 0
+        or any(c not in b"0123456789abcdefABCDEF" for c in digits[1:])
+    ):
         return None
     body = bytes.fromhex(digits[1:].decode())
     if len(body) < 5 or len(body) != body[0] + 5 or sum(body) & 255:
         return None
     address, kind, data = body[1] << 8 | body[2], body[3], body[4:-1]
-    fits = address + len(data) <= 0x10000 if kind == 0 else len(data) == {1: 0, 2: 2, 3: 4, 4: 2, 5: 4}.get(kind)
+    fits = (
+        address + len(data) <= 0x10000
+        if kind == 0
+        else len(data) == {1: 0, 2: 2, 3: 4, 4: 2, 5: 4}.get(kind)
+    )
     return (address, kind, data) if fits else None
 
 
@@ -147,7 +142,11 @@ def read_hex(text, base, size):
             return number
         address, kind, data = found
         if kind == 1:
-            return bytes(said.get(base + at, 255) for at in range(size)) if lines[number:] == [b""] else number + 1
+            return (
+                bytes(said.get(base + at, 255) for at in range(size))
+                if lines[number:] == [b""]
+                else number + 1
+            )
         if kind in (2, 4):
             upper = int.from_bytes(data, "big") << (4 if kind == 2 else 16)
         elif kind == 0:
@@ -164,34 +163,40 @@ def bytes_and_texts(place):
         dump = written(random_dump(chance, pages, words))
         image = read(dump, pages, words)
         place.put("image", image)
-        place.expect(f"export{flag} image dump", (0, "exported\n"))
+        expect(place, f"export{flag} image dump", (0, "exported\n"))
         place.same("dump", dump, f"export{flag} {pages} {words}")
-        place.expect(f"import{flag} {pages} {words} dump again", (0, "imported\n"))
+        expect(place, f"import{flag} {pages} {words} dump again", (0, "imported\n"))
         place.same("again", image, f"import{flag} {pages} {words}")
         for base in BASES:
-            place.expect(f"export-hex{flag} image {base:08x} hex", (0, "exported\n"))
+            expect(place, f"export-hex{flag} image {base:08x} hex", (0, "exported\n"))
             place.same("hex", hex_of(dump, base), f"export-hex{flag} {pages} {words} {base:x}")
-            place.put("rows", hex_of(dump, base, chance.choice([1, 7, 32, 255] if words < WORDS else [32, 255])))
+            place.put(
+                "rows",
+                hex_of(dump, base, chance.choice([1, 7, 32, 255] if words < WORDS else [32, 255])),
+            )
             for name in ("hex", "rows"):
-                place.expect(f"import-hex{flag} {pages} {words} {base:08X} {name} again", (0, "imported\n"))
+                expect(
+                    place,
+                    f"import-hex{flag} {pages} {words} {base:08X} {name} again",
+                    (0, "imported\n"),
+                )
                 place.same("again", image, f"import-hex{flag} {pages} {words} {base:x} of {name}")
 
 
 def objcopy(place):
     """What objcopy writes is read, and it reads what is written."""
-    if not HAS_OBJCOPY:
-        print("skipped: bench/test, HEX by objcopy: it is not here (apt-get install binutils)", flush=True)
-        return
     chance, base = random.Random(2), 0x0807F000
     copy = lambda *words: subprocess.run(["objcopy", *words], cwd=place.folder, check=True)
     for (flag, written, read), (pages, words) in product(FORMS, SIZES):
         dump = written(random_dump(chance, pages, words))
         place.put("image", read(dump, pages, words))
-        place.expect(f"export{flag} image dump", (0, "exported\n"))
+        expect(place, f"export{flag} image dump", (0, "exported\n"))
         copy("-I", "binary", "-O", "ihex", "--change-addresses", hex(base), "dump", "theirs")
-        place.expect(f"import-hex{flag} {pages} {words} {base:08x} theirs again", (0, "imported\n"))
+        expect(
+            place, f"import-hex{flag} {pages} {words} {base:08x} theirs again", (0, "imported\n")
+        )
         place.same("again", place.get("image"), f"objcopy's HEX{flag}, {pages} {words}")
-        place.expect(f"export-hex{flag} image {base:08x} ours", (0, "exported\n"))
+        expect(place, f"export-hex{flag} image {base:08x} ours", (0, "exported\n"))
         copy("-I", "ihex", "-O", "binary", "ours", "back")
         place.same("back", dump, f"what objcopy reads{flag}, {pages} {words}")
 
@@ -211,13 +216,22 @@ def mutated(chance, text):
         lines[at] = lines[at].swapcase()
     elif how == 4:
         place = chance.randrange(len(lines[at]))
-        lines[at] = lines[at][:place] + bytes([chance.choice(b"0123456789ABCDEF:\n\r x")]) + lines[at][place + 1:]
+        lines[at] = (
+            lines[at][:place]
+            + bytes([chance.choice(b"0123456789ABCDEF:\n\r x")])
+            + lines[at][place + 1 :]
+        )
     elif how == 5:
         address, kind, data = record_of(lines[at].rstrip()) or (0, 0, b"")
-        changed = [(address ^ 16, kind, data), (address, chance.randrange(7), data), (address, kind, data + b"\x01"), (address, kind, data[::-1])]
+        changed = [
+            (address ^ 16, kind, data),
+            (address, chance.randrange(7), data),
+            (address, kind, data + b"\x01"),
+            (address, kind, data[::-1]),
+        ]
         lines[at] = record(*chance.choice(changed))
     else:
-        return text[:chance.randrange(len(text))]
+        return text[: chance.randrange(len(text))]
     return b"".join(lines)
 
 
@@ -233,16 +247,17 @@ def broken_texts(place):
         found = read_hex(text, base, len(dump))
         if isinstance(found, bytes):
             found = read(found, 1, 6)
-        place.expect(f"import-hex{flag} 1 6 {base:08x} hex image", told_of(found))
+        expect(place, f"import-hex{flag} 1 6 {base:08x} hex image", told_of(found))
         if isinstance(found, bytes):
             place.same("image", found, f"text{flag} {number}")
 
 
 def damaged(chance, dump):
-    """Pairs with bits that a cut may leave there, and in every second part with some taken away, as none does."""
+    """Pairs with bits that a cut may leave there, and in every second part with some taken away, as
+    none does."""
     takes, cuts, pairs = chance.randrange(2), chance.choice([3, 60]), []
     for at in range(0, len(dump), 16):
-        bits = int.from_bytes(dump[at:at + 16], "little")
+        bits = int.from_bytes(dump[at : at + 16], "little")
         if chance.randrange(cuts) == 0:
             bits |= chance.choice([chance.getrandbits(128), MOST_NUMBER, MOST_NUMBER << 64])
         if takes and chance.randrange(6) == 0:
@@ -260,8 +275,8 @@ def told_of_torn(image):
 
 
 def damaged_pairs(place):
-    """Pairs that a cut left are imported as torn words, which have no dump; the first that is too low is named, and a length
-    goes before it."""
+    """Pairs that a cut left are imported as torn words, which have no dump; the first that is too
+    low is named, and a length goes before it."""
     chance, base = random.Random(5), 0xFF40
     for number in range(MUTATIONS):
         pages, words = chance.choice(SIZES[:3])
@@ -269,19 +284,20 @@ def damaged_pairs(place):
         found = image_of_pairs(dump, pages, words)
         place.put("dump", dump)
         place.put("hex", hex_of(dump, base))
-        place.expect(f"import --pairs {pages} {words} dump image", told_of(found))
-        place.expect(f"import-hex --pairs {pages} {words} {base:08x} hex again", told_of(found))
+        expect(place, f"import --pairs {pages} {words} dump image", told_of(found))
+        expect(place, f"import-hex --pairs {pages} {words} {base:08x} hex again", told_of(found))
         if isinstance(found, bytes):
             for name in ("image", "again"):
                 place.same(name, found, f"pairs {number}")
-            place.expect("export --pairs image back", told_of_torn(found))
-            place.expect(f"export-hex --pairs image {base:08x} back", told_of_torn(found))
-        place.put("dump", chance.choice([dump[:-1], dump + dump[-1:], dump[:len(dump) // 2], b""]))
-        place.expect(f"import --pairs {pages} {words} dump image", (3, "ee: dump length\n"))
+            expect(place, "export --pairs image back", told_of_torn(found))
+            expect(place, f"export-hex --pairs image {base:08x} back", told_of_torn(found))
+        place.put("dump", chance.choice([dump[:-1], dump + dump[-1:], dump[: len(dump) // 2], b""]))
+        expect(place, f"import --pairs {pages} {words} dump image", (3, "ee: dump length\n"))
 
 
 def greatest_text(place):
-    """A text as long as may be read says the greatest part over and over; one that is longer isn't read."""
+    """A text as long as may be read says the greatest part over and over; one that is longer isn't
+    read."""
     for form in FORMS:
         greatest_text_of(place, form)
 
@@ -297,23 +313,28 @@ def greatest_text_of(place, form):
     text = nothing * ((MOST_BYTES - len(text)) // len(nothing)) + text
     place.put("hex", text)
     began = time.monotonic()
-    place.expect(f"import-hex{form.flag} {PAGES} {WORDS} 00000000 hex image", (0, "imported\n"))
+    expect(place, f"import-hex{form.flag} {PAGES} {WORDS} 00000000 hex image", (0, "imported\n"))
     seconds = time.monotonic() - began
-    print(f"import-hex{form.flag} of a text of {len(text)} bytes took {seconds:.2f} seconds", flush=True)
+    print(
+        f"import-hex{form.flag} of a text of {len(text)} bytes took {seconds:.2f} seconds",
+        flush=True,
+    )
     place.same("image", form.read(dump, PAGES, WORDS), f"the greatest text{form.flag}")
     if seconds > MOST_SECONDS:
-        raise Wrong(f"the greatest text{form.flag} took {seconds:.2f} seconds")
+        raise trying.Wrong(f"the greatest text{form.flag} took {seconds:.2f} seconds")
     place.put("hex", text + b" " * (MOST_BYTES + 1 - len(text)))
-    place.expect(f"import-hex{form.flag} {PAGES} {WORDS} 00000000 hex never", (3, "ee: dump too long\n"))
+    expect(
+        place,
+        f"import-hex{form.flag} {PAGES} {WORDS} 00000000 hex never",
+        (3, "ee: dump too long\n"),
+    )
 
 
-def checks(program, folder):
-    """Makes each check in a folder of its own, and gives its name and what was found, if anything."""
-    for check in (bytes_and_texts, objcopy, broken_texts, damaged_pairs, greatest_text):
-        try:
-            check(Place(program, os.path.join(folder, check.__name__)))
-        except (Wrong, OSError, subprocess.SubprocessError) as found:
-            yield check.__name__, str(found)
-        else:
-            yield check.__name__, None
-        shutil.rmtree(os.path.join(folder, check.__name__), ignore_errors=True)
+def checks(program, folder, tally):
+    """Makes each check in a folder of its own. Gives its name and what was found, if anything."""
+    tried = [(bytes_and_texts,), (broken_texts,), (damaged_pairs,), (greatest_text,)]
+    if is_here("objcopy"):
+        tried.append((objcopy,))
+    else:
+        tally.skip("HEX by objcopy", "no objcopy (apt-get install binutils)")
+    return trying.faults(tried, lambda: trying.Place(program, folder))

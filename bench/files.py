@@ -1,11 +1,11 @@
-"""What bench/test tries of the files that `ee` reads and writes: an image is written whole or not at
-all, and only while it is what was read, links and modes stay, and inputs are read before anything is written."""
+"""What bench/test tries of the files that `ee` reads and writes: an image is written whole or not
+at all, and only while it is what was read, links and modes stay, and inputs are read before
+anything is written."""
 import errno
 import fcntl
 import os
 import re
 import resource
-import shutil
 import signal
 import stat
 import subprocess
@@ -13,19 +13,35 @@ import time
 
 from cases import worked
 from dumps import hex_of
+from tools import trying
+from tools.places import is_here
+from tools.trying import Wrong, expect
 
 SAVING = "image.ee-saving-0"
-# The worked example all-live, which begins with the image that two moves leave, and its tight certificate.
+# The worked example all-live, which begins with the image that two moves leave, and its tight
+# certificate.
 ALL_LIVE = worked.example("all-live")
 MOVED = ALL_LIVE.files["image"]
-CERTIFICATE = next(step.printed for step in ALL_LIVE.steps if step.words == "cat certificate").encode()
+CERTIFICATE = next(
+    step.printed for step in ALL_LIVE.steps if step.words == "cat certificate"
+).encode()
 DUMP = worked.example("dumps").files["dump"]
 HEX = worked.example("hex").files["part"]
 PAIRS = worked.example("pairs").files["dump"]
 SETTINGS = worked.example("second-schema").files["settings"]
-INPUTS = {"image": MOVED, "script": ALL_LIVE.files["script"], "settings": SETTINGS, "certificate": CERTIFICATE,
-          "bad": b"w 2 6\nw 2 6 \n", "before": MOVED, "values": b"volume = 9\n", "dump": DUMP, "hex": HEX,
-          "pairs": PAIRS, "pairs-hex": hex_of(PAIRS, 0x0807F000)}
+INPUTS = {
+    "image": MOVED,
+    "script": ALL_LIVE.files["script"],
+    "settings": SETTINGS,
+    "certificate": CERTIFICATE,
+    "bad": b"w 2 6\nw 2 6 \n",
+    "before": MOVED,
+    "values": b"volume = 9\n",
+    "dump": DUMP,
+    "hex": HEX,
+    "pairs": PAIRS,
+    "pairs-hex": hex_of(PAIRS, 0x0807F000),
+}
 # The commands that write an image, and those that don't. Each of the first changes the image.
 WRITERS = {
     "run": ["run", "image", "script"],
@@ -39,7 +55,7 @@ WRITERS = {
     "apply": ["apply", "image", "settings", "values"],
     "clean": ["clean", "image"],
     "rescue": ["rescue", "image"],
-    "clear": ["clear", "image"],
+    "forget-all": ["forget-all", "--force", "image"],
     "tidy": ["tidy", "image", "settings"],
 }
 READERS = {
@@ -64,41 +80,21 @@ REFUSED = {
 }
 CANNOT_WRITE_IMAGE = (3, b"", b"ee: cannot write image\n")
 IMAGE_CHANGED = (3, b"", b"ee: image changed\n")
+OUTPUT_IS_WRITTEN = (4, None, b"ee: output is the file to write\n")
 # How often two runs are started at once.
 ROUNDS = 100
 
 
-class Wrong(Exception):
-    """What a check found."""
-
-
-def expect(wanted, found, what):
-    if wanted != found:
-        raise Wrong(f"{what}: wanted {wanted!r}, found {found!r}")
-
-
-class Place:
+class Place(trying.Place):
     """A folder with the inputs in it, in which a program is run."""
 
     def __init__(self, program, folder):
-        shutil.rmtree(folder, ignore_errors=True)
-        os.makedirs(folder)
-        self.program = program
-        self.folder = folder
+        super().__init__(program, folder)
         for name, text in INPUTS.items():
             self.put(name, text)
 
-    def path(self, name):
-        return os.path.join(self.folder, name)
-
-    def put(self, name, text, mode=0o644):
-        with open(self.path(name), "wb") as file:
-            file.write(text)
-        os.chmod(self.path(name), mode)
-
     def text(self, name="image"):
-        with open(self.path(name), "rb") as file:
-            return file.read()
+        return self.get(name)
 
     def mode(self, name="image"):
         return oct(stat.S_IMODE(os.stat(self.path(name)).st_mode))
@@ -106,20 +102,16 @@ class Place:
     def names(self):
         return sorted(os.listdir(self.folder))
 
-    def run(self, words, stdout=subprocess.PIPE, prefix=(), **options):
-        """The status, what was printed and what was said on standard error."""
-        done = subprocess.run([*prefix, self.program, *words], cwd=self.folder, stdin=subprocess.DEVNULL,
-                              stdout=stdout, stderr=subprocess.PIPE, timeout=60, **options)
-        return done.returncode, done.stdout, done.stderr
-
 
 def other_user(program, folder):
-    """What runs a program as a user who may not write what is root's; None where there is no way."""
+    """What runs a program as a user who may not write what is root's; None if there is no way."""
     if os.getuid() != 0:
         return {}
     options = {"user": 65534, "group": 65534, "extra_groups": []}
     try:
-        done = subprocess.run([program, "no", "command"], cwd=folder, stderr=subprocess.DEVNULL, **options)
+        done = subprocess.run(
+            [program, "no", "command"], cwd=folder, stderr=subprocess.DEVNULL, **options
+        )
     except OSError:
         return None
     return options if done.returncode == 2 else None
@@ -138,10 +130,12 @@ def written_by(place, writer):
 
 def limited(size, ignored):
     """Lets a child write files of so many bytes. A signal tells it where it doesn't ignore that."""
+
     def prepare():
         signal.signal(signal.SIGXFSZ, signal.SIG_IGN if ignored else signal.SIG_DFL)
         resource.setrlimit(resource.RLIMIT_CORE, (0, 0))
         resource.setrlimit(resource.RLIMIT_FSIZE, (size, size))
+
     return prepare
 
 
@@ -159,11 +153,13 @@ def no_room(place, writer):
             expect(sorted([*INPUTS, *left]), place.names(), "files " + what)
             expect(0, place.run(WRITERS[writer])[0], "status of the run behind it")
             expect(new, place.text(), "the image of the run behind it")
-            expect(sorted([*INPUTS, *left]), place.names(), "files of the run behind it")
+            expect(sorted(INPUTS), place.names(), "files of the run behind it")
             place.put("image", MOVED)
-            for name in left:
-                os.unlink(place.path(name))
-    expect(0, place.run(WRITERS[writer], preexec_fn=limited(len(new), False))[0], "status where it just fits")
+    expect(
+        0,
+        place.run(WRITERS[writer], preexec_fn=limited(len(new), False))[0],
+        "status where it just fits",
+    )
     expect(new, place.text(), "the image where it just fits")
 
 
@@ -174,12 +170,20 @@ def links(place, writer):
     os.mkdir(place.path("there"))
     place.put("there/image", MOVED)
     os.symlink("there/image", place.path("two"))
-    for target, real in (("image", "image"), ("there/image", "there/image"), ("two", "there/image"),
-                         (place.path("there/image"), "there/image")):
+    for target, real in (
+        ("image", "image"),
+        ("there/image", "there/image"),
+        ("two", "there/image"),
+        (place.path("there/image"), "there/image"),
+    ):
         place.put(real, MOVED, 0o640)
         os.symlink(target, place.path("link"))
         names = place.names()
-        expect(CANNOT_WRITE_IMAGE, place.run(words, preexec_fn=limited(1, True)), f"no room behind {target}")
+        expect(
+            CANNOT_WRITE_IMAGE,
+            place.run(words, preexec_fn=limited(1, True)),
+            f"no room behind {target}",
+        )
         expect(MOVED, place.text(real), f"the image behind {target}, without room")
         expect(0, place.run(words)[0], f"status with a link to {target}")
         expect(target, os.readlink(place.path("link")), "the link")
@@ -201,15 +205,14 @@ def modes(place, writer):
 
 
 def leftover(place, writer):
-    """What a run that died left behind hinders no other, and stays."""
+    """What a run that died left behind is taken away."""
     new = written_by(place, writer)
     for text in (b"", b"ee 1", 3 * new):
         place.put(SAVING, text, 0o600)
         expect(0, place.run(WRITERS[writer])[0], "status")
         expect(new, place.text(), "the image")
         expect(oct(0o644), place.mode(), "mode")
-        expect(text, place.text(SAVING), "what was left")
-        expect(sorted([*INPUTS, SAVING]), place.names(), "files")
+        expect(sorted(INPUTS), place.names(), "files")
         place.put("image", MOVED)
 
 
@@ -223,19 +226,28 @@ def second_name(place, writer):
 
 
 def taken(place, writer):
-    """What stands under a name that would be used stays; with none of a hundred free nothing is written."""
+    """What another run is writing stays, and so does what is no plain file; with none of a hundred
+    names free nothing is written."""
     new = written_by(place, writer)
     names = [SAVING[:-1] + str(number) for number in range(100)]
-    for name in names:
+    os.symlink("script", place.path(names[0]))
+    os.mkdir(place.path(names[1]))
+    written = []
+    for name in names[2:]:
         place.put(name, b"another's")
+        written.append(open(place.path(name), "rb"))
+        fcntl.flock(written[-1], fcntl.LOCK_EX)
     expect(CANNOT_WRITE_IMAGE, place.run(WRITERS[writer]), "the end with no name free")
     expect(MOVED, place.text(), "the image with no name free")
-    os.unlink(place.path(names.pop()))
-    expect(0, place.run(WRITERS[writer])[0], "status with one free")
-    expect(new, place.text(), "the image with one free")
-    for name in names:
+    for name in names[2:]:
         expect(b"another's", place.text(name), name)
     expect(sorted([*INPUTS, *names]), place.names(), "files")
+    written.pop().close()
+    expect(0, place.run(WRITERS[writer])[0], "status with one free")
+    expect(new, place.text(), "the image with one free")
+    expect(sorted([*INPUTS, *names[:-1]]), place.names(), "files with one free")
+    for file in written:
+        file.close()
 
 
 def held(place, writer):
@@ -255,13 +267,18 @@ def start_run(place, command, address, value):
     script = f"script-{address}"
     if not os.path.exists(place.path(script)):
         os.mkfifo(place.path(script))
-    run = subprocess.Popen([place.program, *command, "image", script], cwd=place.folder, stdin=subprocess.DEVNULL,
-                           stdout=subprocess.PIPE, stderr=subprocess.PIPE)
+    run = subprocess.Popen(
+        [place.program, *command, "image", script],
+        cwd=place.folder,
+        stdin=subprocess.DEVNULL,
+        stdout=subprocess.PIPE,
+        stderr=subprocess.PIPE,
+    )
     return run, script, f"w {address} {value}\n".encode()
 
 
 def begin(place, script):
-    """Waits until a run opens its script, which comes behind its image, and gives the pipe to it."""
+    """Waits until a run opens its script, which comes behind its image. Gives the pipe to it."""
     for _ in range(20000):
         try:
             return os.fdopen(os.open(place.path(script), os.O_WRONLY | os.O_NONBLOCK), "wb")
@@ -299,13 +316,17 @@ def gone_meanwhile(place, writer):
 
 
 def at_once(place, _):
-    """Two runs at once on one image, many times: what a run that ended with 0 wrote stands in the image, and each other
-    said that the image changed. In every second round both have read the image before either goes on: then it is
-    one of them that writes. In the others they go as they come."""
+    """Two runs at once on one image, many times: what a run that ended with 0 wrote stands in the
+    image, and each other said that the image changed. In every second round both have read the
+    image before either goes on: then it is one of them that writes. In the others they go as they
+    come."""
     expect(0, place.run(["format", "2", "64", "image"])[0], "status")
     wanted = {}
     for number in range(ROUNDS):
-        runs = [start_run(place, command, address, number) for command, address in ((["run"], 1), (["run", "--indexed"], 2))]
+        runs = [
+            start_run(place, command, address, number)
+            for command, address in ((["run"], 1), (["run", "--indexed"], 2))
+        ]
         if number % 2:
             pipes = [begin(place, script) for _, script, _ in runs]
             for pipe, (_, _, line) in zip(pipes, runs):
@@ -326,7 +347,9 @@ def at_once(place, _):
                 expect(IMAGE_CHANGED, ended, f"the end of a run of round {number}")
         if done == 0 or done == 2 and number % 2:
             raise Wrong(f"round {number}: {done} runs ended with 0")
-        found = dict(map(int, line.split()) for line in place.run(["list", "image"])[1].splitlines())
+        found = dict(
+            map(int, line.split()) for line in place.run(["list", "image"])[1].splitlines()
+        )
         expect(wanted, found, f"the image behind round {number}")
     expect(sorted([*INPUTS, "script-1", "script-2"]), place.names(), "files")
 
@@ -353,7 +376,8 @@ def lost_output_reader(place, reader):
 
 
 def in_place(place, writer, options):
-    """Where no file may be made beside it, or none may replace it, an image is written in its place."""
+    """Where no file may be made beside it, or none may replace it, an image is written in its
+    place."""
     new = written_by(place, writer)
     for mode in (0o555, 0o1777) if options else (0o555,):
         place.put("image", MOVED, 0o666)
@@ -377,7 +401,8 @@ def owner(place, writer):
     expect((65533, 65532), (found.st_uid, found.st_gid), "the owner")
 
 
-# Fills a small file system that is mounted on `there`, and tells what a command leaves of an image in it.
+# Fills a small file system that is mounted on `there`, and tells what a command leaves of an image
+# in it.
 FILLING = """mount -t tmpfs -o size=8k none there && cp image there || exit
 cat /dev/zero > there/fill 2> /dev/null; "$@"; echo "status $?"; cat there/image; ls there"""
 
@@ -389,7 +414,9 @@ def full_system(place, writer):
     if writer == "format":
         words[1:3] = ["64", "100"]
     ended = place.run(words, prefix=["unshare", "-m", "sh", "-c", FILLING, "sh"])
-    expect((0, b"status 3\n" + MOVED + b"fill\nimage\n", b"ee: cannot write image\n"), ended, "the end")
+    expect(
+        (0, b"status 3\n" + MOVED + b"fill\nimage\n", b"ee: cannot write image\n"), ended, "the end"
+    )
 
 
 def full_device(place, _, options):
@@ -397,9 +424,16 @@ def full_device(place, _, options):
     os.symlink("/dev/full", place.path("link"))
     names = place.names()
     for image in ("/dev/full", "link"):
-        expect(CANNOT_WRITE_IMAGE, place.run(["format", "1", "6", image], **options), f"the end with {image}")
-        expect((3, b"", b"ee: image too long\n"), place.run(["run", image, "script"], **options),
-               f"the end of a run on {image}")
+        expect(
+            CANNOT_WRITE_IMAGE,
+            place.run(["format", "1", "6", image], **options),
+            f"the end with {image}",
+        )
+        expect(
+            (3, b"", b"ee: image too long\n"),
+            place.run(["run", image, "script"], **options),
+            f"the end of a run on {image}",
+        )
     expect("/dev/full", os.readlink(place.path("link")), "the link")
     expect(True, stat.S_ISCHR(os.stat("/dev/full").st_mode), "/dev/full is a device")
     expect(names, place.names(), "files")
@@ -415,13 +449,31 @@ def output_as_image(place, _):
     expect(names, place.names(), "files")
 
 
+def output_to_image(place, writer):
+    """Where standard output goes to the image, whatever leads there, nothing is written."""
+    os.symlink("image", place.path("link"))
+    for name in ("image", "link"):
+        for words in (
+            WRITERS[writer],
+            [name if word == "image" else word for word in WRITERS[writer]],
+        ):
+            with open(place.path(name), "ab") as output:
+                expect(OUTPUT_IS_WRITTEN, place.run(words, stdout=output), "the end")
+            expect(MOVED, place.text(), "the image")
+            expect(sorted([*INPUTS, "link"]), place.names(), "files")
+
+
 def new_image(place, _):
     """`format` makes a file that wasn't there, also where a link leads to none."""
     expect(0, place.run(["format", "1", "6", "image"])[0], "status")
     wanted = place.text()
     os.symlink("second", place.path("link"))
     for image, real in (("first", "first"), ("link", "second")):
-        expect((0, b"formatted\n", b""), place.run(["format", "1", "6", image], umask=0o027), f"the end with {image}")
+        expect(
+            (0, b"formatted\n", b""),
+            place.run(["format", "1", "6", image], umask=0o027),
+            f"the end with {image}",
+        )
         expect(wanted, place.text(real), "the image")
         expect(oct(0o640), place.mode(real), "mode")
     expect("second", os.readlink(place.path("link")), "the link")
@@ -435,16 +487,30 @@ def refused(place, cause):
     expect((True, b""), (ended[0] in (3, 4), ended[1]), "the end")
     after = [os.stat(place.path(name)) for name in ("image", "script")]
     for old, new in zip(before, after):
-        expect((old.st_ino, old.st_mtime_ns, old.st_mode), (new.st_ino, new.st_mtime_ns, new.st_mode), "the file")
+        expect(
+            (old.st_ino, old.st_mtime_ns, old.st_mode),
+            (new.st_ino, new.st_mtime_ns, new.st_mode),
+            "the file",
+        )
     expect(sorted(INPUTS), place.names(), "files")
 
 
 def calls_of(place, words):
-    """The system calls of a run that open, lock, read, write beside standard output, or rename: each a
-    kind and a path."""
+    """The system calls of a run that open, lock, read, write beside standard output, or rename:
+    each a kind and a path."""
     log = place.path("strace")
-    place.run(words, prefix=["strace", "-f", "-y", "-o", log, "-e",
-                             "trace=open,openat,creat,flock,read,pread64,readv,rename,renameat,renameat2,truncate"])
+    place.run(
+        words,
+        prefix=[
+            "strace",
+            "-f",
+            "-y",
+            "-o",
+            log,
+            "-e",
+            "trace=open,openat,creat,flock,read,pread64,readv,rename,renameat,renameat2,truncate",
+        ],
+    )
     with open(log) as file:
         lines = file.read().splitlines()
     os.unlink(log)
@@ -457,7 +523,15 @@ def calls_of(place, words):
         if name in ("open", "openat", "creat"):
             writes = name == "creat" or re.search(r"O_CREAT|O_TRUNC", operands)
             holds = re.search(r"O_WRONLY|O_RDWR", operands)
-            kind = "write" if writes else "hold" if holds else "folder" if re.search("O_DIRECTORY|O_PATH", operands) else "open"
+            kind = (
+                "write"
+                if writes
+                else "hold"
+                if holds
+                else "folder"
+                if re.search("O_DIRECTORY|O_PATH", operands)
+                else "open"
+            )
             calls.append((kind, re.search(r'"(.*?)"', operands)[1]))
         elif name == "flock":
             calls.append(("lock", re.search(r"<(.*?)>", operands)[1]))
@@ -469,15 +543,17 @@ def calls_of(place, words):
 
 
 def system_calls(place, name):
-    """Each input is opened once and read, then the image is opened for writing and locked, and read once more; and only
-    then is anything made."""
+    """Each input is opened once and read, then the image is opened for writing and locked, and read
+    once more; and only then is anything made."""
     words = {**WRITERS, **READERS, **REFUSED}[name]
     calls = calls_of(place, words)
     opened = [path for kind, path in calls if kind == "open"]
     twice = sorted({path for path in opened if opened.count(path) > 1})
     expect([], twice, "opened more than once")
     inputs = [place.path(word) for word in words if word in INPUTS and name != "format"]
-    reads = [number for number, (kind, path) in enumerate(calls) if kind == "read" and path in inputs]
+    reads = [
+        number for number, (kind, path) in enumerate(calls) if kind == "read" and path in inputs
+    ]
     writes = [number for number, (kind, _) in enumerate(calls) if kind == "write"]
     expect(bool(inputs), bool(reads), "inputs are read")
     expect(name in WRITERS, bool(writes), "something is written")
@@ -487,26 +563,43 @@ def system_calls(place, name):
     expect(int(name in WRITERS), len(holds), "how often a file is opened for writing that is there")
     if holds:
         image = place.path("image")
-        expect([("hold", image), ("lock", image)], calls[holds[0]:holds[0] + 2], "the lock")
-        expect([], [calls[number] for number in reads if number > holds[0] and calls[number][1] != image], "what is read behind it")
+        expect([("hold", image), ("lock", image)], calls[holds[0] : holds[0] + 2], "the lock")
+        expect(
+            [],
+            [calls[number] for number in reads if number > holds[0] and calls[number][1] != image],
+            "what is read behind it",
+        )
 
 
 def can_mount(folder):
     """Whether a file system can be mounted where no other program sees it."""
     words = ["unshare", "-m", "mount", "-t", "tmpfs", "none", folder]
-    return shutil.which(words[0]) and subprocess.run(words, stderr=subprocess.DEVNULL).returncode == 0
+    return is_here(words[0]) and subprocess.run(words, stderr=subprocess.DEVNULL).returncode == 0
 
 
 def usual_checks():
     """The checks that can be made everywhere: a function, and the names that it is given."""
-    return [(no_room, WRITERS), (links, WRITERS), (modes, WRITERS), (leftover, WRITERS), (second_name, WRITERS),
-            (taken, ["run"]), (held, WRITERS), (changed_meanwhile, ["run", "run --indexed"]),
-            (gone_meanwhile, ["run", "run --indexed"]), (at_once, ["runs"]), (lost_output_writer, WRITERS),
-            (lost_output_reader, [name for name in READERS if name != "stale"]), (output_as_image, ["format"]),
-            (new_image, ["format"]), (refused, REFUSED)]
+    return [
+        (no_room, WRITERS),
+        (links, WRITERS),
+        (modes, WRITERS),
+        (leftover, WRITERS),
+        (second_name, WRITERS),
+        (taken, ["run"]),
+        (held, WRITERS),
+        (changed_meanwhile, ["run", "run --indexed"]),
+        (gone_meanwhile, ["run", "run --indexed"]),
+        (at_once, ["runs"]),
+        (lost_output_writer, WRITERS),
+        (lost_output_reader, [name for name in READERS if name != "stale"]),
+        (output_as_image, ["format"]),
+        (output_to_image, WRITERS),
+        (new_image, ["format"]),
+        (refused, REFUSED),
+    ]
 
 
-def all_checks(program, folder):
+def all_checks(program, folder, tally):
     """Each check: a function, the name that it is given, and what else."""
     functions = usual_checks()
     if os.getuid() == 0:
@@ -514,30 +607,23 @@ def all_checks(program, folder):
     if can_mount(folder):
         functions.append((full_system, WRITERS))
     else:
-        print("files: no full file system was tried, since none can be mounted")
-    if shutil.which("strace"):
+        tally.skip("a full file system", "none can be mounted (run it as root)")
+    if is_here("strace"):
         functions.append((system_calls, [*WRITERS, *READERS, *REFUSED]))
     else:
-        print("files: system calls were not looked at, for want of strace")
+        tally.skip("the calls on files", "no strace (apt-get install strace)")
     for function, names in functions:
         yield from ((function, name) for name in names)
     options = other_user(program, folder)
     if options is None:
-        print("files: folders that may not be written were not tried, since another user can't run the program")
+        tally.skip("folders that may not be written", "another user can't run the program")
     else:
         yield from ((in_place, name, options) for name in WRITERS)
         yield full_device, "format", options
 
 
-def checks(program, folder):
-    """Makes each check in a folder of its own, and gives its name and what was found, if anything."""
+def checks(program, folder, tally):
+    """Makes each check in a folder of its own. Gives its name and what was found, if anything."""
     os.makedirs(folder, exist_ok=True)
-    for function, *given in all_checks(program, folder):
-        place = Place(program, os.path.join(folder, "place"))
-        name = f"{function.__name__}, {given[0]}"
-        try:
-            function(place, *given)
-        except (Wrong, OSError, subprocess.TimeoutExpired) as found:
-            yield name, str(found)
-        else:
-            yield name, None
+    place = os.path.join(folder, "place")
+    return trying.faults(all_checks(program, folder, tally), lambda: Place(program, place))

@@ -1,20 +1,15 @@
-"""What bench/test tries at the limits: each command with as many values, variables, settings, changes and words as there
-may be, with ample memory, and its whole answer compared with one that is counted here. No clause says that memory is
-wanted only where the system refuses it, so a command that gives up at some size or at some value is seen here alone."""
-import os
+"""What bench/test tries at the limits: each command with as many values, variables, settings,
+changes and words as there may be, with ample memory, and its whole answer compared with one that is
+counted here. No clause says that memory is wanted only where the system refuses it, so a command
+that gives up at some size or at some value is seen here alone."""
 import shutil
-import subprocess
 
-# A program's time: what `rt ci` gives one.
-SECONDS = 120
+from tools import trying
+
 GREATEST = 4294967295
 PAGES, WORDS = 64, 512
 SLOTS = PAGES * (WORDS - 4)
 MOST_ADDRESS = 65534
-
-
-class Wrong(Exception):
-    """What a check found."""
 
 
 class Store:
@@ -40,42 +35,37 @@ class Store:
 
     def end(self):
         moves, live = len(self.stretches), len(self.values)
-        return (f"end fill {self.fill} room {self.slots - self.fill} live {live} pending {self.pages if moves else 0}"
-                f" transfers {moves}\n{self.certificate()}")
+        return (
+            f"end fill {self.fill} room {self.slots - self.fill} live {live} pending {self.pages if moves else 0}"
+            f" transfers {moves}\n{self.certificate()}"
+        )
 
 
-class Place:
-    """A folder of its own, in which a program is run."""
-
-    def __init__(self, program, folder):
-        shutil.rmtree(folder, ignore_errors=True)
-        os.makedirs(folder)
-        self.program, self.folder = program, folder
-
-    def put(self, name, text):
-        with open(os.path.join(self.folder, name), "w", encoding="ascii") as file:
-            file.write(text)
-
-    def expect(self, words, wanted, status=0, script=None):
-        """Runs a command, which is to print this and to end with that status."""
-        how = {"input": script} if script is not None else {"stdin": subprocess.DEVNULL}
-        done = subprocess.run([self.program, *words.split()], cwd=self.folder, stdout=subprocess.PIPE,
-                              stderr=subprocess.PIPE, text=True, timeout=SECONDS, check=False, **how)
-        if (done.returncode, done.stderr) != (status, ""):
-            raise Wrong(f"{words}: status {done.returncode}, {done.stderr!r}")
-        if done.stdout != wanted:
-            lines = enumerate(zip(done.stdout.splitlines(), wanted.splitlines()), 1)
-            where = next((f"line {number} is {one!r} and not {other!r}" for number, (one, other) in lines if one != other),
-                         f"{len(done.stdout)} bytes and not {len(wanted)}")
-            raise Wrong(f"{words}: {where}")
+def expect(place, words, wanted, script=None):
+    """Runs a command, which is to print this and to end well."""
+    status, printed, said = place.run(
+        words, **({"input": script.encode()} if script is not None else {})
+    )
+    trying.expect((0, b""), (status, said), words)
+    if printed.decode() != wanted:
+        lines = enumerate(zip(printed.decode().splitlines(), wanted.splitlines()), 1)
+        where = next(
+            (
+                f"line {number} is {one!r} and not {other!r}"
+                for number, (one, other) in lines
+                if one != other
+            ),
+            f"{len(printed)} bytes and not {len(wanted)}",
+        )
+        raise trying.Wrong(f"{words}: {where}")
 
 
 def by_each_store(place, pages, words, script, report):
     """Answers a script on a new image by both stores, and leaves the image."""
     for command in ("run", "run --indexed"):
-        place.expect(f"format {pages} {words} image", "formatted\n")
-        place.expect(f"{command} image script", report)
-    place.expect(f"try {pages} {words}", report, script=script)
+        expect(place, f"format {pages} {words} image", "formatted\n")
+        expect(place, f"{command} image script", report)
+    expect(place, f"try {pages} {words}", report, script=script)
 
 
 def values(place):
@@ -89,9 +79,13 @@ def values(place):
 
 
 def full_image(place):
-    """An image of the greatest size with as many variables as it takes, after two moves of them all."""
+    """An image of the greatest size with as many variables as it takes, after two moves of them
+    all."""
     store, script, report = Store(PAGES, WORDS), [], []
-    for address, value in [(address, GREATEST - address) for address in range(1, SLOTS + 1)] + [(1, 0), (2, GREATEST)]:
+    for address, value in [(address, GREATEST - address) for address in range(1, SLOTS + 1)] + [
+        (1, 0),
+        (2, GREATEST),
+    ]:
         script.append(f"w {address} {value}\n")
         report.append(store.write(address, value) + "\n")
     place.put("script", "".join(script))
@@ -102,20 +96,28 @@ def variables(place):
     """As many variables as there may be, and each command on the greatest image."""
     store, script, report = full_image(place)
     by_each_store(place, PAGES, WORDS, script, report)
-    shutil.copy(os.path.join(place.folder, "image"), os.path.join(place.folder, "before"))
-    place.expect("list image", "".join(f"{address} {value}\n" for address, value in store.values.items()))
+    shutil.copy(place.path("image"), place.path("before"))
+    expect(
+        place,
+        "list image",
+        "".join(f"{address} {value}\n" for address, value in store.values.items()),
+    )
     # The last page of the set that takes the writes is the one in use, however full it is.
     states = ["VALID"] * (PAGES - 1) + ["ACTIVE"] + ["ERASING"] * PAGES
-    place.expect("states image", "".join(f"page {page} {state}\n" for page, state in enumerate(states)))
+    expect(
+        place,
+        "states image",
+        "".join(f"page {page} {state}\n" for page, state in enumerate(states)),
+    )
     worn = [1] * PAGES + [0] * PAGES
-    place.expect("wear image", ledger(worn))
-    place.expect("wear image before", ledger([0] * 2 * PAGES))
-    place.expect("clean image", f"cleaned {PAGES}\n")
-    place.expect("wear image before", ledger([0] * PAGES + [1] * PAGES))
-    place.expect("format 64 512 image", "formatted\n")
-    place.expect("plan image script", store.certificate())
+    expect(place, "wear image", ledger(worn))
+    expect(place, "wear image before", ledger([0] * 2 * PAGES))
+    expect(place, "clean image", f"cleaned {PAGES}\n")
+    expect(place, "wear image before", ledger([0] * PAGES + [1] * PAGES))
+    expect(place, "format 64 512 image", "formatted\n")
+    expect(place, "plan image script", store.certificate())
     place.put("certificate", store.certificate())
-    place.expect("check image script certificate", "proved 2\n")
+    expect(place, "check image script certificate", "proved 2\n")
 
 
 def ledger(wears):
@@ -124,22 +126,40 @@ def ledger(wears):
 
 
 def settings(place):
-    """As many settings as there are addresses, on the greatest image with as many variables as it takes."""
+    """As many settings as there are addresses, on the greatest image with as many variables as it
+    takes."""
     store, _, report = full_image(place)
-    place.expect(f"format {PAGES} {WORDS} image", "formatted\n")
-    place.expect("run --indexed image script", report)
+    expect(place, f"format {PAGES} {WORDS} image", "formatted\n")
+    expect(place, "run --indexed image script", report)
     most = 1 << 31
-    table = "".join(f"[s{address:05}]\naddress = {address}\nmin = 0\nmax = {most}\ndefault = 5\n"
-                    for address in range(1, MOST_ADDRESS + 1))
+    table = "".join(
+        f"[s{address:05}]\naddress = {address}\nmin = 0\nmax = {most}\ndefault = 5\n"
+        for address in range(1, MOST_ADDRESS + 1)
+    )
     place.put("settings", table)
-    told = {address: f"{address} {value} {'stale ' if value > most else ''}s{address:05}\n" for address, value in store.values.items()}
-    place.expect("list image settings", "".join(told.get(address, f"{address} default 5 s{address:05}\n")
-                                                for address in range(1, MOST_ADDRESS + 1)))
-    place.expect("stale image settings", "".join(f"s{address:05} {value}\n" for address, value in store.values.items() if value > most))
-    place.expect(f"get image settings s{SLOTS + 1}", "5 default\n")
-    place.expect("tidy image settings", "tidied 0\n")
-    place.expect(f"set image settings s{SLOTS} 7", "set\n")
-    place.expect(f"get image settings s{SLOTS}", "7 stored\n")
+    told = {
+        address: f"{address} {value} {'stale ' if value > most else ''}s{address:05}\n"
+        for address, value in store.values.items()
+    }
+    expect(
+        place,
+        "list image settings",
+        "".join(
+            told.get(address, f"{address} default 5 s{address:05}\n")
+            for address in range(1, MOST_ADDRESS + 1)
+        ),
+    )
+    expect(
+        place,
+        "stale image settings",
+        "".join(
+            f"s{address:05} {value}\n" for address, value in store.values.items() if value > most
+        ),
+    )
+    expect(place, f"get image settings s{SLOTS + 1}", "5 default\n")
+    expect(place, "tidy image settings", "tidied 0\n")
+    expect(place, f"set image settings s{SLOTS} 7", "set\n")
+    expect(place, f"get image settings s{SLOTS}", "7 stored\n")
 
 
 def moves_of(changes, slots, live):
@@ -155,14 +175,16 @@ def changes(place):
     """A trace of 200000 changes of 1000 addresses, which is planned, checked and sized."""
     count, live, cycles, runs = 200000, 1000, 1000, 10
     place.put("script", "".join(f"w {number % live + 1} {number}\n" for number in range(count)))
-    place.expect("format 4 512 image", "formatted\n")
+    expect(place, "format 4 512 image", "formatted\n")
     slots = 4 * (WORDS - 4)
     moves = moves_of(count, slots, live)
     lines = [f"to {at} from {0 if at == moves[0] else live}\n" for at in moves]
-    certificate = f"slots {slots} fill 0 live 0 writes {count}\n{''.join(lines)}transfers {len(moves)}\n"
-    place.expect("plan image script", certificate)
+    certificate = (
+        f"slots {slots} fill 0 live 0 writes {count}\n{''.join(lines)}transfers {len(moves)}\n"
+    )
+    expect(place, "plan image script", certificate)
     place.put("certificate", certificate)
-    place.expect("check image script certificate", f"proved {len(moves)}\n")
+    expect(place, "check image script certificate", f"proved {len(moves)}\n")
     sizes = []
     for pages in range(1, 65):
         slots = pages * (WORDS - 4)
@@ -172,19 +194,22 @@ def changes(place):
         moved = len(moves_of(count * runs, slots, live))
         erases, least = (moved + 1) // 2, moved // 2
         limit = -(count * runs // (-2 * pages * WORDS)) - 1
-        verdict = ("enough" if erases <= cycles else "worn for any" if limit > cycles else "worn for all" if least > cycles
-                   else "worn")
-        sizes.append(f"pages {pages} slots {slots} transfers {moved} erases {erases} least {least} limit {limit} {verdict}\n")
-    place.expect(f"size {WORDS} script {cycles} {runs}", "".join(sizes))
+        verdict = (
+            "enough"
+            if erases <= cycles
+            else "worn for any"
+            if limit > cycles
+            else "worn for all"
+            if least > cycles
+            else "worn"
+        )
+        sizes.append(
+            f"pages {pages} slots {slots} transfers {moved} erases {erases} least {least} limit {limit} {verdict}\n"
+        )
+    expect(place, f"size {WORDS} script {cycles} {runs}", "".join(sizes))
 
 
-def checks(program, folder):
-    """Makes each check in a folder of its own, and gives its name and what was found, if anything."""
-    for check in (values, variables, settings, changes):
-        try:
-            check(Place(program, os.path.join(folder, check.__name__)))
-        except (Wrong, OSError, subprocess.TimeoutExpired) as found:
-            yield check.__name__, str(found)
-        else:
-            yield check.__name__, None
-        shutil.rmtree(os.path.join(folder, check.__name__), ignore_errors=True)
+def checks(program, folder, _tally):
+    """Makes each check in a folder of its own. Gives its name and what was found, if anything."""
+    tried = [(values,), (variables,), (settings,), (changes,)]
+    return trying.faults(tried, lambda: trying.Place(program, folder))

@@ -1,5 +1,6 @@
-"""What bench/test tries of `ee rescue` and `ee clear`: random images, with words that no store wrote among theirs, against
-the rule of docs/MODEL.md in plain Python. What a rescue leaves is cleared behind it."""
+"""What bench/test tries of `ee rescue` and `ee forget-all`: random images, with words that no store
+wrote among theirs, against the rule of docs/MODEL.md in plain Python. All that a rescue leaves is
+forgotten behind it, once refused without `--force`."""
 import os
 import random
 import subprocess
@@ -8,7 +9,7 @@ import cases
 
 MARK = "a" * 16
 GREATEST = 4294967294
-GREATEST_WEAR = 2 ** 64 - 1
+GREATEST_WEAR = 2**64 - 1
 HEADER = 4
 # How many images are rescued.
 IMAGES = 400
@@ -83,9 +84,16 @@ class Set:
         elements = [f"{value:08x}{address:08x}" for address, value in values.items()]
         last = max(len(elements) - 1, 0) // room
         for page, words in enumerate(self.pages):
-            self.wears[page] = min(self.wears[page] + any(word != "-" for word in words), GREATEST_WEAR)
-            here = elements[page * room:(page + 1) * room]
-            header = [receive(generation) if page <= last else "-", "-", MARK if page < last else "-", "-"]
+            self.wears[page] = min(
+                self.wears[page] + any(word != "-" for word in words), GREATEST_WEAR
+            )
+            here = elements[page * room : (page + 1) * room]
+            header = [
+                receive(generation) if page <= last else "-",
+                "-",
+                MARK if page < last else "-",
+                "-",
+            ]
             self.pages[page] = header + here + ["-"] * (room - len(here))
         self.pages[0][1] = self.pages[last][1] = MARK
 
@@ -118,31 +126,55 @@ def rescue(sets):
     old, new = sets[side], sets[1 - side]
     if old.named() == GREATEST:
         return "ee: spent\n", 4
-    places = [(page, at) for page, words in enumerate(old.pages) for at in range(len(words)) if old.is_bad(page, at)]
-    told = [f"bad {side * len(old.pages) + page} {at} {'header' if at < HEADER else 'slot'}\n" for page, at in places]
+    places = [
+        (page, at)
+        for page, words in enumerate(old.pages)
+        for at in range(len(words))
+        if old.is_bad(page, at)
+    ]
+    told = [
+        f"bad {side * len(old.pages) + page} {at} {'header' if at < HEADER else 'slot'}\n"
+        for page, at in places
+    ]
     values = old.values()
     new.fill(old.named() + 1, values)
     old.leave()
     return "".join(told) + f"rescued live {len(values)} bad {len(places)}\n", 0
 
 
-def clear(sets):
-    """Clears what a rescue left: what is printed, and the status."""
+def forget_all(sets, force=False):
+    """Forgets all that a rescue left: what is printed, and the status."""
     first, second = (each.named() if each.is_committed() else 0 for each in sets)
     live = int(first < second)
     old, new = sets[live], sets[1 - live]
     values = old.values()
+    if values and not force:
+        return "ee: holds values, --force forgets them\n", 4
     if values and old.named() == GREATEST:
         return "ee: spent\n", 4
     if values:
         new.fill(old.named() + 1, {})
         old.leave()
-    return f"cleared {len(values)}\n", 0
+    return f"forgotten {len(values)}\n", 0
+
+
+def force_all(sets):
+    """The same of `forget-all --force`."""
+    return forget_all(sets, True)
 
 
 def spoilt(dice, lines):
     """An image's lines with some words changed to others."""
-    words = ["-", "?", MARK, receive(1), receive(2), receive(GREATEST), "0000000000000007", f"{dice.randrange(9):08x}00000001"]
+    words = [
+        "-",
+        "?",
+        MARK,
+        receive(1),
+        receive(2),
+        receive(GREATEST),
+        "0000000000000007",
+        f"{dice.randrange(9):08x}00000001",
+    ]
     rows = [line.split() for line in lines]
     for _ in range(dice.choice([0, 1, 1, 2, 5])):
         row = dice.choice(rows)
@@ -152,18 +184,30 @@ def spoilt(dice, lines):
 
 
 def tried(program, path, number):
-    """Rescues a random image, and clears what that leaves: what differs, if anything."""
+    """Rescues a random image, and forgets what that leaves: what differs, if anything."""
     dice = random.Random(f"rescue {number}")
     pages, words = dice.choice([1, 1, 2, 3]), dice.choice([5, 6, 7, 9])
-    image = cases.random_image(dice, pages, words, cases.random_addresses(dice, pages * (words - HEADER)))
+    image = cases.random_image(
+        dice, pages, words, cases.random_addresses(dice, pages * (words - HEADER))
+    )
     head, *lines = image.decode().splitlines()
     lines = spoilt(dice, lines)
     with open(path, "w", encoding="ascii") as file:
         file.write("\n".join([head, *lines, ""]))
-    for name, rule in (("rescue", rescue), ("clear", clear)):
+    for name, rule in (
+        ("rescue", rescue),
+        ("forget-all", forget_all),
+        ("forget-all --force", force_all),
+    ):
         sets = [Set(lines[:pages]), Set(lines[pages:])]
         wanted = rule(sets)
-        done = subprocess.run([program, name, path], stdout=subprocess.PIPE, stderr=subprocess.STDOUT, text=True, check=False)
+        done = subprocess.run(
+            [program, *name.split(), path],
+            stdout=subprocess.PIPE,
+            stderr=subprocess.STDOUT,
+            text=True,
+            check=False,
+        )
         with open(path, encoding="ascii") as file:
             found = file.read().splitlines()[1:]
         if (done.stdout, done.returncode) != wanted:
@@ -171,12 +215,12 @@ def tried(program, path, number):
         lines = sets[0].lines() + sets[1].lines()
         if found != lines:
             return f"{name}: wanted {lines}, found {found}"
-        if done.returncode:
+        if done.returncode and name == "rescue":
             return None
     return None
 
 
-def checks(program, folder):
+def checks(program, folder, _tally):
     """Tries each image, and gives its number and what differs, if anything."""
     os.makedirs(folder, exist_ok=True)
     for number in range(IMAGES):

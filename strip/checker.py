@@ -413,27 +413,6 @@ def plain_tokens(package, path, source):
     return scan(rest)
 
 
-def same(path, other_path, package, counts, may_have):
-    """Compares a file by hand with what was made of it. `may_have` says of the tokens of the made one and a place how many stand
-    there that the first hasn't, and by what name."""
-    first, _, rest = other_path.read_text().partition("\n")
-    if not first.startswith(f"// Made by {package.maker} from {path.relative_to(TOP)}."):
-        raise Different("the first line does not name its source")
-    source, other = scan(path.read_text()), scan(rest)
-    left = right = 0
-    while right < len(other):
-        count, name = may_have([token for token, _ in other[max(0, right - 1):right + 2]], right > 0)
-        if count:
-            counts[name] += 1
-            right += count
-        elif left < len(source) and other[right][0] == source[left][0]:
-            left, right = left + 1, right + 1
-        else:
-            raise Different(f"`{other[right][0]}` at line {other[right][1]}, where {path.name} has another token")
-    if left != len(source):
-        raise Different(f"it ends where {path.name} goes on at line {source[left][1]}")
-
-
 def damaged(tokens, chance):
     """The tokens with one of them damaged, such that the list is another. Comments are left alone."""
     code = [place for place, (text, _) in enumerate(tokens) if not text.startswith("//")]
@@ -485,26 +464,21 @@ def damage(good, number, seed):
     return refused, let_through
 
 
-def main(package, usage, others=(), by_hand=None):
-    """Compares the files of a package, and of others of its sources, and then what `by_hand` compares: it counts forms, and
-    gives how many files are well, and what is wrong."""
+def main(package, usage, more=None):
+    """Compares the files of a package, and then what `more` compares: it gives how many comparisons passed, and what is wrong."""
     parser = argparse.ArgumentParser(description=usage, formatter_class=argparse.RawDescriptionHelpFormatter)
     parser.add_argument("--damages", type=int, default=4000)
     parser.add_argument("--seed", type=int, default=1)
     words = parser.parse_args()
     counts = Counter()
     good, wrong = compare(package, counts)
-    for other in others:
-        more, also = compare(other, counts)
-        good, wrong = good + more, wrong + also
-    well, bad = by_hand(counts) if by_hand else (0, [])
-    wrong += bad
     print(f"{len(good)} files; missing in them, or written anew:")
     for form, count in counts.most_common():
         print(f"  {count:5} {form}")
     refused, let_through = damage(good, words.damages, words.seed) if good else (0, [])
-    for line in wrong + let_through:
+    also, bad = more() if more else (0, [])
+    for line in wrong + let_through + bad:
         print(line)
-    print(f"{len(good)} files compared, {refused} damages refused" + (f", {well} files by hand compared" if well else ""))
-    print(f"{len(good) + well + refused} passed, {len(wrong) + len(let_through)} failed")
-    return 1 if wrong or let_through else 0
+    print(f"{len(good)} files compared, {refused} damages refused")
+    print(f"{len(good) + also + refused} passed, {len(wrong) + len(let_through) + len(bad)} failed")
+    return 1 if wrong or let_through or bad else 0

@@ -1,8 +1,8 @@
 /* ee: variables in flash, the library of ee.h as one file of C99.
  *
  * Made by firmware/c/to_c of firmware/rust/ee-store, which is made of proved sources, and of parts
- * that are written by hand: the device over the three functions of an `ee_flash`, and the thirteen
- * calls of ee.h. Change none of it here. */
+ * that are written by hand: the device over the three functions of an `ee_flash`, and the calls
+ * of ee.h. Change none of it here. */
 #include "ee.h"
 
 #include <stdbool.h>
@@ -22,6 +22,19 @@
 #define EE_IN_ORDER() ((void)0)
 #endif
 
+/* By hand. Functions that only calls use which are left out have no use. */
+#if defined(__GNUC__) && (defined(EE_NO_PAIRS) || defined(EE_NO_LISTS) || defined(EE_NO_FORGET) || \
+        defined(EE_NO_RESCUE))
+#pragma GCC diagnostic ignored "-Wunused-function"
+#endif
+
+/* By hand. Whether a flash has numbers, two for each word. */
+#ifdef EE_NO_PAIRS
+#define EE_IS_OF_PAIRS(flash) ((void)(flash), false)
+#else
+#define EE_IS_OF_PAIRS(flash) ((flash)->kind != EE_WORDS)
+#endif
+
 /* How many words a loop over a page asks its flash for at once. */
 #define RUN 16u
 
@@ -31,9 +44,6 @@
 
 /* The words of a page's header, below its slots. */
 #define HEADER_WORDS 4u
-
-/* How many addresses a batch has room for. */
-#define BATCH 28u
 
 /* The mark: what the header words that say active, valid and erasing hold once they are
  * programmed. */
@@ -45,6 +55,9 @@
 /* The greatest generation of a set. */
 #define GREATEST_GENERATION UINT32_C(4294967294)
 
+/* How many addresses a batch has room for. */
+#define BATCH 28u
+
 /* How many words are asked for at once. */
 #define STRETCH 16u
 
@@ -54,14 +67,15 @@
 /* What a word of flash holds, as it reads.
  *
  * Source: words of 64 bits, some of them unreadable, AN4894; the rest is ours. */
-typedef enum WordTag {
+typedef uint8_t WordTag;
+enum {
     /* Nothing was programmed since the page was erased. */
     Word_Erased,
     /* A programmed number, which is below `u64::MAX` on every device. */
     Word_Held,
     /* An uncorrectable ECC error: the word reads as unreadable. */
     Word_Torn
-} WordTag;
+};
 
 typedef struct Word {
     WordTag tag;
@@ -78,7 +92,8 @@ typedef struct ee_shape Shape;
 typedef uint16_t Address;
 
 /* What a header word says in the place of a mark. */
-typedef enum MarkRead {
+typedef uint8_t MarkRead;
+enum {
     /* Nothing was programmed yet. */
     MarkRead_Absent,
     /* The mark is there. */
@@ -87,10 +102,11 @@ typedef enum MarkRead {
     MarkRead_Broken,
     /* Another number. */
     MarkRead_Foreign
-} MarkRead;
+};
 
 /* What a word says in the place of a slot. */
-typedef enum SlotTag {
+typedef uint8_t SlotTag;
+enum {
     /* Nothing was programmed yet. */
     Slot_Free,
     /* A torn word: it holds nothing and can't be programmed again. */
@@ -101,7 +117,7 @@ typedef enum SlotTag {
     Slot_Forgotten,
     /* A number that spells neither. */
     Slot_Foreign
-} SlotTag;
+};
 
 typedef struct Slot {
     SlotTag tag;
@@ -121,7 +137,8 @@ enum {
 };
 
 /* A word of a page's header that can be programmed. */
-typedef enum MarkTag {
+typedef uint8_t MarkTag;
+enum {
     /* The set has this generation, 1 to 4294967294, and takes elements. */
     Mark_Receive,
     /* The page takes new elements. */
@@ -130,7 +147,7 @@ typedef enum MarkTag {
     Mark_Valid,
     /* The page's elements were transferred. */
     Mark_Erasing
-} MarkTag;
+};
 
 typedef struct Mark {
     MarkTag tag;
@@ -138,7 +155,8 @@ typedef struct Mark {
 } Mark;
 
 /* The places of a live set, by what may stand in them. */
-typedef enum TablePlace {
+typedef uint8_t TablePlace;
+enum {
     /* The first page's receive and active words, which commit the set. */
     TablePlace_Committing,
     /* The receive word of a further page. */
@@ -149,13 +167,14 @@ typedef enum TablePlace {
     TablePlace_Erasing,
     /* Any word behind a header. */
     TablePlace_InSlot
-} TablePlace;
+};
 
 /* Where the live set of a legal image is and how far it is used. */
 typedef struct ee_layout Layout;
 
 /* Why an image is not legal. */
-typedef enum ScanFaultTag {
+typedef uint8_t ScanFaultTag;
+enum {
     /* Every word of the device is erased. */
     ScanFault_Unformatted,
     /* No set is committed. */
@@ -165,7 +184,7 @@ typedef enum ScanFaultTag {
     /* The first word of the live set, by page and then place, that may not stand there. The page
      * is its number in the device. */
     ScanFault_Foreign
-} ScanFaultTag;
+};
 
 typedef struct ScanFault {
     ScanFaultTag tag;
@@ -195,17 +214,18 @@ typedef struct LiveBatch {
     MaybeAddress through;
 } LiveBatch;
 
-/* A value that an address gets. It is laid out as in C, so that a list of C's can be one of these.
- * */
+/* A value that an address gets. It is laid out as in C, so that a list of C's can be one of
+ * these. */
 typedef ee_value Put;
 
 /* A change of the map. */
-typedef enum ChangeTag {
+typedef uint8_t ChangeTag;
+enum {
     /* The address has the value from here on. */
     Change_Put,
     /* The address has no value from here on. The value is the one forgotten. */
     Change_Forget
-} ChangeTag;
+};
 
 typedef struct Change {
     ChangeTag tag;
@@ -234,16 +254,18 @@ typedef struct CopyingPlace {
 } CopyingPlace;
 
 /* How a change was stored. */
-typedef enum Written {
+typedef uint8_t Written;
+enum {
     /* In a free slot. */
     Written_Appended,
     /* No slot was free: in the other set, to which all live addresses were moved. */
     Written_Moved
-} Written;
+};
 
-/* Why nothing is written, the first cause that applies. All but `Cut` leave the device as it was.
- * */
-typedef enum WriteFault {
+/* Why nothing is written, the first cause that applies. All but `Cut` leave the device as it
+ * was. */
+typedef uint8_t WriteFault;
+enum {
     /* The device is off. */
     WriteFault_Off,
     /* The address has no value, and as many addresses have one as there are slots. */
@@ -255,11 +277,12 @@ typedef enum WriteFault {
     /* Power failed in this call. The device is off; the change is held or not, and nothing else
      * changed for any reader. */
     WriteFault_Cut
-} WriteFault;
+};
 
 /* Why no value of a list is written, the first cause that applies. All but `Cut` leave
  * the device as it was. */
-typedef enum WriteAllFaultTag {
+typedef uint8_t WriteAllFaultTag;
+enum {
     /* The device is off. */
     WriteAllFault_Off,
     /* An address is listed twice: the first entry, counted from 0, whose address an earlier one
@@ -274,7 +297,7 @@ typedef enum WriteAllFaultTag {
     /* Power failed in this call. The device is off; all values of the list are held or none, and
      * nothing else changed for any reader. */
     WriteAllFault_Cut
-} WriteAllFaultTag;
+};
 
 typedef struct WriteAllFault {
     WriteAllFaultTag tag;
@@ -283,7 +306,8 @@ typedef struct WriteAllFault {
 
 /* Why nothing is forgotten, the first cause that applies. All but `Cut` leave the device as it
  * was. */
-typedef enum ForgetFault {
+typedef uint8_t ForgetFault;
+enum {
     /* The device is off. */
     ForgetFault_Off,
     /* The address has no value. */
@@ -293,11 +317,12 @@ typedef enum ForgetFault {
     /* Power failed in this call. The device is off; the address has its value still or has none,
      * and nothing else changed for any reader. */
     ForgetFault_Cut
-} ForgetFault;
+};
 
-/* Why nothing is cleared, the first cause that applies. All but `Cut` leave the device as it was.
- * */
-typedef enum ClearFault {
+/* Why nothing is cleared, the first cause that applies. All but `Cut` leave the device as it
+ * was. */
+typedef uint8_t ClearFault;
+enum {
     /* The device is off. */
     ClearFault_Off,
     /* A slot is used, and the generation is the greatest, 4294967294. */
@@ -305,10 +330,7 @@ typedef enum ClearFault {
     /* Power failed in this call. The device is off; each address has its value still, or none has
      * one. */
     ClearFault_Cut
-} ClearFault;
-
-/* What a store keeps in memory beside its device. */
-typedef struct ee_known Known;
+};
 
 /* By hand. The device that the store works on, of words or of numbers. It is on while the pointer
  * to its flash, which stands in the memory that the caller lends, is not NULL. */
@@ -322,6 +344,12 @@ typedef struct Numbers {
     Shape shape;
 } Numbers;
 
+/* By hand. Where the index stands that a store finds values by, NULL if it has none. */
+typedef struct ee_index *Lookup;
+
+/* What a store keeps in memory beside its device. */
+typedef struct ee_known Known;
+
 /* Variables in a flash device. It keeps in memory where the live set is and how far it is used,
  * and finds values by a look-up: `Slots` keeps nothing, and reads all else from the flash.
  *
@@ -329,27 +357,64 @@ typedef struct Numbers {
 typedef struct ee_kept Store;
 
 /* Why a device can't be opened, the first cause that applies. */
-typedef enum OpenFaultTag {
+typedef uint8_t OpenFaultTag;
+enum {
     /* The image is not legal. Nothing changed. */
     OpenFault_Scan,
     /* Power failed in setting a mark. The device is off; its variables are as before. */
     OpenFault_Cut
-} OpenFaultTag;
+};
 
 typedef struct OpenFault {
     OpenFaultTag tag;
     ScanFault scan; /* of Scan */
 } OpenFault;
 
-/* Why a device isn't rescued, the first cause that applies. */
-typedef enum RescueFault {
-    /* No set is begun: in each the mark that commits it is erased. Nothing changed. */
-    RescueFault_NothingBegun,
-    /* The set that would be rescued names the greatest generation, 4294967294. Nothing changed. */
-    RescueFault_Spent,
-    /* Power failed. The device is off. */
-    RescueFault_Cut
-} RescueFault;
+typedef struct ee_room RoomOfEntry;
+
+/* Addresses with their slots, counted from 0, by rising address. They stand first in the room. */
+typedef struct ee_list LentList;
+
+typedef ee_entry Entry;
+
+typedef struct ListOfEntry {
+    const Entry *items;
+    uint32_t len;
+} ListOfEntry;
+
+/* Goes over the live addresses by an index. A hidden address, which has no value
+ * yet, is passed over. */
+typedef struct IndexCursor {
+    /* The entries that are left. */
+    ListOfEntry entries;
+    /* The address given last. */
+    MaybeAddress after;
+    /* How many slots are used. */
+    uint32_t fill;
+} IndexCursor;
+
+/* Goes over the live addresses by an index, or through the slots if it is given up. */
+typedef uint8_t LentCursorTag;
+enum {
+    LentCursor_ByIndex,
+    LentCursor_BySlots
+};
+
+typedef struct LentCursor {
+    LentCursorTag tag;
+    IndexCursor by_index; /* of ByIndex */
+    Cursor by_slots; /* of BySlots */
+} LentCursor;
+
+/* Finds values by an index in lent memory: the slot in which each live address stands. An address
+ * for which it has no room makes it give itself up, and then the store looks through the slots. A
+ * transfer or a clear brings it back, if there is room for all addresses that have a value then.
+ *
+ * A store that is on has it given up only where the lent memory was too small. Behind some of the
+ * used slots, counted from the first, more addresses had a value then than the memory has entries.
+ * So whoever lends an entry for each address that ever has a value doesn't lose the index. Where
+ * it is not given up, the memory has an entry for each address that has a value. */
+typedef struct ee_index LentIndex;
 
 /* The place of a word whose two numbers sum to less than `u64::MAX`: no store wrote it. */
 typedef struct LowPair {
@@ -405,11 +470,6 @@ typedef struct ReadResult {
     MaybeU32 value;
 } ReadResult;
 
-typedef struct MaybeSaidValue {
-    bool some;
-    MaybeU32 value;
-} MaybeSaidValue;
-
 typedef struct CleanResult {
     bool ok;
     bool value;
@@ -443,16 +503,6 @@ typedef struct ListOfPut {
     uint32_t len;
 } ListOfPut;
 
-typedef struct CopyingPlaceOrCut {
-    bool ok;
-    CopyingPlace value;
-} CopyingPlaceOrCut;
-
-typedef struct IndexPair {
-    uint32_t first;
-    uint32_t second;
-} IndexPair;
-
 typedef struct WriteAllResult {
     bool ok;
     Written value;
@@ -465,6 +515,21 @@ typedef struct WriteResult {
     WriteFault error;
 } WriteResult;
 
+typedef struct CopyingPlaceOrCut {
+    bool ok;
+    CopyingPlace value;
+} CopyingPlaceOrCut;
+
+typedef struct IndexPair {
+    uint32_t first;
+    uint32_t second;
+} IndexPair;
+
+typedef struct MaybeSaidValue {
+    bool some;
+    MaybeU32 value;
+} MaybeSaidValue;
+
 typedef struct MaybeLowPair {
     bool some;
     LowPair value;
@@ -474,22 +539,6 @@ typedef struct MaybeSide {
     bool some;
     Side value;
 } MaybeSide;
-
-typedef struct RescuedStore {
-    Store first;
-    uint32_t second;
-} RescuedStore;
-
-typedef struct RescueRefusal {
-    Device first;
-    RescueFault second;
-} RescueRefusal;
-
-typedef struct RescueResult {
-    bool ok;
-    RescuedStore value;
-    RescueRefusal error;
-} RescueResult;
 
 typedef struct LayoutOrCut {
     bool ok;
@@ -525,11 +574,31 @@ typedef struct FrontResult {
     IndexPair error;
 } FrontResult;
 
-typedef struct UsedResult {
+typedef struct PlaceResult {
     bool ok;
     uint32_t value;
     uint32_t error;
-} UsedResult;
+} PlaceResult;
+
+typedef struct Shown {
+    Entry first;
+    ListOfEntry second;
+} Shown;
+
+typedef struct MaybeShown {
+    bool some;
+    Shown value;
+} MaybeShown;
+
+typedef struct Placed {
+    Address first;
+    uint32_t second;
+} Placed;
+
+typedef struct MaybePlaced {
+    bool some;
+    Placed value;
+} MaybePlaced;
 
 /* What makes a value of a type with a tag. */
 static inline MaybeAddress maybe_address_none(void) {
@@ -560,36 +629,12 @@ static inline Word word_held(uint64_t held) {
     return (Word){ .tag = Word_Held, .held = held };
 }
 
-static inline MaybeLive maybe_live_some(Live value) {
-    return (MaybeLive){ .some = true, .value = value };
-}
-
-static inline MaybeLive maybe_live_none(void) {
-    return (MaybeLive){ .some = false, .value = { .first = 0u, .second = 0u } };
-}
-
 static inline ReadResult read_result_err(void) {
     return (ReadResult){ .ok = false, .value = { .some = false, .value = 0u } };
 }
 
 static inline ReadResult read_result_ok(MaybeU32 value) {
     return (ReadResult){ .ok = true, .value = value };
-}
-
-static inline MaybeU32 maybe_u32_none(void) {
-    return (MaybeU32){ .some = false, .value = 0u };
-}
-
-static inline MaybeSaidValue maybe_said_value_some(MaybeU32 value) {
-    return (MaybeSaidValue){ .some = true, .value = value };
-}
-
-static inline MaybeSaidValue maybe_said_value_none(void) {
-    return (MaybeSaidValue){ .some = false, .value = { .some = false, .value = 0u } };
-}
-
-static inline MaybeU32 maybe_u32_some(uint32_t value) {
-    return (MaybeU32){ .some = true, .value = value };
 }
 
 static inline CleanResult clean_result_err(WriteFault error) {
@@ -652,18 +697,6 @@ static inline ForgetResult forget_result_ok(Written value) {
     return (ForgetResult){ .ok = true, .value = value, .error = ForgetFault_Off };
 }
 
-static inline CopyingPlaceOrCut copying_place_or_cut_err(void) {
-    return (CopyingPlaceOrCut){ .ok = false, .value = { .slot = 0u, .page = 0u, .at = 0u } };
-}
-
-static inline CopyingPlaceOrCut copying_place_or_cut_ok(CopyingPlace value) {
-    return (CopyingPlaceOrCut){ .ok = true, .value = value };
-}
-
-static inline Change change_put(Address address, uint32_t value) {
-    return (Change){ .tag = Change_Put, .address = address, .value = value };
-}
-
 static inline WriteAllFault write_all_fault_off(void) {
     return (WriteAllFault){ .tag = WriteAllFault_Off, .twice = 0u };
 }
@@ -705,6 +738,42 @@ static inline WriteResult write_result_ok(Written value) {
     return (WriteResult){ .ok = true, .value = value, .error = WriteFault_Off };
 }
 
+static inline Change change_put(Address address, uint32_t value) {
+    return (Change){ .tag = Change_Put, .address = address, .value = value };
+}
+
+static inline CopyingPlaceOrCut copying_place_or_cut_err(void) {
+    return (CopyingPlaceOrCut){ .ok = false, .value = { .slot = 0u, .page = 0u, .at = 0u } };
+}
+
+static inline CopyingPlaceOrCut copying_place_or_cut_ok(CopyingPlace value) {
+    return (CopyingPlaceOrCut){ .ok = true, .value = value };
+}
+
+static inline MaybeLive maybe_live_some(Live value) {
+    return (MaybeLive){ .some = true, .value = value };
+}
+
+static inline MaybeLive maybe_live_none(void) {
+    return (MaybeLive){ .some = false, .value = { .first = 0u, .second = 0u } };
+}
+
+static inline MaybeU32 maybe_u32_none(void) {
+    return (MaybeU32){ .some = false, .value = 0u };
+}
+
+static inline MaybeSaidValue maybe_said_value_some(MaybeU32 value) {
+    return (MaybeSaidValue){ .some = true, .value = value };
+}
+
+static inline MaybeSaidValue maybe_said_value_none(void) {
+    return (MaybeSaidValue){ .some = false, .value = { .some = false, .value = 0u } };
+}
+
+static inline MaybeU32 maybe_u32_some(uint32_t value) {
+    return (MaybeU32){ .some = true, .value = value };
+}
+
 static inline MaybeLowPair maybe_low_pair_some(LowPair value) {
     return (MaybeLowPair){ .some = true, .value = value };
 }
@@ -733,25 +802,6 @@ static inline Slot slot_foreign(void) {
     return (Slot){ .tag = Slot_Foreign, .address = 0u, .value = 0u };
 }
 
-static inline MaybeSide maybe_side_none(void) {
-    return (MaybeSide){ .some = false, .value = Side_First };
-}
-
-static inline MaybeSide maybe_side_some(Side value) {
-    return (MaybeSide){ .some = true, .value = value };
-}
-
-static inline RescueResult rescue_result_err(RescueRefusal error) {
-    return (RescueResult){ .ok = false, .value = { .first = { .flash = { .power = NULL,
-            .shape = { .pages = 0u, .words = 0u } }, .known = { .layout = { .side = Side_First,
-            .generation = 0u, .fill = 0u, .current = 0u } } }, .second = 0u }, .error = error };
-}
-
-static inline RescueResult rescue_result_ok(RescuedStore value) {
-    return (RescueResult){ .ok = true, .value = value, .error = { .first = { .power = NULL,
-            .shape = { .pages = 0u, .words = 0u } }, .second = RescueFault_NothingBegun } };
-}
-
 static inline LayoutOrCut layout_or_cut_err(void) {
     return (LayoutOrCut){ .ok = false, .value = { .side = Side_First, .generation = 0u, .fill = 0u,
             .current = 0u } };
@@ -759,6 +809,14 @@ static inline LayoutOrCut layout_or_cut_err(void) {
 
 static inline LayoutOrCut layout_or_cut_ok(Layout value) {
     return (LayoutOrCut){ .ok = true, .value = value };
+}
+
+static inline MaybeSide maybe_side_none(void) {
+    return (MaybeSide){ .some = false, .value = Side_First };
+}
+
+static inline MaybeSide maybe_side_some(Side value) {
+    return (MaybeSide){ .some = true, .value = value };
 }
 
 static inline LayoutOrOpenFault layout_or_open_fault_ok(Layout value) {
@@ -806,12 +864,12 @@ static inline FrontResult front_result_ok(IndexPair value) {
     return (FrontResult){ .ok = true, .value = value, .error = { .first = 0u, .second = 0u } };
 }
 
-static inline UsedResult used_result_err(uint32_t error) {
-    return (UsedResult){ .ok = false, .value = 0u, .error = error };
+static inline PlaceResult place_result_err(uint32_t error) {
+    return (PlaceResult){ .ok = false, .value = 0u, .error = error };
 }
 
-static inline UsedResult used_result_ok(uint32_t value) {
-    return (UsedResult){ .ok = true, .value = value, .error = 0u };
+static inline PlaceResult place_result_ok(uint32_t value) {
+    return (PlaceResult){ .ok = true, .value = value, .error = 0u };
 }
 
 static inline ScanFault scan_fault_no_live_set(void) {
@@ -831,6 +889,25 @@ static inline LiveSetResult live_set_result_ok(LiveSet value) {
 static inline ScanFault scan_fault_two_live(void) {
     return (ScanFault){ .tag = ScanFault_TwoLive, .page = 0u, .at = 0u };
 }
+
+#ifdef EE_INDEX
+static inline MaybeShown maybe_shown_some(Shown value) {
+    return (MaybeShown){ .some = true, .value = value };
+}
+
+static inline MaybeShown maybe_shown_none(void) {
+    return (MaybeShown){ .some = false, .value = { .first = { .first = 0u, .second = 0u },
+            .second = { .items = NULL, .len = 0u } } };
+}
+
+static inline MaybePlaced maybe_placed_none(void) {
+    return (MaybePlaced){ .some = false, .value = { .first = 0u, .second = 0u } };
+}
+
+static inline MaybePlaced maybe_placed_some(Placed value) {
+    return (MaybePlaced){ .some = true, .value = value };
+}
+#endif
 
 /* By hand. The difference, 0 where it would be less. */
 static inline uint32_t u32_saturating_sub(uint32_t a, uint32_t b) {
@@ -874,11 +951,16 @@ static Side side_other(Side self);
 static uint32_t first_page(const Device *flash, Side side);
 static Word set_word(const Device *flash, Side side, uint32_t page, uint32_t at);
 static Word page_slot(const Device *flash, Side side, uint32_t page, uint32_t slot);
+#ifdef EE_INDEX
+static Word set_slot(const Device *flash, Side side, uint32_t slot);
+static uint64_t page_number(const Device *flash, Side side, uint32_t page, uint32_t slot);
+static uint64_t set_number(const Device *flash, Side side, uint32_t slot);
+#endif
 static MaybeU32 committed(const Device *flash, Side side);
-static bool state_is_blank(const Device *flash, uint32_t page);
+EE_IN_PLACE bool state_is_blank(const Device *flash, uint32_t page);
 static uint32_t blank_to(const Device *flash, uint32_t page, uint32_t from);
-static bool is_erased(ListOfU64 numbers);
-static uint32_t erased_in(ListOfU64 numbers);
+EE_APART bool is_erased(const uint64_t *numbers_items, uint32_t numbers_len);
+static uint32_t erased_in(const uint64_t *numbers_items, uint32_t numbers_len);
 static bool is_written(Word word);
 static bool is_torn(Word word);
 static bool is_slot(uint64_t number);
@@ -892,15 +974,15 @@ static ScanResult scan(const Device *flash);
 static bool is_unformatted(const Device *flash);
 static LiveSetResult live_set(const Device *flash);
 static FrontResult front_of(const Device *flash, Side side, uint32_t generation);
-static UsedResult used_of_page(const Device *flash, Side side, uint32_t generation, uint32_t page,
+static PlaceResult used_of_page(const Device *flash, Side side, uint32_t generation, uint32_t page,
         bool full);
-static UsedResult unused_from(const Device *flash, Side side, uint32_t generation, uint32_t page,
+static PlaceResult unused_from(const Device *flash, Side side, uint32_t generation, uint32_t page,
         bool full);
 static MaybeIndex foreign_in_header(const Device *flash, Side side, uint32_t generation,
         uint32_t page);
 static uint32_t first_told(uint32_t page);
 EE_APART uint32_t used_to(const Device *flash, uint32_t page);
-static uint32_t slots_in(ListOfU64 numbers);
+static uint32_t slots_in(const uint64_t *numbers_items, uint32_t numbers_len);
 static void batch_new(Batch *made);
 EE_IN_PLACE MaybeLive batch_get(const Batch *self, uint32_t place);
 static void batch_take_out(Batch *self);
@@ -914,9 +996,11 @@ EE_IN_PLACE MaybeAddress batch_last_if_full(const Batch *self);
 static uint16_t batch_greatest(const Batch *self);
 static void batch_keep_living(Batch *self);
 static uint32_t one_more(uint32_t count);
-static uint32_t place_in(ListOfU64 rising, uint16_t address);
-static void batch_items_put_in(RoomOfU64 list, uint32_t place, uint32_t end, uint64_t number);
-static uint32_t keep(RoomOfU64 numbers, uint32_t count);
+static uint32_t batch_items_place_in(const uint64_t *rising_items, uint32_t rising_len,
+        uint16_t address);
+static void batch_items_put_in(uint64_t *list_items, uint32_t list_len, uint32_t place,
+        uint32_t end, uint64_t number);
+static uint32_t keep(uint64_t *numbers_items, uint32_t numbers_len, uint32_t count);
 EE_APART void live_batch_new(LiveBatch *made);
 static void next_batch(const Device *flash, const Layout *layout, MaybeAddress after,
         LiveBatch *batch);
@@ -924,10 +1008,15 @@ static uint16_t number_of(MaybeAddress after);
 static void gather(const Device *flash, Side side, uint16_t above, Batch *nearest);
 static void gather_page(const Device *flash, Side side, uint32_t page, uint16_t above,
         Batch *nearest);
-EE_APART uint32_t note_all(uint16_t above, uint32_t span, ListOfU64 numbers, Batch *nearest);
+EE_APART uint32_t note_all(uint16_t above, uint32_t span, const uint64_t *numbers_items,
+        uint32_t numbers_len, Batch *nearest);
 static uint32_t note_within(uint16_t above, uint32_t span, uint64_t number, Batch *nearest);
 static uint32_t span_of(const Batch *nearest, uint16_t above);
 static bool is_within(uint16_t address, uint16_t above, uint32_t span);
+#ifdef EE_INDEX
+static Word slot_word(const Device *flash, const Layout *layout, uint32_t slot);
+static uint32_t slot_value(const Device *flash, const Layout *layout, uint32_t slot);
+#endif
 static MaybeU32 latest(const Device *flash, const Layout *layout, Address address);
 static MaybeLive next_live(const Device *flash, const Layout *layout, MaybeAddress after);
 static uint32_t live_count(const Device *flash, const Layout *layout);
@@ -935,7 +1024,7 @@ static uint32_t torn_slots(const Device *flash, const Layout *layout);
 static uint32_t torn_through(const Device *flash, Side side, uint32_t page, uint32_t before);
 static MaybeSaidValue said_in_page(const Device *flash, Side side, uint32_t page, uint32_t used,
         Address address);
-EE_APART uint32_t ending_in(ListOfU64 numbers, Address address);
+EE_APART uint32_t ending_in(const uint64_t *numbers_items, uint32_t numbers_len, Address address);
 EE_IN_PLACE MaybeSaidValue said(uint64_t number);
 static Step marking_mark(Device *flash, uint32_t page, Mark mark);
 static MaybeSide rescued_side(const Device *flash);
@@ -953,10 +1042,11 @@ EE_IN_PLACE MaybeSide only(bool first, bool second);
 static bool has_begun(const Device *flash, Side side);
 static bool is_left_behind(const Device *flash, Side side);
 static uint64_t change_word(Change self);
-static bool has_put(ListOfPut puts, Address address);
-static ListOfPut values_put(ListOfPut puts, bool forgets);
-static MaybeIndex first_twice(ListOfPut puts);
-static uint32_t live_with(const Device *flash, const Layout *layout, ListOfPut puts);
+static bool has_put(const Put *puts_items, uint32_t puts_len, Address address);
+static ListOfPut values_put(const Put *puts_items, uint32_t puts_len, bool forgets);
+static MaybeIndex first_twice(const Put *puts_items, uint32_t puts_len);
+static uint32_t live_with(const Device *flash, const Layout *layout, const Put *puts_items,
+        uint32_t puts_len);
 static Step finish(Device *flash, const Layout *layout);
 static Step mark_live_set(Device *flash, const Layout *layout);
 static Step mark_old_set(Device *flash, const Layout *layout);
@@ -972,11 +1062,20 @@ static void cursor_begin(Cursor *self, const Device *flash, const Layout *layout
 static MaybeLive cursor_next(Cursor *self, const Device *flash, const Layout *layout);
 static MaybeLive next_given(const Device *flash, const Layout *layout, LiveBatch *batch,
         uint32_t *given);
-static CopyingPlaceOrCut fill_set(Device *flash, const Layout *layout, ListOfPut puts,
-        bool forgets, Cursor *cursor);
-static CopyingPlaceOrCut put_all(Device *flash, const Layout *layout, ListOfPut puts);
-static CopyingPlaceOrCut copy_others(Device *flash, const Layout *layout, ListOfPut puts,
-        CopyingPlace place, Cursor *cursor);
+static CopyingPlaceOrCut fill_set(Device *flash, const Layout *layout, const Put *puts_items,
+        uint32_t puts_len, bool forgets, Cursor *cursor);
+#ifdef EE_INDEX
+static CopyingPlaceOrCut fill_set_lent_cursor(Device *flash, const Layout *layout,
+        const Put *puts_items, uint32_t puts_len, bool forgets, LentCursor *cursor);
+#endif
+static CopyingPlaceOrCut put_all(Device *flash, const Layout *layout, const Put *puts_items,
+        uint32_t puts_len);
+static CopyingPlaceOrCut copy_others(Device *flash, const Layout *layout, const Put *puts_items,
+        uint32_t puts_len, CopyingPlace place, Cursor *cursor);
+#ifdef EE_INDEX
+static CopyingPlaceOrCut copy_others_lent_cursor(Device *flash, const Layout *layout,
+        const Put *puts_items, uint32_t puts_len, CopyingPlace place, LentCursor *cursor);
+#endif
 static Step copy_one(Device *flash, const Layout *layout, bool passed, CopyingPlace *place,
         Address address, uint32_t value);
 EE_APART Step stage_put(Device *flash, const Layout *layout, CopyingPlace *place, Address address,
@@ -986,10 +1085,20 @@ static Step receive(Device *flash, const Layout *layout, CopyingPlace place);
 static Step copying_put_in(Device *flash, const Layout *layout, CopyingPlace place, Change change);
 static CopyingPlace first_place(const Device *flash, const Layout *layout);
 static CopyingPlace next_place(const Device *flash, const Layout *layout, CopyingPlace place);
-static Step transfer(Device *flash, Layout *layout, ListOfPut puts, bool forgets, Cursor *cursor);
-static Step transfer_by_slots(Device *flash, Layout *layout, ListOfPut puts, bool forgets);
-static CopyingPlaceOrCut move_map(Device *flash, const Layout *layout, ListOfPut puts,
+static Step transfer(Device *flash, Layout *layout, const Put *puts_items, uint32_t puts_len,
         bool forgets, Cursor *cursor);
+#ifdef EE_INDEX
+static Step transfer_lent_cursor(Device *flash, Layout *layout, const Put *puts_items,
+        uint32_t puts_len, bool forgets, LentCursor *cursor);
+#endif
+static Step transfer_by_slots(Device *flash, Layout *layout, const Put *puts_items,
+        uint32_t puts_len, bool forgets);
+static CopyingPlaceOrCut move_map(Device *flash, const Layout *layout, const Put *puts_items,
+        uint32_t puts_len, bool forgets, Cursor *cursor);
+#ifdef EE_INDEX
+static CopyingPlaceOrCut move_map_lent_cursor(Device *flash, const Layout *layout,
+        const Put *puts_items, uint32_t puts_len, bool forgets, LentCursor *cursor);
+#endif
 static Step transfer_nothing(Device *flash, Layout *layout);
 static Step move_nothing(Device *flash, const Layout *layout);
 static Step clear(Device *flash, const Layout *layout);
@@ -1001,18 +1110,25 @@ EE_IN_PLACE Step open_page(Device *flash, const Layout *layout, uint32_t page);
 EE_IN_PLACE Step push(Device *flash, const Layout *layout, uint32_t page, uint32_t at,
         Change change);
 EE_IN_PLACE Step append_change(Device *flash, Layout *layout, Change change);
-static Step move_unindexed(Device *flash, Layout *layout, ListOfPut puts, bool forgets);
+static Step move_unindexed(Device *flash, Layout *layout, const Put *puts_items, uint32_t puts_len,
+        bool forgets);
+#ifdef EE_INDEX
+static Step move_changes_lent_cursor(Device *flash, Layout *layout, const Put *puts_items,
+        uint32_t puts_len, bool forgets, LentCursor *cursor);
+#endif
 static Step empty(Device *flash, Layout *layout);
 EE_IN_PLACE MaybeU32 slots_value_of(const Device *flash, const Layout *layout, Address address);
 EE_IN_PLACE uint32_t slots_live_count(const Device *flash, const Layout *layout);
-EE_IN_PLACE uint32_t slots_live_with(const Device *flash, const Layout *layout, ListOfPut puts);
+EE_IN_PLACE uint32_t slots_live_with(const Device *flash, const Layout *layout,
+        const Put *puts_items, uint32_t puts_len);
 EE_IN_PLACE MaybeLive slots_next_live(const Device *flash, const Layout *layout,
         MaybeAddress after);
 EE_IN_PLACE Step slots_make_ready(const Device *_flash, const Layout *_layout, Put _put);
-EE_IN_PLACE Step slots_make_room(const Device *_flash, const Layout *_layout, ListOfPut _puts);
-EE_IN_PLACE void slots_find_nothing(void);
+EE_IN_PLACE Step slots_make_room(const Device *_flash, const Layout *_layout,
+        const Put *_puts_items, uint32_t _puts_len);
 EE_IN_PLACE Step slots_append(Device *flash, Layout *layout, Change change);
-EE_IN_PLACE Step slots_transfer(Device *flash, Layout *layout, ListOfPut puts, bool forgets);
+EE_IN_PLACE Step slots_transfer(Device *flash, Layout *layout, const Put *puts_items,
+        uint32_t puts_len, bool forgets);
 static ReadResult known_read(const Known *self, const Device *flash, Address address);
 EE_IN_PLACE WriteResult known_write(Known *self, Device *flash, Address address, uint32_t value);
 EE_IN_PLACE ForgetResult known_forget(Known *self, Device *flash, Address address);
@@ -1021,16 +1137,15 @@ EE_IN_PLACE WriteResult known_append_value(Known *self, Device *flash, Address a
         uint32_t value);
 static WriteResult known_move_value(Known *self, Device *flash, Address address, uint32_t value);
 static bool known_has_no_place(const Known *self, const Device *flash, Address address);
-static Store store_of(Device flash, Layout layout);
 static uint32_t store_torn_slots(const Store *self);
 static WriteAllResult store_write_one(Store *self, Put put);
-static WriteAllResult store_write_several(Store *self, ListOfPut puts);
-static bool store_is_full_for_all(const Store *self, ListOfPut puts);
+static WriteAllResult store_write_several(Store *self, const Put *puts_items, uint32_t puts_len);
+static bool store_is_full_for_all(const Store *self, const Put *puts_items, uint32_t puts_len);
 static bool store_is_last(const Store *self);
 static uint32_t store_slots(const Store *self);
 static ReadResult store_read(const Store *self, Address address);
 EE_IN_PLACE WriteResult store_write(Store *self, Address address, uint32_t value);
-static WriteAllResult store_write_all(Store *self, ListOfPut changes);
+static WriteAllResult store_write_all(Store *self, const Put *changes_items, uint32_t changes_len);
 static ForgetResult store_forget(Store *self, Address address);
 static ClearResult store_clear(Store *self);
 static CleanResult store_clean_step(Store *self);
@@ -1047,23 +1162,90 @@ static bool is_startable(const Device *flash, ScanFault fault);
 static bool holds_none(const Device *flash);
 static bool page_holds(const Device *flash, uint32_t page);
 static LayoutOrOpenFault start_anew(Device *flash);
-static RescueResult rescue_uncounted(Device flash);
 static LayoutOrCut rescue_set(Device *flash, Side side, uint32_t generation);
+#ifdef EE_INDEX
+static void renumber(Entry *entries_items, uint32_t entries_len, const Put *puts_items,
+        uint32_t puts_len);
+static IndexPair next_number(uint32_t number, const Put *puts_items, uint32_t puts_len,
+        Address address);
+static MaybeIndex entries_place_in(const Put *puts_items, uint32_t puts_len, Address address);
+static uint32_t lent_list_capacity(const LentList *self);
+static void lent_list_clear(LentList *self);
+static ListOfEntry lent_list_entries(const LentList *self);
+static PlaceResult lent_list_find(const LentList *self, Address address);
+static Step lent_list_insert(LentList *self, Address address, uint32_t number);
+static void lent_list_remove(LentList *self, Address address);
+static void lent_list_renumber(LentList *self, const Put *puts_items, uint32_t puts_len);
+static void lent_list_put_in(Entry *room_items, uint32_t room_len, uint32_t count, uint32_t place,
+        Entry entry);
+static void take_out(Entry *room_items, uint32_t room_len, uint32_t count, uint32_t place);
+static Step enter_slots(LentList *list, const Device *flash, const Layout *layout);
+static Step enter(LentList *list, uint32_t number, Slot said_2);
+EE_IN_PLACE MaybeIndex slot_in(const LentList *list, Address address);
+static bool has(const LentList *list, Address address);
+static ListOfEntry entries_above(const LentList *list, MaybeAddress after);
+static uint32_t place_above(const LentList *list, Address address);
+static uint32_t count_new(const LentList *list, const Put *puts_items, uint32_t puts_len);
+static uint32_t value_in(const Device *flash, const Layout *layout, uint32_t number);
+static MaybeU32 value_indexed(const LentList *list, const Device *flash, const Layout *layout,
+        Address address);
+EE_IN_PLACE MaybePlaced first_above(const LentList *list, MaybeAddress after);
+static MaybeLive next_indexed(const LentList *list, const Device *flash, const Layout *layout,
+        MaybeAddress after);
+static IndexCursor index_cursor_new(const LentList *list, uint32_t fill);
+static MaybeLive index_cursor_next(IndexCursor *self, const Device *flash, const Layout *layout);
+static MaybeShown next_shown(const Entry *entries_items, uint32_t entries_len, uint32_t fill);
+static void lent_cursor_begin(LentCursor *self, const Device *flash, const Layout *layout);
+static MaybeLive lent_cursor_next(LentCursor *self, const Device *flash, const Layout *layout);
+static Step enter_hidden(LentList *list, const Put *puts_items, uint32_t puts_len, uint32_t fill);
+static Step enter_new(LentList *list, Address address, uint32_t number);
+static void follow(LentList *list, const Put *puts_items, uint32_t puts_len, bool forgets);
+static void leave_all(LentList *list, const Put *puts_items, uint32_t puts_len);
+static void leave(LentList *list, Address address);
+static void leave_forgotten(LentList *list, const Change *change);
+static void lent_index_read(LentIndex *self, const Device *flash, const Layout *layout);
+static void lent_index_cursor(const LentIndex *self, const Device *_flash, const Layout *layout,
+        LentCursor *made);
+static void lent_index_follow(LentIndex *self, const Device *flash, const Layout *layout,
+        const Put *puts_items, uint32_t puts_len, bool forgets);
+static MaybeU32 lent_index_value_of(const LentIndex *self, const Device *flash,
+        const Layout *layout, Address address);
+static uint32_t lent_index_live_count(const LentIndex *self, const Device *flash,
+        const Layout *layout);
+static uint32_t lent_index_live_with(const LentIndex *self, const Device *flash,
+        const Layout *layout, const Put *puts_items, uint32_t puts_len);
+static MaybeLive lent_index_next_live(const LentIndex *self, const Device *flash,
+        const Layout *layout, MaybeAddress after);
+static Step lent_index_make_ready(LentIndex *self, const Device *_flash, const Layout *layout,
+        Put put);
+static Step lent_index_make_room(LentIndex *self, const Device *_flash, const Layout *layout,
+        const Put *puts_items, uint32_t puts_len);
+static void lent_index_read_anew(LentIndex *self, const Device *flash, const Layout *layout);
+static void lent_index_find_nothing(LentIndex *self);
+static Step lent_index_append(LentIndex *self, Device *flash, Layout *layout, Change change);
+static Step lent_index_transfer(LentIndex *self, Device *flash, Layout *layout,
+        const Put *puts_items, uint32_t puts_len, bool forgets);
+#endif
 static Word word_of(uint64_t number, uint64_t check);
 static uint64_t complement_of(uint64_t number);
 static Word pairs_word(const Numbers *self, uint32_t page, uint32_t at);
-static ListOfU64 pairs_run(const Numbers *self, uint32_t page, uint32_t at, RoomOfU64 room);
+static ListOfU64 pairs_run(const Numbers *self, uint32_t page, uint32_t at, uint64_t *room_items,
+        uint32_t room_len);
 static Step pairs_program(Numbers *self, uint32_t page, uint32_t at, uint64_t value);
-static void fill_run(const Numbers *nor, uint32_t page, uint32_t at, RoomOfU64 room);
-static void fill_from_window(ListOfU64 numbers, RoomOfU64 room);
-static void fill_by_reading(const Numbers *nor, uint32_t page, uint32_t at, RoomOfU64 room);
+static void fill_run(const Numbers *nor, uint32_t page, uint32_t at, uint64_t *room_items,
+        uint32_t room_len);
+static void fill_from_window(const uint64_t *numbers_items, uint32_t numbers_len,
+        uint64_t *room_items, uint32_t room_len);
+static void fill_by_reading(const Numbers *nor, uint32_t page, uint32_t at, uint64_t *room_items,
+        uint32_t room_len);
 static uint64_t number_of_pair(uint64_t number, uint64_t check);
 EE_IN_PLACE bool is_whole(uint64_t number, uint64_t check);
 static U32AndU32 halves(uint64_t number);
 static MaybeLowPair first_low(const Numbers *nor);
 static MaybeIndex first_low_in(const Numbers *nor, uint32_t page);
 static MaybeIndex first_low_from(const Numbers *nor, uint32_t page, uint32_t from, uint32_t count);
-static MaybeIndex low_in_window(ListOfU64 numbers, uint32_t count);
+static MaybeIndex low_in_window(const uint64_t *numbers_items, uint32_t numbers_len,
+        uint32_t count);
 static MaybeIndex low_read(const Numbers *nor, uint32_t page, uint32_t from, uint32_t count);
 static bool is_low(uint64_t number, uint64_t check);
 
@@ -1108,29 +1290,43 @@ static Step step_ended(const Device *device, uint32_t failed) {
 }
 
 /* So many words or numbers of a page from a place on, where C has them in memory; else no items. */
-static ListOfU64 device_seen(const ee_flash *flash, uint32_t page, uint32_t at, uint32_t count) {
-    ListOfU64 seen = { .items = NULL, .len = count };
-    if (flash->words != NULL) {
-        seen.items = flash->words(flash->context, page, at, count);
+static const uint64_t *seen_at(const ee_flash *flash, uint32_t page, uint32_t at, uint32_t count) {
+    return flash->words == NULL ? NULL : flash->words(flash->context, page, at, count);
+}
+
+/* A read of a number gave this, which isn't 0: unless the number is torn the device is off from
+ * here on. */
+EE_APART void number_failed(const Device *device, uint32_t failed) {
+    if (failed != EE_TORN) {
+        turn_off(device);
     }
-    return seen;
 }
 
 /* A number of a flash of numbers. One that can't be read is taken as 0: no word of a store is 0, so
- * none is made of it. No read follows one that failed. While the device is on it has the flash that
- * it had. */
-static uint64_t numbers_read(const Numbers *numbers, uint32_t page, uint32_t at) {
-    const ee_flash *const flash = numbers->device->power->flash;
-    uint64_t number = 0u;
-    if (flash == NULL || !device_found(numbers->device, flash, page, at, &number)) {
+ * none is made of it. No read follows one that failed. */
+EE_APART uint64_t number_at(const Device *device, uint32_t page, uint32_t at) {
+    const ee_flash *const flash = device->power->flash;
+    uint64_t number;
+    if (flash == NULL) {
+        return 0u;
+    }
+    const uint32_t failed = flash->word(flash->context, page, at, &number);
+    if (failed != 0u) {
+        number_failed(device, failed);
         return 0u;
     }
     return number;
 }
 
-static ListOfU64 numbers_window(const Numbers *numbers, uint32_t page, uint32_t at,
+/* These two stand in place, so that nothing of what they take and give goes through memory. While
+ * the device is on it has the flash that it had. */
+EE_IN_PLACE uint64_t numbers_read(const Numbers *numbers, uint32_t page, uint32_t at) {
+    return number_at(numbers->device, page, at);
+}
+
+EE_IN_PLACE ListOfU64 numbers_window(const Numbers *numbers, uint32_t page, uint32_t at,
         uint32_t count) {
-    return device_seen(numbers->flash, page, at, count);
+    return (ListOfU64){ .items = seen_at(numbers->flash, page, at, count), .len = count };
 }
 
 static Step numbers_program(const Numbers *numbers, uint32_t page, uint32_t at, uint64_t number) {
@@ -1146,15 +1342,15 @@ static Numbers numbers_of(const Device *device, const ee_flash *flash) {
 /* What a word holds. One that reads as all ones is erased, and one that can't be read is torn.
  *
  * Slots and pages are looked through within the shape. Only a move goes on from page to page, as
- * far
- * as words say that change from look to look, and it asks for the first word of each page first. */
+ * far as words say that change from look to look, and it asks for the first word of each page
+ * first. */
 static Word device_word(const Device *device, uint32_t page, uint32_t at) {
     const ee_flash *const flash = device->power->flash;
     if (flash == NULL || (at == 0u && page >= 2u * flash->pages)) {
         turn_off(device);
         return word_torn();
     }
-    if (flash->kind != EE_WORDS) {
+    if (EE_IS_OF_PAIRS(flash)) {
         const Numbers numbers = numbers_of(device, flash);
         return pairs_word(&numbers, page, at);
     }
@@ -1168,8 +1364,15 @@ static Word device_word(const Device *device, uint32_t page, uint32_t at) {
     return word_held(number);
 }
 
-/* Asks for each word of a run. One that can't be read is 0. No read follows one that failed, and
- * what the room has then counts for nothing. */
+/* Nothing is read any more, and what a run gives then counts for nothing: it is the same each
+ * time. */
+EE_APART void fill_unread(uint64_t *items, uint32_t len) {
+    for (uint32_t at = 0u; at < len; at++) {
+        items[at] = UNREAD;
+    }
+}
+
+/* Asks for each word of a run. One that can't be read is 0. No read follows one that failed. */
 static void device_fill(const Device *device, const ee_flash *flash, uint32_t page, uint32_t at,
         RoomOfU64 room) {
     for (uint32_t place = 0u; place < room.len; place++) {
@@ -1178,6 +1381,7 @@ static void device_fill(const Device *device, const ee_flash *flash, uint32_t pa
             room.items[place] = 0u;
             if (failed != EE_TORN) {
                 turn_off(device);
+                fill_unread(&room.items[place], room.len - place);
                 return;
             }
         }
@@ -1187,23 +1391,32 @@ static void device_fill(const Device *device, const ee_flash *flash, uint32_t pa
 /* The numbers of the words from a place on, as many as there is room for: all ones of an erased
  * word, 0 of a torn one. They stand in the room, or where C has them. It asks for pages as
  * `device_word` does. */
-static ListOfU64 device_run(const Device *device, uint32_t page, uint32_t at, RoomOfU64 room) {
-    const ListOfU64 filled = { .items = room.items, .len = room.len };
+EE_APART const uint64_t *run_at(const Device *device, uint32_t page, uint32_t at, uint64_t *items,
+        uint32_t len) {
     const ee_flash *const flash = device->power->flash;
     if (flash == NULL || (at == 0u && page >= 2u * flash->pages)) {
         turn_off(device);
-        return filled;
+        fill_unread(items, len);
+        return items;
     }
-    if (flash->kind != EE_WORDS) {
+    if (EE_IS_OF_PAIRS(flash)) {
         const Numbers numbers = numbers_of(device, flash);
-        return pairs_run(&numbers, page, at, room);
+        pairs_run(&numbers, page, at, items, len);
+        return items;
     }
-    const ListOfU64 seen = device_seen(flash, page, at, room.len);
-    if (seen.items != NULL) {
+    const uint64_t *const seen = seen_at(flash, page, at, len);
+    if (seen != NULL) {
         return seen;
     }
-    device_fill(device, flash, page, at, room);
-    return filled;
+    device_fill(device, flash, page, at, (RoomOfU64){ .items = items, .len = len });
+    return items;
+}
+
+/* The same as a list, which has the room's length: in place, so that no list goes through
+ * memory. */
+EE_IN_PLACE ListOfU64 device_run(const Device *device, uint32_t page, uint32_t at,
+        RoomOfU64 room) {
+    return (ListOfU64){ .items = run_at(device, page, at, room.items, room.len), .len = room.len };
 }
 
 static Step device_program(const Device *device, uint32_t page, uint32_t at, uint64_t value) {
@@ -1211,7 +1424,7 @@ static Step device_program(const Device *device, uint32_t page, uint32_t at, uin
     if (flash == NULL) {
         return CUT;
     }
-    if (flash->kind != EE_WORDS) {
+    if (EE_IS_OF_PAIRS(flash)) {
         Numbers numbers = numbers_of(device, flash);
         return pairs_program(&numbers, page, at, value);
     }
@@ -1225,6 +1438,97 @@ static Step device_erase(const Device *device, uint32_t page) {
         return CUT;
     }
     return step_ended(device, flash->erase(flash->context, page));
+}
+
+/* ---- By hand: how a store finds values. By the index that its flash lends, if ee.c was compiled
+ * with EE_INDEX and there is one; else it looks through its slots. */
+
+#ifdef EE_INDEX
+#ifdef __GNUC__
+#define EE_MOVE __builtin_memmove /* takes no header */
+#else
+#include <string.h>
+#define EE_MOVE memmove
+#endif
+
+/* The place of the entry of an address, or in an error the place where one would stand. */
+static PlaceResult search(const Entry *entries, uint32_t count, Address address) {
+    uint32_t from = 0u;
+    uint32_t to = count;
+    while (from < to) {
+        const uint32_t middle = (from + to) / 2u;
+        if (entries[middle].first == address) {
+            return place_result_ok(middle);
+        }
+        if (entries[middle].first < address) {
+            from = middle + 1u;
+        } else {
+            to = middle;
+        }
+    }
+    return place_result_err(from);
+}
+
+/* Moves the entries from a place up to another, so that they begin at a third. */
+static void copy_within(Entry *entries, uint32_t from, uint32_t end, uint32_t to) {
+    EE_MOVE(&entries[to], &entries[from], (size_t)(end - from) * sizeof(Entry));
+}
+
+#define EE_FIND(self, name, ...) \
+    (*(self) == NULL ? slots_##name(__VA_ARGS__) : lent_index_##name(*(self), __VA_ARGS__))
+#else
+#define EE_FIND(self, name, ...) ((void)(self), slots_##name(__VA_ARGS__))
+#endif
+
+EE_IN_PLACE MaybeU32 lookup_value_of(const Lookup *self, const Device *flash, const Layout *layout,
+        Address address) {
+    return EE_FIND(self, value_of, flash, layout, address);
+}
+
+EE_IN_PLACE uint32_t lookup_live_count(const Lookup *self, const Device *flash,
+        const Layout *layout) {
+    return EE_FIND(self, live_count, flash, layout);
+}
+
+EE_IN_PLACE uint32_t lookup_live_with(const Lookup *self, const Device *flash, const Layout *layout,
+        const Put *puts, uint32_t count) {
+    return EE_FIND(self, live_with, flash, layout, puts, count);
+}
+
+EE_IN_PLACE MaybeLive lookup_next_live(const Lookup *self, const Device *flash,
+        const Layout *layout,
+        MaybeAddress after) {
+    return EE_FIND(self, next_live, flash, layout, after);
+}
+
+EE_IN_PLACE Step lookup_make_ready(Lookup *self, const Device *flash, const Layout *layout,
+        Put put) {
+    return EE_FIND(self, make_ready, flash, layout, put);
+}
+
+EE_IN_PLACE Step lookup_make_room(Lookup *self, const Device *flash, const Layout *layout,
+        const Put *puts, uint32_t count) {
+    return EE_FIND(self, make_room, flash, layout, puts, count);
+}
+
+EE_IN_PLACE Step lookup_append(Lookup *self, Device *flash, Layout *layout, Change change) {
+    return EE_FIND(self, append, flash, layout, change);
+}
+
+EE_IN_PLACE Step lookup_transfer(Lookup *self, Device *flash, Layout *layout, const Put *puts,
+        uint32_t count, bool forgets) {
+    return EE_FIND(self, transfer, flash, layout, puts, count, forgets);
+}
+
+/* Slots that keep nothing have nothing to follow here. */
+EE_IN_PLACE void lookup_find_nothing(Lookup *self) {
+#ifdef EE_INDEX
+    if (*self != NULL) {
+        lent_index_find_nothing(*self);
+    }
+#else
+    (void)self;
+#endif
 }
 
 /* ---- ee_flash/shape.rs: How large a device is: two sets of as many pages, and each page a
@@ -1373,6 +1677,32 @@ static Word page_slot(const Device *flash, Side side, uint32_t page, uint32_t sl
     return set_word(flash, side, page, HEADER_WORDS + slot);
 }
 
+#ifdef EE_INDEX
+/* The slot of this number of a set, counted from 0. */
+static Word set_slot(const Device *flash, Side side, uint32_t slot) {
+    const uint32_t slots = flash->shape.words - HEADER_WORDS;
+    return page_slot(flash, side, slot / slots, slot % slots);
+}
+
+/* The number of the slot of this number of a page of a set, both counted from 0: it says
+ * what the slot says. */
+static uint64_t page_number(const Device *flash, Side side, uint32_t page, uint32_t slot) {
+    uint64_t room[1u];
+    for (uint32_t at = 0u; at < 1u; at++) {
+        room[at] = 0u;
+    }
+    const ListOfU64 run = device_run(flash, first_page(flash, side) + page, HEADER_WORDS + slot,
+            (RoomOfU64){ .items = room, .len = 1u });
+    return run.items[0u];
+}
+
+/* The number of the slot of this number of a set, counted from 0: it says what the slot says. */
+static uint64_t set_number(const Device *flash, Side side, uint32_t slot) {
+    const uint32_t slots = flash->shape.words - HEADER_WORDS;
+    return page_number(flash, side, slot / slots, slot % slots);
+}
+#endif
+
 /* The generation with which a set is committed. */
 static MaybeU32 committed(const Device *flash, Side side) {
     uint64_t room[COMMITTING];
@@ -1381,8 +1711,8 @@ static MaybeU32 committed(const Device *flash, Side side) {
     }
     const ListOfU64 numbers = device_run(flash, first_page(flash, side), 0u,
             (RoomOfU64){ .items = room, .len = COMMITTING });
-    /* A torn word is 0 in a run, and an erased one all ones: neither is a mark or a receive word.
-     * */
+    /* A torn word is 0 in a run, and an erased one all ones: neither is a mark or a receive
+     * word. */
     if (numbers.items[1u] == MARK) {
         return read_receive(word_held(numbers.items[0u]));
     }
@@ -1393,7 +1723,7 @@ static MaybeU32 committed(const Device *flash, Side side) {
  * the state. */
 
 /* Whether every word of a page is erased. Pages are numbered as for `state_of`. */
-static bool state_is_blank(const Device *flash, uint32_t page) {
+EE_IN_PLACE bool state_is_blank(const Device *flash, uint32_t page) {
     return blank_to(flash, page, 0u) == flash->shape.words;
 }
 
@@ -1402,17 +1732,14 @@ static bool state_is_blank(const Device *flash, uint32_t page) {
 static uint32_t blank_to(const Device *flash, uint32_t page, uint32_t from) {
     const uint32_t words = flash->shape.words;
     uint64_t room[RUN];
-    for (uint32_t at = 0u; at < RUN; at++) {
-        room[at] = UNREAD;
-    }
     uint32_t at = from;
     /* The first run has one word, since that is written in most pages that aren't blank. */
     uint32_t end = from + 1u;
     while (at < words) {
         const ListOfU64 run = run_from(flash, page, at, end, room);
         /* Asked first, since most runs are, and it is a shorter loop than one that counts. */
-        if (!is_erased(run)) {
-            return at + erased_in(run);
+        if (!is_erased(run.items, run.len)) {
+            return at + erased_in(run.items, run.len);
         }
         at += run.len;
         end = words;
@@ -1421,22 +1748,32 @@ static uint32_t blank_to(const Device *flash, uint32_t page, uint32_t from) {
 }
 
 /* Whether all numbers are all ones. */
-static bool is_erased(ListOfU64 numbers) {
+EE_APART bool is_erased(const uint64_t *numbers_items, uint32_t numbers_len) {
+    const ListOfU64 numbers = { .items = numbers_items, .len = numbers_len };
     uint64_t all = UINT64_MAX;
-    for (uint32_t at = 0u; at < numbers.len; at++) {
-        const uint64_t *const number = &numbers.items[at];
-        all &= *number;
+    if (numbers.len != 0u) {
+        const uint64_t *number = numbers.items;
+        const uint64_t *const number_end = number + numbers.len;
+        do {
+            all &= *number;
+            number++;
+        } while (number != number_end);
     }
     return all == UINT64_MAX;
 }
 
 /* How many numbers, from the first on, are all ones. */
-static uint32_t erased_in(ListOfU64 numbers) {
-    for (uint32_t place = 0u; place < numbers.len; place++) {
-        const uint64_t *const number = &numbers.items[place];
-        if (*number != UINT64_MAX) {
-            return place;
-        }
+static uint32_t erased_in(const uint64_t *numbers_items, uint32_t numbers_len) {
+    const ListOfU64 numbers = { .items = numbers_items, .len = numbers_len };
+    if (numbers.len != 0u) {
+        const uint64_t *number = numbers.items;
+        const uint64_t *const number_end = number + numbers.len;
+        do {
+            if (*number != UINT64_MAX) {
+                return (uint32_t)(number - numbers.items);
+            }
+            number++;
+        } while (number != number_end);
     }
     return numbers.len;
 }
@@ -1628,7 +1965,7 @@ static FrontResult front_of(const Device *flash, Side side, uint32_t generation)
     uint32_t used = 0u;
     uint32_t last = 0u;
     for (uint32_t page = 0u, end = shape.pages; page < end; page++) {
-        const UsedResult used_of_page_result = used_of_page(flash, side, generation, page,
+        const PlaceResult used_of_page_result = used_of_page(flash, side, generation, page,
                 used == page * slots);
         if (!used_of_page_result.ok) {
             const uint32_t at = used_of_page_result.error;
@@ -1645,34 +1982,34 @@ static FrontResult front_of(const Device *flash, Side side, uint32_t generation)
 
 /* How many slots of a page of a live set are used, none where not all before them are; or the
  * first word of the page that may not stand there. */
-static UsedResult used_of_page(const Device *flash, Side side, uint32_t generation, uint32_t page,
+static PlaceResult used_of_page(const Device *flash, Side side, uint32_t generation, uint32_t page,
         bool full) {
-    const UsedResult from_result = unused_from(flash, side, generation, page, full);
+    const PlaceResult from_result = unused_from(flash, side, generation, page, full);
     if (!from_result.ok) {
-        return used_result_err(from_result.error);
+        return place_result_err(from_result.error);
     }
     const uint32_t from = from_result.value;
     /* From there on all have to be erased, the next slot first of all. */
     const uint32_t written = blank_to(flash, first_page(flash, side) + page, from);
     if (written < flash->shape.words) {
-        return used_result_err(written);
+        return place_result_err(written);
     }
-    return used_result_ok(u32_saturating_sub(from, HEADER_WORDS));
+    return place_result_ok(u32_saturating_sub(from, HEADER_WORDS));
 }
 
 /* The place in a page of a live set from which on all has to be erased: behind its used slots, or
  * its first word where not all slots before it are used. Or the first word of its header that
  * doesn't fit its place. */
-static UsedResult unused_from(const Device *flash, Side side, uint32_t generation, uint32_t page,
+static PlaceResult unused_from(const Device *flash, Side side, uint32_t generation, uint32_t page,
         bool full) {
     if (!full) {
-        return used_result_ok(0u);
+        return place_result_ok(0u);
     }
     const MaybeIndex maybe_foreign_in_header = foreign_in_header(flash, side, generation, page);
     if (maybe_foreign_in_header.some) {
-        return used_result_err(maybe_foreign_in_header.value);
+        return place_result_err(maybe_foreign_in_header.value);
     }
-    return used_result_ok(used_to(flash, first_page(flash, side) + page));
+    return place_result_ok(used_to(flash, first_page(flash, side) + page));
 }
 
 /* The first word of the header of a page of a live set that doesn't fit its place. */
@@ -1701,13 +2038,10 @@ static uint32_t first_told(uint32_t page) {
 EE_APART uint32_t used_to(const Device *flash, uint32_t page) {
     const uint32_t words = flash->shape.words;
     uint64_t room[RUN];
-    for (uint32_t at = 0u; at < RUN; at++) {
-        room[at] = UNREAD;
-    }
     uint32_t at = HEADER_WORDS;
     while (at < words) {
         const ListOfU64 run = run_from(flash, page, at, words, room);
-        const uint32_t slots = slots_in(run);
+        const uint32_t slots = slots_in(run.items, run.len);
         const bool all = slots == run.len;
         at += slots;
         if (!all) {
@@ -1722,12 +2056,17 @@ EE_APART uint32_t used_to(const Device *flash, uint32_t page) {
 }
 
 /* How many numbers, from the first on, are each of an element or a forgetting. */
-static uint32_t slots_in(ListOfU64 numbers) {
-    for (uint32_t place = 0u; place < numbers.len; place++) {
-        const uint64_t *const number = &numbers.items[place];
-        if (!is_slot(*number)) {
-            return place;
-        }
+static uint32_t slots_in(const uint64_t *numbers_items, uint32_t numbers_len) {
+    const ListOfU64 numbers = { .items = numbers_items, .len = numbers_len };
+    if (numbers.len != 0u) {
+        const uint64_t *number = numbers.items;
+        const uint64_t *const number_end = number + numbers.len;
+        do {
+            if (!is_slot(*number)) {
+                return (uint32_t)(number - numbers.items);
+            }
+            number++;
+        } while (number != number_end);
     }
     return numbers.len;
 }
@@ -1787,7 +2126,7 @@ static bool batch_put(Batch *self, uint64_t number) {
 
 /* How many of the addresses, which rise, are no greater than this one. */
 static uint32_t batch_place_through(const Batch *self, uint16_t address) {
-    return place_in((ListOfU64){ .items = self->numbers, .len = self->len }, address);
+    return batch_items_place_in(self->numbers, self->len, address);
 }
 
 /* Whether this address stands at this place. */
@@ -1803,7 +2142,7 @@ static void batch_set(Batch *self, uint32_t place, uint64_t number) {
 /* Puts a number in at this place. Where there is no room the last one falls out. */
 static void batch_insert(Batch *self, uint32_t place, uint64_t number) {
     const uint32_t end = one_more(self->len);
-    batch_items_put_in((RoomOfU64){ .items = self->numbers, .len = BATCH }, place, end, number);
+    batch_items_put_in(self->numbers, BATCH, place, end, number);
     self->len = end;
 }
 
@@ -1826,7 +2165,7 @@ static uint16_t batch_greatest(const Batch *self) {
 
 /* Keeps those that have a value. */
 static void batch_keep_living(Batch *self) {
-    self->len = keep((RoomOfU64){ .items = self->numbers, .len = BATCH }, self->len);
+    self->len = keep(self->numbers, BATCH, self->len);
 }
 
 /* One more, up to the room of a batch. */
@@ -1839,9 +2178,12 @@ static uint32_t one_more(uint32_t count) {
 
 /* How many of these addresses, which rise, are no greater than this one. It looks from the last
  * down, since most addresses are above all. */
-static uint32_t place_in(ListOfU64 rising, uint16_t address) {
+static uint32_t batch_items_place_in(const uint64_t *rising_items, uint32_t rising_len,
+        uint16_t address) {
+    const ListOfU64 rising = { .items = rising_items, .len = rising_len };
     uint32_t place = rising.len;
-    while (place > 0u && address < address_in(rising.items[place - 1u])) {
+    const uint64_t *last = rising.items + place;
+    while (place > 0u && address < address_in(*--last)) {
         place -= 1u;
     }
     return place;
@@ -1849,7 +2191,9 @@ static uint32_t place_in(ListOfU64 rising, uint16_t address) {
 
 /* Puts a number in at this place of a list, and moves what stands from there on to before `end`
  * one further; the last of these falls out. */
-static void batch_items_put_in(RoomOfU64 list, uint32_t place, uint32_t end, uint64_t number) {
+static void batch_items_put_in(uint64_t *list_items, uint32_t list_len, uint32_t place,
+        uint32_t end, uint64_t number) {
+    const RoomOfU64 list = { .items = list_items, .len = list_len };
     uint64_t carried = number;
     for (uint32_t at = place; at < end; at++) {
         const uint64_t next = list.items[at];
@@ -1859,7 +2203,8 @@ static void batch_items_put_in(RoomOfU64 list, uint32_t place, uint32_t end, uin
 }
 
 /* Moves those of the first `count` that give a value to the front, and says how many there are. */
-static uint32_t keep(RoomOfU64 numbers, uint32_t count) {
+static uint32_t keep(uint64_t *numbers_items, uint32_t numbers_len, uint32_t count) {
+    const RoomOfU64 numbers = { .items = numbers_items, .len = numbers_len };
     uint32_t kept = 0u;
     for (uint32_t place = 0u; place < count; place++) {
         const uint64_t number = numbers.items[place];
@@ -1916,23 +2261,26 @@ static void gather_page(const Device *flash, Side side, uint32_t page, uint16_t 
     const uint32_t words = flash->shape.words;
     uint32_t span = span_of(nearest, above);
     uint64_t room[RUN];
-    for (uint32_t at = 0u; at < RUN; at++) {
-        room[at] = UNREAD;
-    }
     uint32_t at = HEADER_WORDS;
     while (at < words) {
         const ListOfU64 run = run_from(flash, here, at, words, room);
         at += run.len;
-        span = note_all(above, span, run, nearest);
+        span = note_all(above, span, run.items, run.len, nearest);
     }
 }
 
 /* Notes what these numbers say, of so many addresses above this one, which are those that have a
  * place in the batch. Gives how many have one then. */
-EE_APART uint32_t note_all(uint16_t above, uint32_t span, ListOfU64 numbers, Batch *nearest) {
-    for (uint32_t at = 0u; at < numbers.len; at++) {
-        const uint64_t *const number = &numbers.items[at];
-        span = note_within(above, span, *number, nearest);
+EE_APART uint32_t note_all(uint16_t above, uint32_t span, const uint64_t *numbers_items,
+        uint32_t numbers_len, Batch *nearest) {
+    const ListOfU64 numbers = { .items = numbers_items, .len = numbers_len };
+    if (numbers.len != 0u) {
+        const uint64_t *number = numbers.items;
+        const uint64_t *const number_end = number + numbers.len;
+        do {
+            span = note_within(above, span, *number, nearest);
+            number++;
+        } while (number != number_end);
     }
     return span;
 }
@@ -1960,8 +2308,22 @@ static bool is_within(uint16_t address, uint16_t above, uint32_t span) {
     return u32_wrapping_sub((uint32_t)address, (uint32_t)above + 1u) < span;
 }
 
+#ifdef EE_INDEX
 /* ---- ee_pages/read.rs: What the slots of a live set say: values, the next live address, how
  * many are live, how many torn. */
+
+/* The word in a slot of the live set, by the slot's number, counted from 0 and below the capacity.
+ * The layout is the image's. */
+static Word slot_word(const Device *flash, const Layout *layout, uint32_t slot) {
+    return set_slot(flash, layout->side, slot);
+}
+
+/* The value that a slot of the live set says, by the slot's number, counted from 0 and below the
+ * capacity; any number where the slot says none. The layout is the image's. */
+static uint32_t slot_value(const Device *flash, const Layout *layout, uint32_t slot) {
+    return (uint32_t)(set_number(flash, layout->side, slot) >> 32u);
+}
+#endif
 
 /* The value of an address, `None` if it has none. It reads the slots in runs from the
  * newest down, each once, to the run with the first that says something of the address. The
@@ -2053,16 +2415,13 @@ static MaybeSaidValue said_in_page(const Device *flash, Side side, uint32_t page
         Address address) {
     const uint32_t here = first_page(flash, side) + page;
     uint64_t room[RUN];
-    for (uint32_t at = 0u; at < RUN; at++) {
-        room[at] = UNREAD;
-    }
     uint32_t left = used;
     while (left > 0u) {
         const uint32_t count = u32_least(RUN, left);
         left -= count;
         const ListOfU64 run = device_run(flash, here, HEADER_WORDS + left,
                 (RoomOfU64){ .items = room, .len = count });
-        const uint32_t ends = ending_in(run, address);
+        const uint32_t ends = ending_in(run.items, run.len, address);
         if (ends > 0u) {
             const MaybeSaidValue maybe_said = said(run.items[ends - 1u]);
             if (maybe_said.some) {
@@ -2076,9 +2435,11 @@ static MaybeSaidValue said_in_page(const Device *flash, Side side, uint32_t page
 
 /* How many of these numbers stand up to the last that ends in an address, 0 where none does. It
  * does no more than that, since most numbers end in another one. */
-EE_APART uint32_t ending_in(ListOfU64 numbers, Address address) {
+EE_APART uint32_t ending_in(const uint64_t *numbers_items, uint32_t numbers_len, Address address) {
+    const ListOfU64 numbers = { .items = numbers_items, .len = numbers_len };
     uint32_t left = numbers.len;
-    while (left > 0u && address_in(numbers.items[left - 1u]) != address) {
+    const uint64_t *last = numbers.items + left;
+    while (left > 0u && address_in(*--last) != address) {
         left -= 1u;
     }
     return left;
@@ -2313,18 +2674,24 @@ static uint64_t change_word(Change self) {
  * whether one has an address twice. */
 
 /* Whether one of the values is put at the address. */
-static bool has_put(ListOfPut puts, Address address) {
-    for (uint32_t at = 0u; at < puts.len; at++) {
-        const Put *const put = &puts.items[at];
-        if (put->address == address) {
-            return true;
-        }
+static bool has_put(const Put *puts_items, uint32_t puts_len, Address address) {
+    const ListOfPut puts = { .items = puts_items, .len = puts_len };
+    if (puts.len != 0u) {
+        const Put *put = puts.items;
+        const Put *const put_end = put + puts.len;
+        do {
+            if (put->address == address) {
+                return true;
+            }
+            put++;
+        } while (put != put_end);
     }
     return false;
 }
 
 /* Of what a transfer carries the values that are put: none, where their addresses are forgotten. */
-static ListOfPut values_put(ListOfPut puts, bool forgets) {
+static ListOfPut values_put(const Put *puts_items, uint32_t puts_len, bool forgets) {
+    const ListOfPut puts = { .items = puts_items, .len = puts_len };
     if (forgets) {
         return (ListOfPut){ .items = NULL, .len = 0u };
     }
@@ -2332,9 +2699,10 @@ static ListOfPut values_put(ListOfPut puts, bool forgets) {
 }
 
 /* The first entry, counted from 0, whose address an earlier one has. */
-static MaybeIndex first_twice(ListOfPut puts) {
+static MaybeIndex first_twice(const Put *puts_items, uint32_t puts_len) {
+    const ListOfPut puts = { .items = puts_items, .len = puts_len };
     for (uint32_t place = 0u, end = puts.len; place < end; place++) {
-        if (has_put((ListOfPut){ .items = puts.items, .len = place }, puts.items[place].address)) {
+        if (has_put(puts.items, place, puts.items[place].address)) {
             return maybe_index_some(place);
         }
     }
@@ -2342,13 +2710,19 @@ static MaybeIndex first_twice(ListOfPut puts) {
 }
 
 /* How many addresses have a value with these values, each of which is of an address of its own. */
-static uint32_t live_with(const Device *flash, const Layout *layout, ListOfPut puts) {
+static uint32_t live_with(const Device *flash, const Layout *layout, const Put *puts_items,
+        uint32_t puts_len) {
+    const ListOfPut puts = { .items = puts_items, .len = puts_len };
     uint32_t count = live_count(flash, layout);
-    for (uint32_t at = 0u; at < puts.len; at++) {
-        const Put *const put = &puts.items[at];
-        if (!latest(flash, layout, put->address).some) {
-            count += 1u;
-        }
+    if (puts.len != 0u) {
+        const Put *put = puts.items;
+        const Put *const put_end = put + puts.len;
+        do {
+            if (!latest(flash, layout, put->address).some) {
+                count += 1u;
+            }
+            put++;
+        } while (put != put_end);
     }
     return count;
 }
@@ -2512,14 +2886,17 @@ static MaybeLive next_given(const Device *flash, const Layout *layout, LiveBatch
 /* Fills the other set, which was opened, with the map after changes: the values that are put come
  * first, in their order, and then each other live address, rising. Where they are forgotten, their
  * addresses are left out alone. Gives how far that fills it. */
-static CopyingPlaceOrCut fill_set(Device *flash, const Layout *layout, ListOfPut puts,
-        bool forgets, Cursor *cursor) {
-    const CopyingPlaceOrCut first_result = put_all(flash, layout, values_put(puts, forgets));
+static CopyingPlaceOrCut fill_set(Device *flash, const Layout *layout, const Put *puts_items,
+        uint32_t puts_len, bool forgets, Cursor *cursor) {
+    const ListOfPut puts = { .items = puts_items, .len = puts_len };
+    const ListOfPut puts_2 = values_put(puts.items, puts.len, forgets);
+    const CopyingPlaceOrCut first_result = put_all(flash, layout, puts_2.items, puts_2.len);
     if (!first_result.ok) {
         return copying_place_or_cut_err();
     }
     const CopyingPlace first = first_result.value;
-    const CopyingPlaceOrCut all_result = copy_others(flash, layout, puts, first, cursor);
+    const CopyingPlaceOrCut all_result = copy_others(flash, layout, puts.items, puts.len, first,
+            cursor);
     if (!all_result.ok) {
         return copying_place_or_cut_err();
     }
@@ -2527,25 +2904,55 @@ static CopyingPlaceOrCut fill_set(Device *flash, const Layout *layout, ListOfPut
     return copying_place_or_cut_ok(all);
 }
 
+#ifdef EE_INDEX
+/* Fills the other set, which was opened, with the map after changes: the values that are put come
+ * first, in their order, and then each other live address, rising. Where they are forgotten, their
+ * addresses are left out alone. Gives how far that fills it. */
+static CopyingPlaceOrCut fill_set_lent_cursor(Device *flash, const Layout *layout,
+        const Put *puts_items, uint32_t puts_len, bool forgets, LentCursor *cursor) {
+    const ListOfPut puts = { .items = puts_items, .len = puts_len };
+    const ListOfPut puts_2 = values_put(puts.items, puts.len, forgets);
+    const CopyingPlaceOrCut first_result = put_all(flash, layout, puts_2.items, puts_2.len);
+    if (!first_result.ok) {
+        return copying_place_or_cut_err();
+    }
+    const CopyingPlace first = first_result.value;
+    const CopyingPlaceOrCut all_result = copy_others_lent_cursor(flash, layout, puts.items,
+            puts.len, first, cursor);
+    if (!all_result.ok) {
+        return copying_place_or_cut_err();
+    }
+    const CopyingPlace all = all_result.value;
+    return copying_place_or_cut_ok(all);
+}
+#endif
+
 /* Writes values into the first slots of the other set, in their order. Gives how far that fills
  * it. */
-static CopyingPlaceOrCut put_all(Device *flash, const Layout *layout, ListOfPut puts) {
+static CopyingPlaceOrCut put_all(Device *flash, const Layout *layout, const Put *puts_items,
+        uint32_t puts_len) {
+    const ListOfPut puts = { .items = puts_items, .len = puts_len };
     CopyingPlace place = first_place(flash, layout);
-    for (uint32_t at = 0u; at < puts.len; at++) {
-        const Put *const put = &puts.items[at];
-        const Address address = put->address;
-        const uint32_t value = put->value;
-        if (stage_put(flash, layout, &place, address, value) == CUT) {
-            return copying_place_or_cut_err();
-        }
+    if (puts.len != 0u) {
+        const Put *put = puts.items;
+        const Put *const put_end = put + puts.len;
+        do {
+            const Address address = put->address;
+            const uint32_t value = put->value;
+            if (stage_put(flash, layout, &place, address, value) == CUT) {
+                return copying_place_or_cut_err();
+            }
+            put++;
+        } while (put != put_end);
     }
     return copying_place_or_cut_ok(place);
 }
 
 /* Copies each live address but those of the changes to the other set, from this place on. Gives
  * how far it is filled then. */
-static CopyingPlaceOrCut copy_others(Device *flash, const Layout *layout, ListOfPut puts,
-        CopyingPlace place, Cursor *cursor) {
+static CopyingPlaceOrCut copy_others(Device *flash, const Layout *layout, const Put *puts_items,
+        uint32_t puts_len, CopyingPlace place, Cursor *cursor) {
+    const ListOfPut puts = { .items = puts_items, .len = puts_len };
     for (;;) {
         const MaybeLive maybe_address_and_value = cursor_next(cursor, flash, layout);
         if (!maybe_address_and_value.some) {
@@ -2553,13 +2960,35 @@ static CopyingPlaceOrCut copy_others(Device *flash, const Layout *layout, ListOf
         }
         const Address address = maybe_address_and_value.value.first;
         const uint32_t value = maybe_address_and_value.value.second;
-        const bool carries = has_put(puts, address);
+        const bool carries = has_put(puts.items, puts.len, address);
         if (copy_one(flash, layout, carries, &place, address, value) == CUT) {
             return copying_place_or_cut_err();
         }
     }
     return copying_place_or_cut_ok(place);
 }
+
+#ifdef EE_INDEX
+/* Copies each live address but those of the changes to the other set, from this place on. Gives
+ * how far it is filled then. */
+static CopyingPlaceOrCut copy_others_lent_cursor(Device *flash, const Layout *layout,
+        const Put *puts_items, uint32_t puts_len, CopyingPlace place, LentCursor *cursor) {
+    const ListOfPut puts = { .items = puts_items, .len = puts_len };
+    for (;;) {
+        const MaybeLive maybe_address_and_value = lent_cursor_next(cursor, flash, layout);
+        if (!maybe_address_and_value.some) {
+            break;
+        }
+        const Address address = maybe_address_and_value.value.first;
+        const uint32_t value = maybe_address_and_value.value.second;
+        const bool carries = has_put(puts.items, puts.len, address);
+        if (copy_one(flash, layout, carries, &place, address, value) == CUT) {
+            return copying_place_or_cut_err();
+        }
+    }
+    return copying_place_or_cut_ok(place);
+}
+#endif
 
 /* Copies a live address to the next slot of the other set, which is filled up to this place, unless
  * it is passed over. The place follows. */
@@ -2641,8 +3070,11 @@ static CopyingPlace next_place(const Device *flash, const Layout *layout, Copyin
  * to the other set, and makes that one live. The cursor, which is before the first, goes over the
  * live addresses. Of the layout it takes the set, in which any words may stand, and its
  * generation, no smaller than the one that the set is committed with. The layout follows. */
-static Step transfer(Device *flash, Layout *layout, ListOfPut puts, bool forgets, Cursor *cursor) {
-    const CopyingPlaceOrCut filled_result = move_map(flash, layout, puts, forgets, cursor);
+static Step transfer(Device *flash, Layout *layout, const Put *puts_items, uint32_t puts_len,
+        bool forgets, Cursor *cursor) {
+    const ListOfPut puts = { .items = puts_items, .len = puts_len };
+    const CopyingPlaceOrCut filled_result = move_map(flash, layout, puts.items, puts.len, forgets,
+            cursor);
     if (!filled_result.ok) {
         return CUT;
     }
@@ -2655,11 +3087,36 @@ static Step transfer(Device *flash, Layout *layout, ListOfPut puts, bool forgets
     return DONE;
 }
 
+#ifdef EE_INDEX
+/* Moves the map, with values that are put or without their addresses, where these are forgotten,
+ * to the other set, and makes that one live. The cursor, which is before the first, goes over the
+ * live addresses. Of the layout it takes the set, in which any words may stand, and its
+ * generation, no smaller than the one that the set is committed with. The layout follows. */
+static Step transfer_lent_cursor(Device *flash, Layout *layout, const Put *puts_items,
+        uint32_t puts_len, bool forgets, LentCursor *cursor) {
+    const ListOfPut puts = { .items = puts_items, .len = puts_len };
+    const CopyingPlaceOrCut filled_result = move_map_lent_cursor(flash, layout, puts.items,
+            puts.len, forgets, cursor);
+    if (!filled_result.ok) {
+        return CUT;
+    }
+    const CopyingPlace filled = filled_result.value;
+    *layout = (Layout){ .side = side_other(layout->side), .generation = layout->generation + 1u,
+            .fill = filled.slot, .current = filled.page };
+    if (finish(flash, layout) == CUT) {
+        return CUT;
+    }
+    return DONE;
+}
+#endif
+
 /* Moves the map as `transfer` does. It looks for the live addresses in the slots. */
-static Step transfer_by_slots(Device *flash, Layout *layout, ListOfPut puts, bool forgets) {
+static Step transfer_by_slots(Device *flash, Layout *layout, const Put *puts_items,
+        uint32_t puts_len, bool forgets) {
+    const ListOfPut puts = { .items = puts_items, .len = puts_len };
     Cursor cursor;
     cursor_new(flash, layout, &cursor);
-    if (transfer(flash, layout, puts, forgets, &cursor) == CUT) {
+    if (transfer(flash, layout, puts.items, puts.len, forgets, &cursor) == CUT) {
         return CUT;
     }
     return DONE;
@@ -2667,15 +3124,17 @@ static Step transfer_by_slots(Device *flash, Layout *layout, ListOfPut puts, boo
 
 /* Moves the map, with what it is to carry, to the other set, and makes that one live. Gives how
  * far that fills it. */
-static CopyingPlaceOrCut move_map(Device *flash, const Layout *layout, ListOfPut puts,
-        bool forgets, Cursor *cursor) {
+static CopyingPlaceOrCut move_map(Device *flash, const Layout *layout, const Put *puts_items,
+        uint32_t puts_len, bool forgets, Cursor *cursor) {
+    const ListOfPut puts = { .items = puts_items, .len = puts_len };
     if (clear(flash, layout) == CUT) {
         return copying_place_or_cut_err();
     }
     if (open_set(flash, layout) == CUT) {
         return copying_place_or_cut_err();
     }
-    const CopyingPlaceOrCut filled_result = fill_set(flash, layout, puts, forgets, cursor);
+    const CopyingPlaceOrCut filled_result = fill_set(flash, layout, puts.items, puts.len, forgets,
+            cursor);
     if (!filled_result.ok) {
         return copying_place_or_cut_err();
     }
@@ -2685,6 +3144,31 @@ static CopyingPlaceOrCut move_map(Device *flash, const Layout *layout, ListOfPut
     }
     return copying_place_or_cut_ok(filled);
 }
+
+#ifdef EE_INDEX
+/* Moves the map, with what it is to carry, to the other set, and makes that one live. Gives how
+ * far that fills it. */
+static CopyingPlaceOrCut move_map_lent_cursor(Device *flash, const Layout *layout,
+        const Put *puts_items, uint32_t puts_len, bool forgets, LentCursor *cursor) {
+    const ListOfPut puts = { .items = puts_items, .len = puts_len };
+    if (clear(flash, layout) == CUT) {
+        return copying_place_or_cut_err();
+    }
+    if (open_set(flash, layout) == CUT) {
+        return copying_place_or_cut_err();
+    }
+    const CopyingPlaceOrCut filled_result = fill_set_lent_cursor(flash, layout, puts.items,
+            puts.len, forgets, cursor);
+    if (!filled_result.ok) {
+        return copying_place_or_cut_err();
+    }
+    const CopyingPlace filled = filled_result.value;
+    if (commit(flash, layout) == CUT) {
+        return copying_place_or_cut_err();
+    }
+    return copying_place_or_cut_ok(filled);
+}
+#endif
 
 /* Makes the other set the live one with nothing in it, as `transfer` does with a map in which
  * nothing has a value. The layout follows. */
@@ -2819,12 +3303,28 @@ EE_IN_PLACE Step append_change(Device *flash, Layout *layout, Change change) {
 /* Makes changes to which no refusal applies with a transfer that they need, as
  * `move_changes` does, in a store without an index: it looks for the live addresses in the
  * slots. The layout follows. */
-static Step move_unindexed(Device *flash, Layout *layout, ListOfPut puts, bool forgets) {
-    if (transfer_by_slots(flash, layout, puts, forgets) == CUT) {
+static Step move_unindexed(Device *flash, Layout *layout, const Put *puts_items, uint32_t puts_len,
+        bool forgets) {
+    const ListOfPut puts = { .items = puts_items, .len = puts_len };
+    if (transfer_by_slots(flash, layout, puts.items, puts.len, forgets) == CUT) {
         return CUT;
     }
     return DONE;
 }
+
+#ifdef EE_INDEX
+/* Makes changes to which no refusal applies with a transfer that they need: values that are put,
+ * or the forgettings of their addresses. The cursor, which is before the first, goes over the live
+ * addresses. The layout follows. */
+static Step move_changes_lent_cursor(Device *flash, Layout *layout, const Put *puts_items,
+        uint32_t puts_len, bool forgets, LentCursor *cursor) {
+    const ListOfPut puts = { .items = puts_items, .len = puts_len };
+    if (transfer_lent_cursor(flash, layout, puts.items, puts.len, forgets, cursor) == CUT) {
+        return CUT;
+    }
+    return DONE;
+}
+#endif
 
 /* Makes a clear to which no refusal applies. The layout follows. */
 static Step empty(Device *flash, Layout *layout) {
@@ -2849,8 +3349,10 @@ EE_IN_PLACE uint32_t slots_live_count(const Device *flash, const Layout *layout)
 
 /* How many addresses have a value with these values, each of which is of an
  * address of its own. */
-EE_IN_PLACE uint32_t slots_live_with(const Device *flash, const Layout *layout, ListOfPut puts) {
-    return live_with(flash, layout, puts);
+EE_IN_PLACE uint32_t slots_live_with(const Device *flash, const Layout *layout,
+        const Put *puts_items, uint32_t puts_len) {
+    const ListOfPut puts = { .items = puts_items, .len = puts_len };
+    return live_with(flash, layout, puts.items, puts.len);
 }
 
 /* The next live address above `after`, or of all if `after` is `None`, with its value. */
@@ -2870,15 +3372,13 @@ EE_IN_PLACE Step slots_make_ready(const Device *_flash, const Layout *_layout, P
 
 /* Makes room for a transfer with these values. An `Err`, which only a new address meets,
  * leaves it as it was. */
-EE_IN_PLACE Step slots_make_room(const Device *_flash, const Layout *_layout, ListOfPut _puts) {
+EE_IN_PLACE Step slots_make_room(const Device *_flash, const Layout *_layout,
+        const Put *_puts_items, uint32_t _puts_len) {
     (void)_flash;
     (void)_layout;
-    (void)_puts;
+    (void)_puts_items;
+    (void)_puts_len;
     return DONE;
-}
-
-/* Follows a clear: it finds nothing from here on. */
-EE_IN_PLACE void slots_find_nothing(void) {
 }
 
 /* Makes a change to which no refusal applies in the first free slot. The layout and
@@ -2889,8 +3389,10 @@ EE_IN_PLACE Step slots_append(Device *flash, Layout *layout, Change change) {
 
 /* Makes changes to which no refusal applies with a transfer that they need. The layout and
  * the look-up follow. */
-EE_IN_PLACE Step slots_transfer(Device *flash, Layout *layout, ListOfPut puts, bool forgets) {
-    return move_unindexed(flash, layout, puts, forgets);
+EE_IN_PLACE Step slots_transfer(Device *flash, Layout *layout, const Put *puts_items,
+        uint32_t puts_len, bool forgets) {
+    const ListOfPut puts = { .items = puts_items, .len = puts_len };
+    return move_unindexed(flash, layout, puts.items, puts.len, forgets);
 }
 
 /* ---- ee_core/known.rs: What a store keeps in memory beside its device, and the calls that
@@ -2901,7 +3403,7 @@ static ReadResult known_read(const Known *self, const Device *flash, Address add
     if (!device_is_on(flash)) {
         return read_result_err();
     }
-    return read_result_ok(slots_value_of(flash, &self->layout, address));
+    return read_result_ok(lookup_value_of(&self->lookup, flash, &self->layout, address));
 }
 
 /* `Variables::write` on the device of which this is known. */
@@ -2920,14 +3422,14 @@ EE_IN_PLACE ForgetResult known_forget(Known *self, Device *flash, Address addres
     if (!device_is_on(flash)) {
         return forget_result_err(ForgetFault_Off);
     }
-    const MaybeU32 maybe_value = slots_value_of(flash, &self->layout, address);
+    const MaybeU32 maybe_value = lookup_value_of(&self->lookup, flash, &self->layout, address);
     if (!maybe_value.some) {
         return forget_result_err(ForgetFault_Absent);
     }
     const uint32_t value = maybe_value.value;
     if (self->layout.fill < shape_slots(flash->shape)) {
         const Change change = change_forget(address, value);
-        const Step append_result = slots_append(flash, &self->layout, change);
+        const Step append_result = lookup_append(&self->lookup, flash, &self->layout, change);
         if (append_result == DONE) {
             return forget_result_ok(Written_Appended);
         }
@@ -2937,8 +3439,8 @@ EE_IN_PLACE ForgetResult known_forget(Known *self, Device *flash, Address addres
         return forget_result_err(ForgetFault_Spent);
     }
     const Put put = (Put){ .address = address, .value = value };
-    const Step transfer_result = slots_transfer(flash, &self->layout, (ListOfPut){ .items = &put,
-            .len = 1u }, true);
+    const Step transfer_result = lookup_transfer(&self->lookup, flash, &self->layout, &put, 1u,
+            true);
     if (transfer_result == DONE) {
         return forget_result_ok(Written_Moved);
     }
@@ -2961,12 +3463,12 @@ static CleanResult known_clean_step(const Known *self, Device *flash) {
 EE_IN_PLACE WriteResult known_append_value(Known *self, Device *flash, Address address,
         uint32_t value) {
     const Put put = (Put){ .address = address, .value = value };
-    const Step make_ready_result = slots_make_ready(flash, &self->layout, put);
+    const Step make_ready_result = lookup_make_ready(&self->lookup, flash, &self->layout, put);
     if (make_ready_result != DONE) {
         return write_result_err(WriteFault_Memory);
     }
     const Change change = change_put(address, value);
-    const Step append_result = slots_append(flash, &self->layout, change);
+    const Step append_result = lookup_append(&self->lookup, flash, &self->layout, change);
     if (append_result == DONE) {
         return write_result_ok(Written_Appended);
     }
@@ -2982,13 +3484,12 @@ static WriteResult known_move_value(Known *self, Device *flash, Address address,
         return write_result_err(WriteFault_Spent);
     }
     Put puts[1] = {(Put){ .address = address, .value = value }};
-    const Step make_room_result = slots_make_room(flash, &self->layout, (ListOfPut){ .items = puts,
-            .len = 1u });
+    const Step make_room_result = lookup_make_room(&self->lookup, flash, &self->layout, puts, 1u);
     if (make_room_result != DONE) {
         return write_result_err(WriteFault_Memory);
     }
-    const Step transfer_result = slots_transfer(flash, &self->layout, (ListOfPut){ .items = puts,
-            .len = 1u }, false);
+    const Step transfer_result = lookup_transfer(&self->lookup, flash, &self->layout, puts, 1u,
+            false);
     if (transfer_result == DONE) {
         return write_result_ok(Written_Moved);
     }
@@ -2998,20 +3499,15 @@ static WriteResult known_move_value(Known *self, Device *flash, Address address,
 /* Whether the address has no value and there is no slot for one more. */
 static bool known_has_no_place(const Known *self, const Device *flash, Address address) {
     const uint32_t slots = shape_slots(flash->shape);
-    const MaybeU32 maybe_value_of = slots_value_of(flash, &self->layout, address);
+    const MaybeU32 maybe_value_of = lookup_value_of(&self->lookup, flash, &self->layout, address);
     if (maybe_value_of.some) {
         return false;
     }
-    return slots_live_count(flash, &self->layout) == slots;
+    return lookup_live_count(&self->lookup, flash, &self->layout) == slots;
 }
 
 /* ---- ee_core/store.rs: The store: it knows where the live set is and how far it is used, and
  * finds values by a look-up. */
-
-/* A store of this device, of which this is the layout. It looks through the slots. */
-static Store store_of(Device flash, Layout layout) {
-    return (Store){ .flash = flash, .known = (Known){ .layout = layout } };
-}
 
 /* How many slots of the live set are torn, 0 to its fill: words in whose step power was cut.
  * It reads each slot once. */
@@ -3041,22 +3537,25 @@ static WriteAllResult store_write_one(Store *self, Put put) {
 }
 
 /* Writes two values or more, with a transfer. */
-static WriteAllResult store_write_several(Store *self, ListOfPut puts) {
-    const MaybeIndex maybe_place = first_twice(puts);
+static WriteAllResult store_write_several(Store *self, const Put *puts_items, uint32_t puts_len) {
+    const ListOfPut puts = { .items = puts_items, .len = puts_len };
+    const MaybeIndex maybe_place = first_twice(puts.items, puts.len);
     if (maybe_place.some) {
         return write_all_result_err(write_all_fault_twice(maybe_place.value));
     }
-    if (store_is_full_for_all(self, puts)) {
+    if (store_is_full_for_all(self, puts.items, puts.len)) {
         return write_all_result_err(write_all_fault_full());
     }
     if (store_is_last(self)) {
         return write_all_result_err(write_all_fault_spent());
     }
-    const Step make_room_result = slots_make_room(&self->flash, &self->known.layout, puts);
+    const Step make_room_result = lookup_make_room(&self->known.lookup, &self->flash,
+            &self->known.layout, puts.items, puts.len);
     if (make_room_result != DONE) {
         return write_all_result_err(write_all_fault_memory());
     }
-    const Step transfer_result = slots_transfer(&self->flash, &self->known.layout, puts, false);
+    const Step transfer_result = lookup_transfer(&self->known.lookup, &self->flash,
+            &self->known.layout, puts.items, puts.len, false);
     if (transfer_result == DONE) {
         return write_all_result_ok(Written_Moved);
     }
@@ -3065,9 +3564,11 @@ static WriteAllResult store_write_several(Store *self, ListOfPut puts) {
 
 /* Whether more addresses would have a value than there are slots, with these values, each of
  * which is of an address of its own. */
-static bool store_is_full_for_all(const Store *self, ListOfPut puts) {
+static bool store_is_full_for_all(const Store *self, const Put *puts_items, uint32_t puts_len) {
+    const ListOfPut puts = { .items = puts_items, .len = puts_len };
     const uint32_t slots = shape_slots(self->flash.shape);
-    return puts.len > slots || slots_live_with(&self->flash, &self->known.layout, puts) > slots;
+    return puts.len > slots || lookup_live_with(&self->known.lookup, &self->flash,
+            &self->known.layout, puts.items, puts.len) > slots;
 }
 
 /* Whether no generation is left for a transfer. */
@@ -3106,7 +3607,8 @@ EE_IN_PLACE WriteResult store_write(Store *self, Address address, uint32_t value
  * Errors:
  *
  * The first `WriteAllFault` that applies. */
-static WriteAllResult store_write_all(Store *self, ListOfPut changes) {
+static WriteAllResult store_write_all(Store *self, const Put *changes_items, uint32_t changes_len) {
+    const ListOfPut changes = { .items = changes_items, .len = changes_len };
     if (!device_is_on(&self->flash)) {
         return write_all_result_err(write_all_fault_off());
     }
@@ -3116,7 +3618,7 @@ static WriteAllResult store_write_all(Store *self, ListOfPut changes) {
     if (changes.len == 1u) {
         return store_write_one(self, changes.items[0u]);
     }
-    return store_write_several(self, changes);
+    return store_write_several(self, changes.items, changes.len);
 }
 
 /* Takes the value of an address away.
@@ -3148,7 +3650,7 @@ static ClearResult store_clear(Store *self) {
     }
     const Step empty_result = empty(&self->flash, &self->known.layout);
     if (empty_result == DONE) {
-        slots_find_nothing();
+        lookup_find_nothing(&self->known.lookup);
         return clear_result_ok(true);
     }
     return clear_result_err(ClearFault_Cut);
@@ -3180,13 +3682,13 @@ static uint32_t store_generation(const Store *self) {
 
 /* How many addresses have a value, 0 to the slots. */
 static uint32_t store_live_count(const Store *self) {
-    return slots_live_count(&self->flash, &self->known.layout);
+    return lookup_live_count(&self->known.lookup, &self->flash, &self->known.layout);
 }
 
 /* The next address above `after`, or of all if `after` is `None`, that has a value, with the
  * value. `None` if there is none. */
 static MaybeLive store_next_live(const Store *self, MaybeAddress after) {
-    return slots_next_live(&self->flash, &self->known.layout, after);
+    return lookup_next_live(&self->known.lookup, &self->flash, &self->known.layout, after);
 }
 
 /* ---- ee_core/formatting.rs: A store with nothing in it: what is written is erased, and the
@@ -3253,8 +3755,8 @@ static LayoutOrOpenFault start_on(Device *flash) {
     if (fault.tag != OpenFault_Scan) {
         return layout_or_open_fault_err(fault);
     }
-    const ScanFault scan = fault.scan;
-    if (!is_startable(flash, scan)) {
+    const ScanFault scan_2 = fault.scan;
+    if (!is_startable(flash, scan_2)) {
         return layout_or_open_fault_err(fault);
     }
     return start_anew(flash);
@@ -3308,41 +3810,541 @@ static LayoutOrOpenFault start_anew(Device *flash) {
 /* ---- ee_core/rescuing.rs: A rescue: the map that a set says is moved to the other set,
  * whatever stands in either. */
 
-/* Makes a store as `rescue` does, and counts no bad words, so that firmware that doesn't ask for
- * them carries no code for it. Gives how many addresses have a value, 0 to the capacity.
- *
- * Errors:
- *
- * The device and the first `RescueFault` that applies. */
-static RescueResult rescue_uncounted(Device flash) {
-    const MaybeSide maybe_side = rescued_side(&flash);
-    if (!maybe_side.some) {
-        return rescue_result_err((RescueRefusal){ .first = flash,
-                .second = RescueFault_NothingBegun });
-    }
-    const Side side = maybe_side.value;
-    const uint32_t generation = named_generation(&flash, side);
-    if (generation == GREATEST_GENERATION) {
-        return rescue_result_err((RescueRefusal){ .first = flash, .second = RescueFault_Spent });
-    }
-    const LayoutOrCut rescue_set_result = rescue_set(&flash, side, generation);
-    if (rescue_set_result.ok) {
-        const Layout layout = rescue_set_result.value;
-        const uint32_t live = layout.fill;
-        return rescue_result_ok((RescuedStore){ .first = store_of(flash, layout), .second = live });
-    }
-    return rescue_result_err((RescueRefusal){ .first = flash, .second = RescueFault_Cut });
-}
-
 /* Moves the map that a set says to the other set, in the generation above this one, which is no
  * smaller than the one that the set is committed with. Gives the layout there. */
 static LayoutOrCut rescue_set(Device *flash, Side side, uint32_t generation) {
     Layout layout = (Layout){ .side = side, .generation = generation, .fill = 0u, .current = 0u };
-    if (transfer_by_slots(flash, &layout, (ListOfPut){ .items = NULL, .len = 0u }, false) == CUT) {
+    if (transfer_by_slots(flash, &layout, NULL, 0u, false) == CUT) {
         return layout_or_cut_err();
     }
     return layout_or_cut_ok(layout);
 }
+
+#ifdef EE_INDEX
+/* ---- ee_index/entries.rs: The entries of an index: addresses with the slots in which they
+ * stand, by rising address. */
+
+/* Gives entries the slots in which a transfer puts their addresses: the values that it puts stand
+ * first, in their order, and behind them the others, by rising address. */
+static void renumber(Entry *entries_items, uint32_t entries_len, const Put *puts_items,
+        uint32_t puts_len) {
+    const RoomOfEntry entries = { .items = entries_items, .len = entries_len };
+    const ListOfPut puts = { .items = puts_items, .len = puts_len };
+    uint32_t number = puts.len;
+    for (uint32_t place = 0u, end = entries.len; place < end; place++) {
+        const Address address = entries.items[place].first;
+        const IndexPair slot_and_next = next_number(number, puts.items, puts.len, address);
+        const uint32_t slot = slot_and_next.first;
+        const uint32_t next = slot_and_next.second;
+        entries.items[place] = (Entry){ .first = address, .second = (uint16_t)slot };
+        number = next;
+    }
+}
+
+/* The slot of the next address, and the number that the next other one gets: an address that is
+ * put has its place in the list, and each other takes a number. */
+static IndexPair next_number(uint32_t number, const Put *puts_items, uint32_t puts_len,
+        Address address) {
+    const ListOfPut puts = { .items = puts_items, .len = puts_len };
+    const MaybeIndex maybe_place_in = entries_place_in(puts.items, puts.len, address);
+    if (maybe_place_in.some) {
+        const uint32_t place = maybe_place_in.value;
+        return (IndexPair){ .first = place, .second = number };
+    }
+    return (IndexPair){ .first = number, .second = number + 1u };
+}
+
+/* The place of an address in a list, counted from 0. */
+static MaybeIndex entries_place_in(const Put *puts_items, uint32_t puts_len, Address address) {
+    const ListOfPut puts = { .items = puts_items, .len = puts_len };
+    for (uint32_t place = 0u, end = puts.len; place < end; place++) {
+        if (puts.items[place].address == address) {
+            return maybe_index_some(place);
+        }
+    }
+    return maybe_index_none();
+}
+
+/* ---- ee_index/lent_list.rs: A list in memory that the caller lends, which has room for so many
+ * addresses. */
+
+/* How many addresses there is room for. */
+static uint32_t lent_list_capacity(const LentList *self) {
+    return self->room.len;
+}
+
+/* Takes all addresses from it. */
+static void lent_list_clear(LentList *self) {
+    self->count = 0u;
+}
+
+/* The addresses with their slots, by rising address. */
+static ListOfEntry lent_list_entries(const LentList *self) {
+    return (ListOfEntry){ .items = self->room.items, .len = self->count };
+}
+
+/* The place of an address, counted from 0. An `Err` has the place where it would stand. */
+static PlaceResult lent_list_find(const LentList *self, Address address) {
+    const ListOfEntry entries = lent_list_entries(self);
+    return search(entries.items, entries.len, address);
+}
+
+/* Gives an address the slot of this number. An `Err`, which only a new address meets, leaves
+ * the list as it was. Where its room is known, that is full then. */
+static Step lent_list_insert(LentList *self, Address address, uint32_t number) {
+    const Entry entry = (Entry){ .first = address, .second = (uint16_t)number };
+    const PlaceResult find_result = lent_list_find(self, address);
+    if (find_result.ok) {
+        const uint32_t place = find_result.value;
+        self->room.items[place] = entry;
+        return DONE;
+    }
+    const uint32_t place = find_result.error;
+    if (self->count == self->room.len) {
+        return CUT;
+    }
+    const RoomOfEntry room = self->room;
+    lent_list_put_in(room.items, room.len, self->count, place, entry);
+    self->count += 1u;
+    return DONE;
+}
+
+/* Takes an address from it. */
+static void lent_list_remove(LentList *self, Address address) {
+    const PlaceResult place_result = lent_list_find(self, address);
+    if (place_result.ok) {
+        const uint32_t place = place_result.value;
+        const RoomOfEntry room = self->room;
+        take_out(room.items, room.len, self->count, place);
+        self->count -= 1u;
+    }
+}
+
+/* Gives its addresses, which are those that are live behind a transfer, the slots in which the
+ * transfer put them: the values that it put stand first, in their order, and behind them the
+ * others, by rising address. It takes no memory and doesn't look at the flash. */
+static void lent_list_renumber(LentList *self, const Put *puts_items, uint32_t puts_len) {
+    const ListOfPut puts = { .items = puts_items, .len = puts_len };
+    renumber(self->room.items, self->count, puts.items, puts.len);
+}
+
+/* Puts an entry in at a place among so many, behind which there is room. */
+static void lent_list_put_in(Entry *room_items, uint32_t room_len, uint32_t count, uint32_t place,
+        Entry entry) {
+    const RoomOfEntry room = { .items = room_items, .len = room_len };
+    copy_within(room.items, place, count, place + 1u);
+    room.items[place] = entry;
+}
+
+/* Takes the entry at a place out of so many. */
+static void take_out(Entry *room_items, uint32_t room_len, uint32_t count, uint32_t place) {
+    const RoomOfEntry room = { .items = room_items, .len = room_len };
+    copy_within(room.items, place + 1u, count, place);
+}
+
+/* ---- ee_index/entering.rs: What used slots say goes into an index. */
+
+/* Makes a list with no address the index of a live set: one look at each used slot. An `Err`
+ * leaves some addresses in it, and tells that its room, if that is known, is too small. */
+static Step enter_slots(LentList *list, const Device *flash, const Layout *layout) {
+    for (uint32_t number = 0u, end = layout->fill; number < end; number++) {
+        if (enter(list, number, read_slot(slot_word(flash, layout, number))) == CUT) {
+            return CUT;
+        }
+    }
+    return DONE;
+}
+
+/* Enters what the slot of this number says. */
+static Step enter(LentList *list, uint32_t number, Slot said_2) {
+    switch (said_2.tag) {
+    case Slot_Element: {
+        const Address address = said_2.address;
+        if (lent_list_insert(list, address, number) == CUT) {
+            return CUT;
+        }
+        break;
+    }
+    case Slot_Forgotten: {
+        const Address address = said_2.address;
+        lent_list_remove(list, address);
+        break;
+    }
+    default:
+        break;
+    }
+    return DONE;
+}
+
+/* ---- ee_index/reading.rs: What is read by an index. */
+
+/* The slot of an address, if a list has it. */
+EE_IN_PLACE MaybeIndex slot_in(const LentList *list, Address address) {
+    const PlaceResult find_result = lent_list_find(list, address);
+    if (find_result.ok) {
+        const uint32_t place = find_result.value;
+        const ListOfEntry entries_read = lent_list_entries(list);
+        const Entry *const maybe_get = place < entries_read.len ? &entries_read.items[place] : NULL;
+        if (maybe_get != NULL) {
+            const Entry *const entry = maybe_get;
+            return maybe_index_some((uint32_t)entry->second);
+        }
+        return maybe_index_none();
+    }
+    return maybe_index_none();
+}
+
+/* Whether a list has an address. */
+static bool has(const LentList *list, Address address) {
+    return lent_list_find(list, address).ok;
+}
+
+/* The entries of the addresses above `after`, or all if `after` is `None`. */
+static ListOfEntry entries_above(const LentList *list, MaybeAddress after) {
+    const ListOfEntry entries = lent_list_entries(list);
+    if (!after.some) {
+        return entries;
+    }
+    const Address address = after.value;
+    const uint32_t from = place_above(list, address);
+    return (ListOfEntry){ .items = &entries.items[from], .len = entries.len - from };
+}
+
+/* The place of the first entry of an address above this one, counted from 0. */
+static uint32_t place_above(const LentList *list, Address address) {
+    const PlaceResult find_result = lent_list_find(list, address);
+    if (find_result.ok) {
+        const uint32_t place = find_result.value;
+        return place + 1u;
+    }
+    return find_result.error;
+}
+
+/* How many of these values, each of which is of an address of its own, are of addresses that an
+ * index doesn't have. */
+static uint32_t count_new(const LentList *list, const Put *puts_items, uint32_t puts_len) {
+    const ListOfPut puts = { .items = puts_items, .len = puts_len };
+    uint32_t count = 0u;
+    if (puts.len != 0u) {
+        const Put *put = puts.items;
+        const Put *const put_end = put + puts.len;
+        do {
+            count += (uint32_t)!has(list, put->address);
+            put++;
+        } while (put != put_end);
+    }
+    return count;
+}
+
+/* The value that the slot of this number says, any number if it says none. */
+static uint32_t value_in(const Device *flash, const Layout *layout, uint32_t number) {
+    return slot_value(flash, layout, number);
+}
+
+/* The value of an address, by an index of the live set. `None` if it has none. */
+static MaybeU32 value_indexed(const LentList *list, const Device *flash, const Layout *layout,
+        Address address) {
+    const MaybeIndex maybe_slot_in = slot_in(list, address);
+    if (!maybe_slot_in.some) {
+        return maybe_u32_none();
+    }
+    const uint32_t number = maybe_slot_in.value;
+    return maybe_u32_some(value_in(flash, layout, number));
+}
+
+/* The first address of an index above `after`, or of all if `after` is `None`, with its slot. */
+EE_IN_PLACE MaybePlaced first_above(const LentList *list, MaybeAddress after) {
+    const ListOfEntry entries_above_read = entries_above(list, after);
+    if (entries_above_read.len == 0u) {
+        return maybe_placed_none();
+    }
+    const Entry *const entry = entries_above_read.items;
+    return maybe_placed_some((Placed){ .first = entry->first, .second = (uint32_t)entry->second });
+}
+
+/* The next live address above `after`, or the first of all if `after` is `None`, with its value,
+ * by an index of the live set. */
+static MaybeLive next_indexed(const LentList *list, const Device *flash, const Layout *layout,
+        MaybeAddress after) {
+    const MaybePlaced maybe_address_and_number = first_above(list, after);
+    if (!maybe_address_and_number.some) {
+        return maybe_live_none();
+    }
+    const Address address = maybe_address_and_number.value.first;
+    const uint32_t number = maybe_address_and_number.value.second;
+    return maybe_live_some((Live){ .first = address, .second = value_in(flash, layout, number) });
+}
+
+/* Before the first. */
+static IndexCursor index_cursor_new(const LentList *list, uint32_t fill) {
+    return (IndexCursor){ .entries = lent_list_entries(list), .after = maybe_address_none(),
+            .fill = fill };
+}
+
+/* The next live address, with its value. `None` if there is none. */
+static MaybeLive index_cursor_next(IndexCursor *self, const Device *flash, const Layout *layout) {
+    const MaybeShown maybe_entry_and_rest = next_shown(self->entries.items, self->entries.len,
+            self->fill);
+    if (!maybe_entry_and_rest.some) {
+        return maybe_live_none();
+    }
+    const Entry entry = maybe_entry_and_rest.value.first;
+    const ListOfEntry rest = maybe_entry_and_rest.value.second;
+    self->entries = rest;
+    self->after = maybe_address_some(entry.first);
+    return maybe_live_some((Live){ .first = entry.first, .second = value_in(flash, layout,
+            (uint32_t)entry.second) });
+}
+
+/* The next entry whose slot is one of those used, of which there are so many, and
+ * what is left behind it. */
+static MaybeShown next_shown(const Entry *entries_items, uint32_t entries_len, uint32_t fill) {
+    const ListOfEntry entries = { .items = entries_items, .len = entries_len };
+    ListOfEntry left = entries;
+    for (;;) {
+        if (left.len == 0u) {
+            break;
+        }
+        const Entry *const entry = left.items;
+        const ListOfEntry rest = (ListOfEntry){ .items = &left.items[1], .len = left.len - 1u };
+        if ((uint32_t)entry->second < fill) {
+            return maybe_shown_some((Shown){ .first = *entry, .second = rest });
+        }
+        left = rest;
+    }
+    return maybe_shown_none();
+}
+
+/* ---- ee_index/lent_cursor.rs: What a transfer copies by, where an index may be given up. */
+
+/* Begins before the first address. It begins where it stands, since a cursor over
+ * the slots is large. */
+static void lent_cursor_begin(LentCursor *self, const Device *flash, const Layout *layout) {
+    if (self->tag == LentCursor_ByIndex) {
+    } else {
+        Cursor *const cursor = &self->by_slots;
+        cursor_begin(cursor, flash, layout);
+    }
+}
+
+/* The next live address, with its value. `None` if there is none. */
+static MaybeLive lent_cursor_next(LentCursor *self, const Device *flash, const Layout *layout) {
+    if (self->tag == LentCursor_ByIndex) {
+        IndexCursor *const cursor = &self->by_index;
+        return index_cursor_next(cursor, flash, layout);
+    }
+    Cursor *const cursor = &self->by_slots;
+    return cursor_next(cursor, flash, layout);
+}
+
+/* ---- ee_index/index_changing.rs: Changes with an index: room in it is made before the first
+ * step, and it follows without memory. */
+
+/* Enters each new address of these values with this number. An `Err`, which only a new address
+ * meets, leaves some of them entered. Where the room is known, it was too small for them all. */
+static Step enter_hidden(LentList *list, const Put *puts_items, uint32_t puts_len, uint32_t fill) {
+    const ListOfPut puts = { .items = puts_items, .len = puts_len };
+    if (puts.len != 0u) {
+        const Put *put = puts.items;
+        const Put *const put_end = put + puts.len;
+        do {
+            if (enter_new(list, put->address, fill) == CUT) {
+                return CUT;
+            }
+            put++;
+        } while (put != put_end);
+    }
+    return DONE;
+}
+
+/* Enters an address with this number, if it is new. An `Err`, which only a new address meets,
+ * leaves the index as it was. Where its room is known, that is full then. */
+static Step enter_new(LentList *list, Address address, uint32_t number) {
+    if (has(list, address)) {
+        return DONE;
+    }
+    if (lent_list_insert(list, address, number) == CUT) {
+        return CUT;
+    }
+    return DONE;
+}
+
+/* Lets an index follow a transfer: the addresses that are forgotten leave it, and the others get
+ * the slots in which the transfer put them. */
+static void follow(LentList *list, const Put *puts_items, uint32_t puts_len, bool forgets) {
+    const ListOfPut puts = { .items = puts_items, .len = puts_len };
+    const ListOfPut put = values_put(puts.items, puts.len, forgets);
+    /* Where values are put none is forgotten, and the other way round. */
+    const ListOfPut forgotten = values_put(puts.items, puts.len, !forgets);
+    leave_all(list, forgotten.items, forgotten.len);
+    lent_list_renumber(list, put.items, put.len);
+}
+
+/* Takes the addresses of these values from an index. */
+static void leave_all(LentList *list, const Put *puts_items, uint32_t puts_len) {
+    const ListOfPut puts = { .items = puts_items, .len = puts_len };
+    if (puts.len != 0u) {
+        const Put *put = puts.items;
+        const Put *const put_end = put + puts.len;
+        do {
+            leave(list, put->address);
+            put++;
+        } while (put != put_end);
+    }
+}
+
+/* Takes an address from an index. */
+static void leave(LentList *list, Address address) {
+    lent_list_remove(list, address);
+}
+
+/* Takes an address that is forgotten from an index. */
+static void leave_forgotten(LentList *list, const Change *change) {
+    const Change address = *change;
+    if (address.tag == Change_Forget) {
+        const Address address_2 = address.address;
+        leave(list, address_2);
+    }
+}
+
+/* ---- ee_index/lent_index.rs: Values are found by an index in memory that the caller lends, as
+ * long as it has room for them. */
+
+/* Reads the index anew, one look at each used slot. It gives itself up where there is no room
+ * for an address. */
+static void lent_index_read(LentIndex *self, const Device *flash, const Layout *layout) {
+    lent_list_clear(&self->list);
+    self->is_given_up = enter_slots(&self->list, flash, layout) == CUT;
+}
+
+/* What a transfer copies by. It has not begun. */
+static void lent_index_cursor(const LentIndex *self, const Device *_flash, const Layout *layout,
+        LentCursor *made) {
+    (void)_flash;
+    if (self->is_given_up) {
+        made->tag = LentCursor_BySlots;
+        cursor_unread(&made->by_slots);
+        return;
+    }
+    made->tag = LentCursor_ByIndex;
+    made->by_index = index_cursor_new(&self->list, layout->fill);
+}
+
+/* Follows a transfer. Where the index is given up, it is read anew if there is room. Else more
+ * slots are used than there is room for addresses. */
+static void lent_index_follow(LentIndex *self, const Device *flash, const Layout *layout,
+        const Put *puts_items, uint32_t puts_len, bool forgets) {
+    const ListOfPut puts = { .items = puts_items, .len = puts_len };
+    if (!self->is_given_up) {
+        follow(&self->list, puts.items, puts.len, forgets);
+        return;
+    }
+    /* Each used slot is that of a value. */
+    if (layout->fill <= lent_list_capacity(&self->list)) {
+        lent_index_read(self, flash, layout);
+    }
+}
+
+/* The value of an address, `None` if it has none. */
+static MaybeU32 lent_index_value_of(const LentIndex *self, const Device *flash,
+        const Layout *layout, Address address) {
+    if (self->is_given_up) {
+        return slots_value_of(flash, layout, address);
+    }
+    return value_indexed(&self->list, flash, layout, address);
+}
+
+/* How many addresses have a value. */
+static uint32_t lent_index_live_count(const LentIndex *self, const Device *flash,
+        const Layout *layout) {
+    if (self->is_given_up) {
+        return slots_live_count(flash, layout);
+    }
+    return lent_list_entries(&self->list).len;
+}
+
+/* How many addresses have a value with these values, each of which is of an
+ * address of its own. */
+static uint32_t lent_index_live_with(const LentIndex *self, const Device *flash,
+        const Layout *layout, const Put *puts_items, uint32_t puts_len) {
+    const ListOfPut puts = { .items = puts_items, .len = puts_len };
+    if (self->is_given_up) {
+        return slots_live_with(flash, layout, puts.items, puts.len);
+    }
+    return lent_list_entries(&self->list).len + count_new(&self->list, puts.items, puts.len);
+}
+
+/* The next live address above `after`, or of all if `after` is `None`, with its value. */
+static MaybeLive lent_index_next_live(const LentIndex *self, const Device *flash,
+        const Layout *layout, MaybeAddress after) {
+    if (self->is_given_up) {
+        return slots_next_live(flash, layout, after);
+    }
+    return next_indexed(&self->list, flash, layout, after);
+}
+
+/* Makes ready for a value in the first free slot. An `Err`, which only a new address meets,
+ * leaves it as it was. */
+static Step lent_index_make_ready(LentIndex *self, const Device *_flash, const Layout *layout,
+        Put put) {
+    (void)_flash;
+    if (self->is_given_up) {
+        return DONE;
+    }
+    self->is_given_up = lent_list_insert(&self->list, put.address, layout->fill) == CUT;
+    return DONE;
+}
+
+/* Makes room for a transfer with these values. An `Err`, which only a new address meets,
+ * leaves it as it was. */
+static Step lent_index_make_room(LentIndex *self, const Device *_flash, const Layout *layout,
+        const Put *puts_items, uint32_t puts_len) {
+    (void)_flash;
+    const ListOfPut puts = { .items = puts_items, .len = puts_len };
+    if (self->is_given_up) {
+        return DONE;
+    }
+    self->is_given_up = enter_hidden(&self->list, puts.items, puts.len, layout->fill) == CUT;
+    return DONE;
+}
+
+/* Reads anew what it keeps in lent memory. It takes no more memory than it has. */
+static void lent_index_read_anew(LentIndex *self, const Device *flash, const Layout *layout) {
+    lent_index_read(self, flash, layout);
+}
+
+/* Follows a clear: it finds nothing from here on. */
+static void lent_index_find_nothing(LentIndex *self) {
+    lent_list_clear(&self->list);
+    self->is_given_up = false;
+}
+
+/* Makes a change to which no refusal applies in the first free slot. The layout and
+ * the look-up follow. */
+static Step lent_index_append(LentIndex *self, Device *flash, Layout *layout, Change change) {
+    if (append_change(flash, layout, change) == CUT) {
+        return CUT;
+    }
+    /* What stands in an index that is given up is never read. */
+    leave_forgotten(&self->list, &change);
+    return DONE;
+}
+
+/* Makes changes to which no refusal applies with a transfer that they need. The layout and
+ * the look-up follow. */
+static Step lent_index_transfer(LentIndex *self, Device *flash, Layout *layout,
+        const Put *puts_items, uint32_t puts_len, bool forgets) {
+    const ListOfPut puts = { .items = puts_items, .len = puts_len };
+    LentCursor cursor;
+    lent_index_cursor(self, flash, layout, &cursor);
+    lent_cursor_begin(&cursor, flash, layout);
+    if (move_changes_lent_cursor(flash, layout, puts.items, puts.len, forgets, &cursor) == CUT) {
+        return CUT;
+    }
+    lent_index_follow(self, flash, layout, puts.items, puts.len, forgets);
+    return DONE;
+}
+#endif
 
 /* ---- ee_pairs/pairs.rs: A device of words on a flash of numbers. */
 
@@ -3373,8 +4375,10 @@ static Word pairs_word(const Numbers *self, uint32_t page, uint32_t at) {
 /* The numbers of the words from a place on, as many as there is room for, whether power is on
  * or off: `u64::MAX` of an erased word, 0 of a torn one. They stand in the room, or where the
  * device has them. `word` tells a torn word from one that holds 0. */
-static ListOfU64 pairs_run(const Numbers *self, uint32_t page, uint32_t at, RoomOfU64 room) {
-    fill_run(self, page, at, room);
+static ListOfU64 pairs_run(const Numbers *self, uint32_t page, uint32_t at, uint64_t *room_items,
+        uint32_t room_len) {
+    const RoomOfU64 room = { .items = room_items, .len = room_len };
+    fill_run(self, page, at, room.items, room.len);
     return (ListOfU64){ .items = room.items, .len = room.len };
 }
 
@@ -3395,37 +4399,48 @@ static Step pairs_program(Numbers *self, uint32_t page, uint32_t at, uint64_t va
 
 /* Puts the numbers of as many words as there is room for into the room, from a place of a page on:
  * those that the flash has in memory are not read one by one. */
-static void fill_run(const Numbers *nor, uint32_t page, uint32_t at, RoomOfU64 room) {
+static void fill_run(const Numbers *nor, uint32_t page, uint32_t at, uint64_t *room_items,
+        uint32_t room_len) {
+    const RoomOfU64 room = { .items = room_items, .len = room_len };
     const ListOfU64 maybe_window = numbers_window(nor, page, 2u * at, 2u * room.len);
     if (maybe_window.items != NULL) {
         const ListOfU64 numbers = maybe_window;
-        fill_from_window(numbers, room);
+        fill_from_window(numbers.items, numbers.len, room.items, room.len);
     } else {
-        fill_by_reading(nor, page, at, room);
+        fill_by_reading(nor, page, at, room.items, room.len);
     }
 }
 
 /* The same of numbers in memory, two of each word. */
-static void fill_from_window(ListOfU64 numbers, RoomOfU64 room) {
+static void fill_from_window(const uint64_t *numbers_items, uint32_t numbers_len,
+        uint64_t *room_items, uint32_t room_len) {
+    const ListOfU64 numbers = { .items = numbers_items, .len = numbers_len };
+    const RoomOfU64 room = { .items = room_items, .len = room_len };
     for (uint32_t word = 0u, end = room.len; word < end; word++) {
         room.items[word] = number_of_pair(numbers.items[2u * word], numbers.items[2u * word + 1u]);
     }
 }
 
 /* The same of numbers that are read. */
-static void fill_by_reading(const Numbers *nor, uint32_t page, uint32_t at, RoomOfU64 room) {
-    for (uint32_t word = 0u; word < room.len; word++) {
-        uint64_t *const number = &room.items[word];
-        const uint32_t first = 2u * (at + word);
-        const uint64_t number_2 = numbers_read(nor, page, first);
-        const uint64_t check = numbers_read(nor, page, first + 1u);
-        *number = number_of_pair(number_2, check);
+static void fill_by_reading(const Numbers *nor, uint32_t page, uint32_t at, uint64_t *room_items,
+        uint32_t room_len) {
+    const RoomOfU64 room = { .items = room_items, .len = room_len };
+    if (room.len != 0u) {
+        uint64_t *number = room.items;
+        uint64_t *const number_end = number + room.len;
+        do {
+            const uint32_t first = 2u * (at + (uint32_t)(number - room.items));
+            const uint64_t number_2 = numbers_read(nor, page, first);
+            const uint64_t check = numbers_read(nor, page, first + 1u);
+            *number = number_of_pair(number_2, check);
+            number++;
+        } while (number != number_end);
     }
 }
 
 /* The number of the word that two numbers are: `u64::MAX` of an erased word, 0 of a torn one. It
- * looks at halves of 32 bits, as `is_whole` does, and first whether the word is held, as most are.
- * */
+ * looks at halves of 32 bits, as `is_whole` does, and first whether the word is held, as most
+ * are. */
 static uint64_t number_of_pair(uint64_t number, uint64_t check) {
     const U32AndU32 low_and_high = halves(number);
     const uint32_t low = low_and_high.first;
@@ -3501,7 +4516,7 @@ static MaybeIndex first_low_from(const Numbers *nor, uint32_t page, uint32_t fro
     const ListOfU64 maybe_window = numbers_window(nor, page, 2u * from, 2u * count);
     if (maybe_window.items != NULL) {
         const ListOfU64 numbers = maybe_window;
-        const MaybeIndex maybe_low_in_window = low_in_window(numbers, count);
+        const MaybeIndex maybe_low_in_window = low_in_window(numbers.items, numbers.len, count);
         if (maybe_low_in_window.some) {
             const uint32_t word = maybe_low_in_window.value;
             return maybe_index_some(from + word);
@@ -3512,7 +4527,9 @@ static MaybeIndex first_low_from(const Numbers *nor, uint32_t page, uint32_t fro
 }
 
 /* The first such word of so many whose numbers stand in memory, two of each. */
-static MaybeIndex low_in_window(ListOfU64 numbers, uint32_t count) {
+static MaybeIndex low_in_window(const uint64_t *numbers_items, uint32_t numbers_len,
+        uint32_t count) {
+    const ListOfU64 numbers = { .items = numbers_items, .len = numbers_len };
     for (uint32_t word = 0u; word < count; word++) {
         if (is_low(numbers.items[2u * word], numbers.items[2u * word + 1u])) {
             return maybe_index_some(word);
@@ -3538,11 +4555,7 @@ static bool is_low(uint64_t number, uint64_t check) {
     return check < UINT64_MAX - number;
 }
 
-/* ---- By hand: the thirteen calls of ee.h. A store stays in the memory that the caller lends. */
-
-/* The memory has the size that the files of assembly take, and more where a pointer has 16 bits. */
-typedef char ee_store_has_its_size[sizeof(ee_store) == (sizeof(uintptr_t) < 4u ? 32u :
-        9u * sizeof(uintptr_t)) ? 1 : -1];
+/* ---- By hand: the calls of ee.h. A store stays in the memory that the caller lends. */
 
 /* What says whether a store can take a call. It is written in a call that only reads, too: a store
  * that was opened is no constant. */
@@ -3608,6 +4621,12 @@ static ee_result scan_status(ScanFault fault) {
     }
 }
 
+#ifdef EE_NO_PAIRS
+#define EE_GREATEST_KIND EE_WORDS
+#else
+#define EE_GREATEST_KIND EE_PAIRS_CLEARING
+#endif
+
 /* The flash of C as a device in memory that is on, where its members are in range; else why not. */
 static ee_result device_in(ee_store *memory, const ee_flash *flash, Device *device) {
     if (memory == NULL) {
@@ -3618,7 +4637,7 @@ static ee_result device_in(ee_store *memory, const ee_flash *flash, Device *devi
         return EE_NULL;
     }
     const MaybeShape shape = shape_new(flash->pages, flash->page_words);
-    if (!shape.some || flash->kind > EE_PAIRS_CLEARING) {
+    if (!shape.some || flash->kind > EE_GREATEST_KIND) {
         return EE_WRONG_SHAPE;
     }
     memory->memory.parts.power.flash = flash;
@@ -3635,24 +4654,24 @@ EE_APART ee_result opening_ended(ee_result status, ee_store *memory) {
     return answer;
 }
 
-/* Keeps the store of a device that an opening gave this, and gives its status. */
-static ee_result keep_opened(ee_store *memory, const Device *device,
-        const LayoutOrOpenFault *answer) {
-    if (answer->ok) {
-        memory->memory.parts.store = store_of(*device, answer->value);
-        return EE_OK;
+/* Keeps the store of a device of which this is the layout, with the index that its flash lends. */
+static void keep_store(ee_store *memory, const Device *device, const Layout *layout) {
+    Store *const store = &memory->memory.parts.store;
+    *store = (Store){ .flash = *device, .known = { .layout = *layout, .lookup = NULL } };
+#ifdef EE_INDEX
+    const ee_flash *const flash = device->power->flash;
+    if (flash != NULL && flash->index != NULL) {
+        store->known.lookup = flash->index;
+        lent_index_read_anew(flash->index, &store->flash, &store->known.layout);
     }
-    if (answer->error.tag == OpenFault_Scan) {
-        return scan_status(answer->error.scan);
-    }
-    return EE_DRIVER;
+#endif
 }
 
 /* Looks a flash of numbers through before it is opened, unless its erases clear first: EE_FOREIGN
  * where a word is no store's. */
-static ee_result looked_through(const Device *device) {
+EE_APART ee_result looked_through(const Device *device) {
     const ee_flash *const flash = device->power->flash;
-    if (flash->kind == EE_PAIRS) {
+    if (EE_IS_OF_PAIRS(flash) && flash->kind == EE_PAIRS) {
         const Numbers numbers = numbers_of(device, flash);
         if (first_low(&numbers).some) {
             return EE_FOREIGN;
@@ -3662,9 +4681,8 @@ static ee_result looked_through(const Device *device) {
 }
 
 /* Whether a word is written that a first start which was cut doesn't leave: any but the first two
- * of
- * page 0, or but those of page 0 where an erase clears first. */
-static bool holds_more(const Device *device, bool clears_first) {
+ * of page 0, or but those of page 0 where an erase clears first. */
+EE_APART bool holds_more(const Device *device, bool clears_first) {
     const uint32_t from = clears_first ? device->shape.words : 2u;
     if (blank_to(device, 0u, from) != device->shape.words) {
         return true;
@@ -3677,67 +4695,73 @@ static bool holds_more(const Device *device, bool clears_first) {
     return false;
 }
 
-ee_result ee_open(ee_store *store, const ee_flash *flash) {
+/* How a store is opened. */
+enum {
+    HOW_OPEN,
+    HOW_START,
+    HOW_FORMAT
+};
+#ifdef EE_NO_OPEN
+#define EE_IS_HOW(how, it) ((void)(how), (it) == HOW_START)
+#else
+#define EE_IS_HOW(how, it) ((how) == (it))
+#endif
+
+/* Opens the store of a device, or makes one, in this way; gives the status, and the layout where
+ * that is EE_OK. Where a flash of numbers holds more than a first start leaves it is opened, and no
+ * first store made there. A format itself erases each page that isn't blank, by rising page. */
+EE_IN_PLACE ee_result layout_of(Device *device, uint32_t how, Layout *layout) {
+    if (EE_IS_HOW(how, HOW_FORMAT)) {
+        const LayoutOrCut made = write_format(device);
+        *layout = made.value;
+        return made.ok ? (ee_result)EE_OK : (ee_result)EE_DRIVER;
+    }
+    const ee_result refused = looked_through(device);
+    if (refused != EE_OK) {
+        return refused;
+    }
+    const ee_flash *const flash = device->power->flash;
+    const bool starts = EE_IS_HOW(how, HOW_START) && !(flash != NULL && EE_IS_OF_PAIRS(flash) &&
+            holds_more(device, flash->kind == EE_PAIRS_CLEARING));
+    const LayoutOrOpenFault answer = starts ? start_on(device) : open_on(device);
+    *layout = answer.value;
+    if (answer.ok) {
+        return EE_OK;
+    }
+    return answer.error.tag ==
+            OpenFault_Scan ? scan_status(answer.error.scan) : (ee_result)EE_DRIVER;
+}
+
+/* Opens a store in the memory that the caller lends, in this way. */
+EE_APART ee_result opened(ee_store *store, const ee_flash *flash, uint32_t how) {
     Device device;
+    Layout layout;
     ee_result status = device_in(store, flash, &device);
     if (status != EE_OK) {
         return status;
     }
-    status = looked_through(&device);
+    status = layout_of(&device, how, &layout);
     if (status == EE_OK) {
-        const LayoutOrOpenFault answer = open_on(&device);
-        status = keep_opened(store, &device, &answer);
+        keep_store(store, &device, &layout);
     }
     return opening_ended(status, store);
 }
 
-/* Where a flash of numbers holds more than a first start leaves it is opened, and no first store
- * made there. */
 ee_result ee_start(ee_store *store, const ee_flash *flash) {
-    Device device;
-    ee_result status = device_in(store, flash, &device);
-    if (status != EE_OK) {
-        return status;
-    }
-    status = looked_through(&device);
-    if (status == EE_OK) {
-        const bool holds = flash->kind != EE_WORDS && holds_more(&device,
-                flash->kind == EE_PAIRS_CLEARING);
-        const LayoutOrOpenFault answer = holds ? open_on(&device) : start_on(&device);
-        status = keep_opened(store, &device, &answer);
-    }
-    return opening_ended(status, store);
+    return opened(store, flash, HOW_START);
 }
 
-/* A flash of numbers isn't wiped before: a format itself erases each page that isn't blank, by
- * rising
- * page. */
+#ifndef EE_NO_OPEN
+ee_result ee_open(ee_store *store, const ee_flash *flash) {
+    return opened(store, flash, HOW_OPEN);
+}
+
 ee_result ee_format(ee_store *store, const ee_flash *flash) {
-    Device device;
-    const ee_result status = device_in(store, flash, &device);
-    if (status != EE_OK) {
-        return status;
-    }
-    const LayoutOrCut answer = write_format(&device);
-    if (!answer.ok) {
-        return opening_ended(EE_DRIVER, store);
-    }
-    store->memory.parts.store = store_of(device, answer.value);
-    return opening_ended(EE_OK, store);
+    return opened(store, flash, HOW_FORMAT);
 }
+#endif
 
-static ee_result rescue_status(RescueFault fault) {
-    switch (fault) {
-    case RescueFault_NothingBegun:
-        return EE_NOTHING;
-    case RescueFault_Spent:
-        return EE_SPENT;
-    case RescueFault_Cut:
-    default:
-        return EE_DRIVER;
-    }
-}
-
+#ifndef EE_NO_RESCUE
 /* A pair of numbers that no store wrote is torn here, where an opening refuses it. */
 ee_result ee_rescue(ee_store *store, const ee_flash *flash) {
     Device device;
@@ -3745,11 +4769,19 @@ ee_result ee_rescue(ee_store *store, const ee_flash *flash) {
     if (status != EE_OK) {
         return status;
     }
-    const RescueResult answer = rescue_uncounted(device);
-    if (!answer.ok) {
-        return opening_ended(rescue_status(answer.error.second), store);
+    const MaybeSide side = rescued_side(&device);
+    if (!side.some) {
+        return opening_ended(EE_NOTHING, store);
     }
-    store->memory.parts.store = answer.value.first;
+    const uint32_t generation = named_generation(&device, side.value);
+    if (generation == GREATEST_GENERATION) {
+        return opening_ended(EE_SPENT, store);
+    }
+    const LayoutOrCut answer = rescue_set(&device, side.value, generation);
+    if (!answer.ok) {
+        return opening_ended(EE_DRIVER, store);
+    }
+    keep_store(store, &device, &answer.value);
     return opening_ended(EE_OK, store);
 }
 
@@ -3768,6 +4800,53 @@ ee_result ee_bad_words(const ee_flash *flash, uint32_t *count) {
         return EE_DRIVER;
     }
     *count = bad;
+    return EE_OK;
+}
+#endif
+
+/* The first pair of numbers that no store wrote, for which `looked_through` refuses a flash. */
+static bool low_found(const Device *device, uint32_t *page, uint32_t *word) {
+    const Numbers numbers = numbers_of(device, device->power->flash);
+    for (*page = 0u; *page < 2u * device->shape.pages; *page += 1u) {
+        for (*word = 0u; *word < device->shape.words; *word += 1u) {
+            const uint64_t number = numbers_read(&numbers, *page, 2u * *word);
+            if (is_low(number, numbers_read(&numbers, *page, 2u * *word + 1u))) {
+                return true;
+            }
+        }
+    }
+    return false;
+}
+
+static uint32_t no_program(void *context, uint32_t page, uint32_t place, uint64_t value) {
+    (void)context, (void)page, (void)place, (void)value;
+    return 0u;
+}
+
+/* An opening tells the place. What it programs then is not. */
+ee_result ee_foreign_word(const ee_flash *flash, uint32_t *page, uint32_t *word) {
+    ee_store looked;
+    Device device;
+    const ee_result status = device_in(&looked, flash, &device);
+    if (status != EE_OK || page == NULL || word == NULL) {
+        return status != EE_OK ? status : (ee_result)EE_NULL;
+    }
+    ee_flash read_only = *flash;
+    read_only.program = no_program;
+    looked.memory.parts.power.flash = &read_only;
+    ScanFault found = scan_fault_foreign(0u, 0u);
+    if (flash->kind != EE_PAIRS || !low_found(&device, &found.page, &found.at)) {
+        const LayoutOrOpenFault answer = open_on(&device);
+        found = answer.ok ? scan_fault_unformatted() : answer.error.scan;
+    }
+    if (is_broken(&looked)) {
+        return EE_DRIVER;
+    }
+    if (found.tag != ScanFault_Foreign) {
+        return EE_NOTHING;
+    }
+    *page = found.page;
+    *word = found.at;
     return EE_OK;
 }
 
@@ -3798,6 +4877,7 @@ ee_result ee_write(ee_store *store, uint16_t address, uint32_t value) {
     return ended(answer.ok ? (ee_result)EE_OK : write_status(answer.error), store);
 }
 
+#ifndef EE_NO_LISTS
 static ee_result write_all_status(WriteAllFault fault) {
     switch (fault.tag) {
     case WriteAllFault_Off:
@@ -3825,11 +4905,12 @@ ee_result ee_write_all(ee_store *store, const ee_value *values, uint32_t count) 
             return ended_well(EE_WRONG_NUMBER, store);
         }
     }
-    const ListOfPut list = { .items = values, .len = count };
-    const WriteAllResult answer = store_write_all(&store->memory.parts.store, list);
+    const WriteAllResult answer = store_write_all(&store->memory.parts.store, values, count);
     return ended(answer.ok ? (ee_result)EE_OK : write_all_status(answer.error), store);
 }
+#endif
 
+#ifndef EE_NO_FORGET
 static ee_result forget_status(ForgetFault fault) {
     switch (fault) {
     case ForgetFault_Off:
@@ -3873,6 +4954,7 @@ ee_result ee_forget_all(ee_store *store) {
     const ClearResult answer = store_clear(&store->memory.parts.store);
     return ended(answer.ok ? (ee_result)EE_OK : clear_status(answer.error), store);
 }
+#endif
 
 ee_result ee_clean(ee_store *store) {
     const ee_result refused = begun(store, EE_NO_ADDRESS, store);

@@ -1,4 +1,4 @@
-/* ee: variables in flash, after ST's AN4894. The store for firmware: compiled from proved sources, see README.md.
+/* ee: variables in flash, after ST's AN4894. The store for firmware: ee.c, made from proved sources, see README.md.
  *
  * The flash is two sets of `pages` pages (1 to 64), each of `page_words` words of 64 bits (5 to 512). Pages are numbered
  * from 0, those of the first set first, and the words of a page from 0. A set has pages * (page_words - 4) slots: as many
@@ -20,26 +20,28 @@
  * Threads hold one mutex around each call, for all stores and drivers of one flash controller. No two stores are on one flash.
  *
  * Nothing here calls itself, no memory is asked for, and each loop has an end. At most so many words are read, words
- * programmed and pages erased in a call, with P pages in a set, S = P * (page_words - 4) slots, W = 2 * P * page_words words
- * of the flash, and N = S * (S / 28 + 1):
+ * programmed and pages erased in a call, with P pages in a set, S = P * (page_words - 4) slots, L addresses with a value behind
+ * the call, which are S at most, W = 2 * P * page_words words of the flash, and N = S * (S / 28 + 1). What is programmed and
+ * erased is proved of the sources; what is read is counted by a test:
  *
  *                                       words read       programmed       erased
  *     ee_start                          3 * W            2 * P            2 * P
  *     ee_open                           3 * W            2 * P            0
  *     ee_format                         W + 2 * P + 2    2                2 * P
  *     ee_write   where a slot is free   2                3                0
- *                else                   2 * N + 2 * W    S + 3 * P + 1    P
- *     ee_write_all   of n values        2 * N + 2 * W    S + 3 * P + 1    P
+ *                else                   2 * N + 2 * W    L + 3 * P + 1    P
+ *     ee_write_all   of n values        2 * N + 2 * W    L + 3 * P + 1    P
  *                                       + n * S
  *     ee_forget  where a slot is free   S + 2            3                0
- *                else                   N + 2 * W        S + 3 * P + 1    P
+ *                else                   N + 2 * W        L + 3 * P + 1    P
  *     ee_forget_all                     2 * W            P + 2            P
  *     ee_clean                          W / 2 + P        0                1
  *     ee_read                           S                0                0
  *     ee_next                           N                0                0
  *     ee_counts                         N + W            0                0
- *     ee_rescue                         N + 3 * W        S + 3 * P + 1    P
+ *     ee_rescue                         N + 3 * W        L + 3 * P + 1    P
  *     ee_bad_words                      2 * W            0                0
+ *     ee_foreign_word                   3 * W            0                0
  *
  * On pairs a word read or programmed is two numbers, ee_open reads W words more, and ee_start 2 * W. For each torn word, which a
  * cut left half written, ee_start and ee_open read 17 words more.
@@ -49,7 +51,11 @@
  * functions, before each step and in `word`. Between two calls of the three the library does some hundred instructions; but
  * ee_write_all first compares each two addresses of its list.
  *
- * The stack that a call takes stands in the head of ee.s, beside what the three functions take. README.md has more of this.
+ * ee.c leaves calls out where these are defined, for a program that makes none of them: EE_NO_LISTS ee_write_all, EE_NO_FORGET
+ * ee_forget and ee_forget_all, EE_NO_RESCUE ee_rescue and ee_bad_words, EE_NO_OPEN ee_open and ee_format. With EE_NO_PAIRS it
+ * takes a flash of EE_WORDS alone. With EE_INDEX it takes an index (ee_index).
+ *
+ * The stack that a call takes, beside what the three functions take, is in README.md and ../RESULTS.md.
  */
 #ifndef EE_H
 #define EE_H
@@ -97,6 +103,29 @@ enum {
     EE_PAIRS_CLEARING = 2
 };
 
+/* An index, in memory that the caller lends: for each variable the slot in which it stands, four bytes a variable. So a read looks
+ * at one word of the flash, and a move copies without looking for what is live. It takes an ee.c that was compiled with EE_INDEX;
+ * any other does as without one. EE_INDEX_IN(entries) makes one of an array of entries, one for each variable. It is the store's
+ * as long as that is used.
+ *
+ * Where more addresses have a value than there are entries, the store gives the index up, and looks through the slots as without
+ * one; an opening does so too. `is_given_up` tells. So no call is refused for want of entries. A move behind which all have room
+ * brings the index back, and so does ee_forget_all. Behind ee_rescue it is made anew. */
+typedef struct ee_entry {
+    uint16_t first, second; /* private */
+} ee_entry;
+typedef struct ee_index {
+    struct ee_list {
+        struct ee_room {
+            ee_entry *items;
+            uint32_t len;
+        } room;
+        uint32_t count;
+    } list; /* private */
+    bool is_given_up;
+} ee_index;
+#define EE_INDEX_IN(entries) {{{(entries), (uint32_t)(sizeof(entries) / sizeof((entries)[0]))}, 0}, true}
+
 /* A flash. It stays where it is, and as it is, while a store is open on it; it may be a constant. */
 typedef struct ee_flash {
     void *context; /* given to each of the three functions; the library does not look at it */
@@ -125,6 +154,8 @@ typedef struct ee_flash {
      * of them can't be read, where a read failed, or where they stand in no memory: then `word` is asked for each. They are looked
      * at before one of these functions is called again, so they may stand in a buffer, the same each time. */
     const uint64_t *(*words)(void *context, uint32_t page, uint32_t place, uint32_t count);
+    /* NULL, or for speed alone: an index of this flash and of no other. */
+    ee_index *index;
 } ee_flash;
 
 /* The most words that `words` is asked for at once; of numbers twice as many. */
@@ -157,6 +188,7 @@ struct ee_layout {
 };
 struct ee_known {
     struct ee_layout layout;
+    struct ee_index *lookup; /* of the flash */
 };
 struct ee_kept {
     struct ee_device flash;
@@ -165,12 +197,12 @@ struct ee_kept {
 
 /* A store, in memory that the caller lends, which stays where it is. ee_start, ee_open, ee_format or ee_rescue comes before every
  * other call on it. One of zeros is off, and so is a copy of one. A copy that is put where the store stood isn't told from it, and
- * may be an older one: open it before any other call. */
+ * may be an older one: open it before any other call. Open a copy whose store is gone, too, before any other call: that would
+ * compare the address of what is gone, which C99 leaves undefined (6.2.4). */
 typedef struct ee_store {
-    /* Private. Its size is part of what the files of assembly take: nine pointers. The members are those of ee.c. */
+    /* Private. The members are those of ee.c. */
     union {
-        uintptr_t words[9];
-        uint32_t numbers[8]; /* enough where a pointer has 16 bits */
+        uintptr_t words[10];
         struct {
             struct ee_kept store;
             struct ee_power power;
@@ -305,6 +337,11 @@ ee_result ee_rescue(ee_store *store, const ee_flash *flash);
  * nothing. EE_OK; EE_DRIVER, or EE_NULL and EE_WRONG_SHAPE. `count` is written with EE_OK alone. */
 ee_result ee_bad_words(const ee_flash *flash, uint32_t *count);
 
+/* Where the first word stands for which ee_start and ee_open answer EE_FOREIGN: its page, and its place there, of the words, also
+ * on pairs. It takes no store and writes nothing. EE_OK; EE_NOTHING where a start doesn't answer that; EE_DRIVER, or EE_NULL and
+ * EE_WRONG_SHAPE. Both are written with EE_OK alone. A program that doesn't call it has no byte of it. */
+ee_result ee_foreign_word(const ee_flash *flash, uint32_t *page, uint32_t *word);
+
 /* Helpers, made of the calls above. A program that calls none of them is the same as without them, byte by byte. */
 
 /* Gives an address a value as ee_write, but writes nothing where it has that value already: this saves a slot, and takes the
@@ -374,6 +411,79 @@ static inline ee_result ee_read_bool(const ee_store *store, uint16_t address, bo
     ee_result status = ee_read(store, address, truth ? &value : 0);
     if (status == EE_OK) *truth = ee_as_bool(value);
     return status;
+}
+
+/* What failed: a step of the driver's, or a read. */
+typedef struct ee_error {
+    uint32_t step; /* EE_STEP_READ, EE_STEP_PROGRAM or EE_STEP_ERASE; 0 where nothing failed yet */
+    uint32_t page;
+    uint32_t word; /* in the page, also where the flash has numbers; 0 of an erase */
+    uint32_t code; /* what the driver's function answered */
+} ee_error;
+
+enum { EE_STEP_READ = 1, EE_STEP_PROGRAM = 2, EE_STEP_ERASE = 3 };
+
+/* A flash before the driver's own, which notes what fails there. Call ee_note_errors, and open the store on what it gives. It stays
+ * where it is, as an `ee_flash`. Each call of the driver's functions goes through one more. */
+typedef struct ee_noted {
+    ee_flash flash;
+    const ee_flash *driver;
+    ee_error last;
+} ee_noted;
+
+static inline uint32_t ee_noted_step(ee_noted *noted, uint32_t step, uint32_t page, uint32_t place, uint32_t code) {
+    if (code != 0) {
+        noted->last.step = step;
+        noted->last.page = page;
+        noted->last.word = noted->flash.kind == EE_WORDS ? place : place / 2;
+        noted->last.code = code;
+    }
+    return code;
+}
+
+static inline uint32_t ee_noted_word(void *context, uint32_t page, uint32_t place, uint64_t *value) {
+    ee_noted *noted = (ee_noted *)context;
+    uint32_t code = noted->driver->word(noted->driver->context, page, place, value);
+    return code == EE_TORN ? code : ee_noted_step(noted, EE_STEP_READ, page, place, code);
+}
+
+static inline uint32_t ee_noted_program(void *context, uint32_t page, uint32_t place, uint64_t value) {
+    ee_noted *noted = (ee_noted *)context;
+    uint32_t code = noted->driver->program(noted->driver->context, page, place, value);
+    return ee_noted_step(noted, EE_STEP_PROGRAM, page, place, code);
+}
+
+static inline uint32_t ee_noted_erase(void *context, uint32_t page) {
+    ee_noted *noted = (ee_noted *)context;
+    return ee_noted_step(noted, EE_STEP_ERASE, page, 0, noted->driver->erase(noted->driver->context, page));
+}
+
+static inline const uint64_t *ee_noted_words(void *context, uint32_t page, uint32_t place, uint32_t count) {
+    ee_noted *noted = (ee_noted *)context;
+    return noted->driver->words(noted->driver->context, page, place, count);
+}
+
+/* The flash to open a store on, so that what fails on the driver's is noted. NULL where a pointer is. */
+static inline const ee_flash *ee_note_errors(ee_noted *noted, const ee_flash *driver) {
+    if (!noted || !driver) return 0;
+    noted->flash = *driver;
+    noted->flash.context = noted;
+    if (driver->word) noted->flash.word = ee_noted_word;
+    if (driver->program) noted->flash.program = ee_noted_program;
+    if (driver->erase) noted->flash.erase = ee_noted_erase;
+    if (driver->words) noted->flash.words = ee_noted_words;
+    noted->driver = driver;
+    noted->last.step = noted->last.page = noted->last.word = noted->last.code = 0;
+    return &noted->flash;
+}
+
+/* What failed last, behind EE_DRIVER. EE_OK; EE_NOTHING where nothing failed since ee_note_errors; EE_NULL. Behind EE_FOREIGN
+ * ask ee_foreign_word. */
+static inline ee_result ee_last_error(const ee_noted *noted, ee_error *error) {
+    if (!noted || !error) return EE_NULL;
+    if (noted->last.step == 0) return EE_NOTHING;
+    *error = noted->last;
+    return EE_OK;
 }
 
 /* A few words on a status, for a log. */

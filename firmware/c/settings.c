@@ -33,7 +33,7 @@ int main(int count, char **words) {
     CHECK(ee_start(&store, &flash) == EE_OK);
     EE_SETTINGS(IN_RANGE)
     CHECK(volume(&store) == 7);
-    CHECK(ee_write(&store, EE_VOLUME_ADDRESS, EE_VOLUME_MOST) == EE_OK && volume(&store) == 10);
+    CHECK(ee_write(&store, EE_VOLUME_ADDRESS, EE_VOLUME_MAX) == EE_OK && volume(&store) == 10);
     CHECK(ee_write(&store, EE_VOLUME_ADDRESS, 11) == EE_OK && volume(&store) == EE_VOLUME_DEFAULT);
     CHECK(ee_forget(&store, EE_VOLUME_ADDRESS) == EE_OK && volume(&store) == EE_VOLUME_DEFAULT);
     return fclose(dump);

@@ -11,7 +11,14 @@ SECTIONS
 {
     .text : { KEEP(*(.vectors)) *(.text .text.*) *(.rodata .rodata.*) } > FLASH
     .ARM.exidx : { *(.ARM.exidx .ARM.exidx.*) } > FLASH
-    .data : { . = ALIGN(4); data_start = .; *(.time_critical .time_critical.*) *(.ramfunc) *(.data .data.*) . = ALIGN(4); data_end = .; } > RAM AT > FLASH
+    .data :
+    {
+        . = ALIGN(4);
+        data_start = .;
+        *(.time_critical .time_critical.*) *(.ramfunc) *(.data .data.*)
+        . = ALIGN(4);
+        data_end = .;
+    } > RAM AT > FLASH
     data_from = LOADADDR(.data);
     .bss : { bss_start = .; *(.bss .bss.* COMMON) . = ALIGN(8); bss_end = .; } > RAM
     stack_top = ORIGIN(RAM) + LENGTH(RAM);

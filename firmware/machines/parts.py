@@ -13,6 +13,9 @@ def part_of(word, offset, width):
 class Part:
     """A part with its flash as `cells`. The model of a family says what its registers do, and what a cut leaves."""
 
+    # Whether the core stands still on a read of the flash in a step, as with one bank; else it may read none then. And how often it did.
+    stalls, stood = False, 0
+
     def __init__(self, dice):
         self.dice, self.taken = dice, 0
         self.cells = self.blank()

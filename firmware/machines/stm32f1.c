@@ -3,7 +3,7 @@
 
 #include "program.h"
 
-static stm32f1 part = {.registers = (stm32f1_registers *)0x40022000, .flash = (volatile uint16_t *)0x0800f000, .page_words = 64};
+static stm32f1 part = {.registers = 0x40022000, .flash = (volatile uint16_t *)0x0800f000, .page_words = 64};
 
 ee_flash part_flash(void) { return stm32f1_flash(&part, 2); }
 

@@ -4,7 +4,6 @@
 #include "program.h"
 
 static stm32f4 part = {
-    .registers = (stm32f4_registers *)0x40023c00,
     .sectors = {{.number = 2, .flash = (volatile uint32_t *)0x08008000}, {.number = 3, .flash = (volatile uint32_t *)0x0800c000}},
     .page_words = 128,
 };

@@ -3,7 +3,7 @@
 
 #include "program.h"
 
-static stm32u5 part = {.registers = (stm32u5_registers *)0x40022000, .cache = (stm32u5_cache *)0x40030400};
+static stm32u5 part;
 
 ee_flash part_flash(void) { return stm32u5_flash(&part, 0x081fc000, 1); }
 

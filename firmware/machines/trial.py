@@ -42,9 +42,15 @@ class Watcher:
 
     def step(self, place):
         """An instruction is done, and the one at this place comes next."""
-        check(not self.part.is_away(place), "an instruction is read from flash while it is written")
-        if not self.is_on:
-            return
+        if self.is_on:
+            self.count(place)
+        if self.part.is_away(place):
+            check(self.part.stalls, "an instruction is read from flash while it is written")
+            self.part.stood += 1
+            self.part.settle()
+
+    def count(self, place):
+        """Counts an instruction, and keeps what a cut leaves there, or not."""
         self.instructions += 1
         self.since += 1
         if self.part.is_touched:
@@ -61,10 +67,11 @@ class Watcher:
 class Trial:
     """The trial of a port."""
 
-    def __init__(self, port, path, core, model):
+    def __init__(self, port, path, core, model, stalls=False):
         self.port, self.core_name, self.dice = port, core, random.Random(port)
         program = Program(path, core)
         self.part, self.next_part = model(self.dice), model(self.dice)
+        self.part.stalls = self.next_part.stalls = stalls
         self.watcher = Watcher(self.part, self.dice)
         self.core, self.next_core = Core(program, self.part, self.watcher), Core(program, self.next_part)
         # Some starts behind a cut are watched too, so that an NMI may be late in them.
@@ -233,5 +240,6 @@ class Trial:
         """What is told of it."""
         taken = self.part.taken + self.next_part.taken
         name = "Cortex-" + self.core_name[len("cortex-"):].replace("plus", "+").upper()
+        stood = f"; the core stood still in {self.part.stood} steps" if self.part.stalls else ""
         return (f"{self.port} on a {name}: {self.cuts} cuts, {self.under_way} in a step under way; {self.before} left the map "
-                f"before the change, {self.after} the one after it; {self.watcher.instructions} instructions, {taken} NMIs")
+                f"before the change, {self.after} the one after it; {self.watcher.instructions} instructions, {taken} NMIs{stood}")

@@ -13,13 +13,12 @@ use std::fmt;
 
 mod forms;
 mod packages;
-mod stepping;
 #[cfg(test)]
 mod tests;
 mod token;
 mod tree;
 
-pub use packages::{desk, ee_store, for_async};
+pub use packages::{cli, ee_store};
 pub use tree::{differing, made_files, modules, write};
 
 type Words = &'static [&'static str];

@@ -1,8 +1,8 @@
 //! Makes plain Rust of the proved sources. It is called at the top of the repository:
 //!
-//! - `strip desk OUT` writes the modules of the program below `OUT`, as a build of `desk` does;
-//! - `strip firmware` writes both packages of `firmware/rust` in their places;
-//! - `strip firmware --compare` says whether these stand there as they would be made.
+//! - `strip cli OUT` writes the modules of the program below `OUT`, as a build of `cli` does;
+//! - `strip firmware` writes the store for firmware in its place, `firmware/rust/ee-store/src`;
+//! - `strip firmware --compare` says whether it stands there as it would be made.
 use std::collections::BTreeMap;
 use std::env;
 use std::error::Error;
@@ -10,13 +10,13 @@ use std::path::{Path, PathBuf};
 use std::process::ExitCode;
 use strip::Package;
 
-const USAGE: &str = "strip desk OUT | strip firmware [--compare]";
+const USAGE: &str = "strip cli OUT | strip firmware [--compare]";
 
 fn main() -> ExitCode {
     let words: Vec<String> = env::args().skip(1).collect();
     let words: Vec<&str> = words.iter().map(String::as_str).collect();
     let done = match words[..] {
-        ["desk", out] => desk(Path::new(out)),
+        ["cli", out] => cli(Path::new(out)),
         ["firmware"] => firmware(write),
         ["firmware", "--compare"] => firmware(compare),
         _ => {
@@ -39,25 +39,17 @@ fn main() -> ExitCode {
 type Files = BTreeMap<PathBuf, String>;
 type Said = Result<String, Box<dyn Error>>;
 
-fn desk(out: &Path) -> Said {
+fn cli(out: &Path) -> Said {
     let top = Path::new(".");
-    let package = strip::desk(top)?;
+    let package = strip::cli(top)?;
     write(&package, &strip::made_files(&package, top)?, out)
 }
 
-/// Does something with the files of both packages and the folders in which they stand.
+/// Does something with the files of the package and the folder in which they stand.
 fn firmware(act: fn(&Package, &Files, &Path) -> Said) -> Said {
-    let top = Path::new(".");
     let package = strip::ee_store();
-    let made = strip::made_files(&package, top)?;
-    let waiting = strip::for_async(&made, top)?;
-    let said = act(&package, &made, Path::new("firmware/rust/ee-store/src"))?;
-    let and = act(
-        &package,
-        &waiting,
-        Path::new("firmware/rust/ee-store-async/src"),
-    )?;
-    Ok(format!("{said}\n{and}"))
+    let made = strip::made_files(&package, Path::new("."))?;
+    act(&package, &made, Path::new("firmware/rust/ee-store/src"))
 }
 
 fn write(package: &Package, made: &Files, folder: &Path) -> Said {

@@ -1,14 +1,12 @@
 //! The packages that are made of the sources.
-use super::stepping::stepping;
 use super::{Crate, Package, Refusal, Saying};
-use std::collections::BTreeMap;
 use std::fs;
-use std::path::{Path, PathBuf};
+use std::path::Path;
 
 /// The program at a desk: the crates of `crates.txt` up to `ee`, without their laws. Rattle's own
 /// `std` and its `toml` are the module `rattle`, which is written by hand, as its names are the
 /// prelude of each file.
-pub fn desk(top: &Path) -> Result<Package, Refusal> {
+pub fn cli(top: &Path) -> Result<Package, Refusal> {
     Ok(Package {
         maker: "strip",
         crates: product(top)?,
@@ -103,6 +101,7 @@ pub fn ee_store() -> Package {
             without("ee_codec", ""),
             without("ee_pages", "judging laws"),
             without("ee_core", "laws"),
+            without("ee_records", "laws"),
             without(
                 "ee_index",
                 "costs gathering guessing index indexed inner looking slot_index",
@@ -124,25 +123,4 @@ pub fn ee_store() -> Package {
         hides_origins: true,
         ..Package::default()
     }
-}
-
-/// The store for async drivers: what is made for the other one, but for the index, which is for
-/// calls that wait alone, and the files by hand that both have; `async` where steps are made.
-pub fn for_async(
-    made: &BTreeMap<PathBuf, String>,
-    top: &Path,
-) -> Result<BTreeMap<PathBuf, String>, Refusal> {
-    let mut texts = made.clone();
-    texts.retain(|path, _| !path.starts_with("ee_index"));
-    for name in "driver error iter logged nor numbers pairs store value".split(' ') {
-        let file = format!("firmware/rust/ee-store/src/{name}.rs");
-        let text = fs::read_to_string(top.join(&file))
-            .map_err(|fault| Refusal::of(&file, fault.to_string()))?;
-        let head = format!(
-            "// Made by {} from {file}. Change that file.\n",
-            ee_store().maker
-        );
-        texts.insert(format!("{name}.rs").into(), head + &text);
-    }
-    Ok(stepping(&texts))
 }

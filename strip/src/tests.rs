@@ -1,6 +1,6 @@
 //! Each form is left out or written otherwise, and what is not known is refused with its line.
 use crate::forms::Source;
-use crate::{desk, differing, ee_store, for_async, made_files, Crate, Package, Refusal};
+use crate::{cli, differing, ee_store, made_files, Crate, Package, Refusal};
 use std::collections::BTreeMap;
 use std::fs;
 use std::path::{Path, PathBuf};
@@ -19,7 +19,7 @@ fn home(name: &str) -> Crate {
 fn package() -> Package {
     Package {
         crates: vec![home("ee_core"), home("ee_flash")],
-        ..desk(top()).expect("a package")
+        ..cli(top()).expect("a package")
     }
 }
 
@@ -379,7 +379,7 @@ fn sources_with_a_line_more() {
         ("ee/src/main.rt", "use std::env;", "#![feature(odd)]"),
     ];
     for (file, before, line) in program {
-        refused_in(&desk(top()).expect("a package"), file, before, line);
+        refused_in(&cli(top()).expect("a package"), file, before, line);
     }
 }
 
@@ -408,7 +408,7 @@ fn refused_in(package: &Package, file: &str, before: &str, line: &str) {
 /// panics.
 #[test]
 fn damaged_sources() {
-    let package = desk(top()).expect("a package");
+    let package = cli(top()).expect("a package");
     for home in package
         .crates
         .iter()
@@ -506,14 +506,11 @@ fn trees() {
     }
 }
 
-/// Both committed stores are what is made.
+/// The committed store is what is made.
 #[test]
-fn the_stores_as_committed() {
+fn the_store_as_committed() {
     let package = ee_store();
     let made = made_files(&package, top()).expect("what is made");
-    let waiting = for_async(&made, top()).expect("what is made");
-    for (name, made) in [("ee-store", made), ("ee-store-async", waiting)] {
-        let folder = top().join("firmware/rust").join(name).join("src");
-        assert_eq!(differing(&package, &made, &folder), [] as [PathBuf; 0]);
-    }
+    let folder = top().join("firmware/rust/ee-store/src");
+    assert_eq!(differing(&package, &made, &folder), [] as [PathBuf; 0]);
 }

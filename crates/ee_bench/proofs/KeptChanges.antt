@@ -1,6 +1,6 @@
 -- What each turn of a drive does to the cuts, to the map and to the image, and so
 -- what all of them do.
-use Rattle.std.proofs.Common.{◌≡◌, ◌⊎◌, inl, inr, ℕ, ◌+◌, ◌≤◌, Bool, true, false, cond, min, Option, Some, None, Ok, List, [], ◌∷◌, refl, sym, ◌∙◌, arith, rules}
+use Rattle.std.proofs.Common.{◌≡◌, ◌⊎◌, inl, inr, ℕ, ◌+◌, ◌≤◌, Bool, true, false, cond, min, Option, Some, None, Ok, List, [], ◌∷◌, refl, sym, ap, ◌∙◌, arith, rules}
 use Rattle.std.proofs.Math.Path.{fun_ext}
 use Rattle.std.specs.Borrow.{Bor}
 use Rattle.std.specs.List.{count_by}
@@ -12,14 +12,14 @@ use Rattle.ee_pages.proofs.Public.{legal_is_good}
 use Rattle.ee_pages.specs.Legal.{IsLegal}
 use Rattle.ee_pages.specs.Meaning as meaning
 use Rattle.ee_pages.specs.Meaning.{Change, Map, map_after, changed_by}
-use Rattle.ee_core.proofs.Public.{put-at, put-other, cut_clearing, cut_map, cut_making, still_none, legal_on, lists_are_there_lem, changed_by-append, goes}
+use Rattle.ee_core.proofs.Public.{forget-at, forget-other, put-at, put-other, cut_clearing, cut_map, cut_making, still_none, legal_on, lists_are_there_lem, changed_by-append, goes}
 use Rattle.ee_core.specs.Calls.{IsCutClean}
 use Rattle.ee_core.specs.Changes.{IsCutChange, IsCutMaking}
 use Rattle.ee_core.specs.Emptying.{IsCutClear}
 use Rattle.ee_core.specs.Points.{Point, closed_point, with_power_on}
 use Rattle.ee_core.specs.Finished.{IsStore}
 use Rattle.ee_core.specs.Openings.{IsCutOpening, Opens}
-use Rattle.ee_core.specs.Puts.{HasAll, IsEachOnce, puts_of}
+use Rattle.ee_core.specs.Puts.{HasAll, IsEachOnce, each_forgotten, puts_of}
 use Rattle.ee_core.specs.Runs.{Call, WroteAll, Cleared as DidClear, Follows, changes_of_call, is_cut}
 use Rattle.ee_core.specs.State.{state_of}
 use Rattle.ee_core.specs.declared.change.Put as listed
@@ -40,6 +40,38 @@ use Rattle.ee_bench.specs.declared.event.Event.TheVariants.{Clean, Clear, Forget
 put_again : (map : Map) (named value address : ℕ) → map named ≡ Some value
     → map address ≡ map_after (meaning.Put named value) map address
 put_again map named value address there = search (rules, cases_eq, put-at, put-other)
+
+put_found : (old new : Map) (named value : ℕ)
+    → (new ≡ old) ⊎ (new ≡ map_after (meaning.Put named value) old) → new named ≡ Some value
+    → new ≡ map_after (meaning.Put named value) old
+put_found _ _ _ _ (inr done) _ = done
+put_found old new named value (inl same) there =
+    let had : old named ≡ Some value = sym (ap (λ (map : Map). map named) same) ∙ there in
+    same ∙ fun_ext (λ address. put_again old named value address had)
+
+forget_again : (map : Map) (named address : ℕ) → map named ≡ None
+    → map address ≡ map_after (meaning.Forget named) map address
+forget_again map named address none = search (rules, cases_eq, forget-at, forget-other)
+
+forget_found : (old new : Map) (named : ℕ)
+    → (new ≡ old) ⊎ (new ≡ map_after (meaning.Forget named) old) → new named ≡ None
+    → new ≡ map_after (meaning.Forget named) old
+forget_found _ _ _ (inr done) _ = done
+forget_found old new named (inl same) gone =
+    let had : old named ≡ None = sym (ap (λ (map : Map). map named) same) ∙ gone in
+    same ∙ fun_ext (λ address. forget_again old named address had)
+
+clear_found : (old new : Map)
+    → (new ≡ old) ⊎ ((new ≡ changed_by each_forgotten old) × ((address : ℕ) → new address ≡ None))
+    → IsEmptied new → new ≡ changed_by each_forgotten old
+clear_found _ _ (inr done) _ = done.0
+clear_found old new (inl same) emptied =
+    same
+    ∙ fun_ext (λ address.
+    sym (ap (λ (map : Map). map address) same) ∙ emptied address
+    ∙ sym
+    (still_none 1 65534 old address
+    (sym (ap (λ (map : Map). map address) same) ∙ emptied address)))
 
 put_lost : (old new : Map) (named value : ℕ)
     → (new ≡ old) ⊎ (new ≡ map_after (meaning.Put named value) old) → (new named ≡ Some value → ⊥)
@@ -76,7 +108,8 @@ clear_kept : (held : Bool) (old new : Device) → IsCutClear old new
     → (held ≡ true → IsEmptied (state_of new).map) → (IsEmptied (state_of new).map → held ≡ true)
     → (state_of new).map
     ≡ changed_by (kept_by Clear (NotCleared clear.Cut) (Some held)) (state_of old).map
-clear_kept true old new cut emptied found = search (rules, cut_clearing, fun_ext, still_none)
+clear_kept true old new cut emptied found =
+    clear_found (state_of old).map (state_of new).map (cut_clearing old new cut) (emptied refl)
 clear_kept false old new cut emptied found = search rules
 
 -- ---- one turn
@@ -110,7 +143,9 @@ put_kept : (address value : ℕ) (held : Bool) (old new : Device) → IsLegal ol
     → (state_of new).map
     ≡ changed_by (kept_by (Put address value) (Refused write.Cut) (Some held))
     (state_of old).map
-put_kept address value true old new legal cut there found = search rules
+put_kept address value true old new legal cut there found =
+    put_found (state_of old).map (state_of new).map address value
+    (cut_map old new (meaning.Put address value) cut) (there refl)
 put_kept address value false old new legal cut there found =
     put_lost (state_of old).map (state_of new).map address value
     (cut_map old new (meaning.Put address value) cut)
@@ -123,7 +158,9 @@ forget_kept : (address : ℕ) (held : Bool) (old new : Device) → IsLegal old
     → (state_of new).map
     ≡ changed_by (kept_by (Forget address) (NotForgotten forget.Cut) (Some held))
     (state_of old).map
-forget_kept address true old new legal cut gone found = search rules
+forget_kept address true old new legal cut gone found =
+    forget_found (state_of old).map (state_of new).map address
+    (cut_map old new (meaning.Forget address) cut) (gone refl)
 forget_kept address false old new legal cut gone found =
     forget_lost (state_of old).map (state_of new).map address
     (cut_map old new (meaning.Forget address) cut)

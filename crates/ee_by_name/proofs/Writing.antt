@@ -40,8 +40,8 @@ pub constants_made : (language : Language) (setting : Setting)
     → name ≡ in_capitals setting.name → line ≡ old ++ codes "\n"
     → first
     ≡ line ++ constant_in language name (codes "ADDRESS") (codes "u16") setting.numbers.address
-    → second ≡ first ++ constant_in language name (codes "LEAST") (codes "u32") setting.numbers.min
-    → third ≡ second ++ constant_in language name (codes "MOST") (codes "u32") setting.numbers.max
+    → second ≡ first ++ constant_in language name (codes "MIN") (codes "u32") setting.numbers.min
+    → third ≡ second ++ constant_in language name (codes "MAX") (codes "u32") setting.numbers.max
     → last
     ≡ third ++ constant_in language name (codes "DEFAULT") (codes "u32") setting.numbers.default
     → last ≡ old ++ constants_in language setting

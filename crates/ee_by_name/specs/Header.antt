@@ -24,8 +24,8 @@ abbrev pub c_constants : Setting → List ℕ
 c_constants setting =
     codes "\n"
     ++ c_constant (in_capitals setting.name) (codes "ADDRESS") setting.numbers.address
-    ++ c_constant (in_capitals setting.name) (codes "LEAST") setting.numbers.min
-    ++ c_constant (in_capitals setting.name) (codes "MOST") setting.numbers.max
+    ++ c_constant (in_capitals setting.name) (codes "MIN") setting.numbers.min
+    ++ c_constant (in_capitals setting.name) (codes "MAX") setting.numbers.max
     ++ c_constant (in_capitals setting.name) (codes "DEFAULT") setting.numbers.default
 
 -- a number of a row
@@ -71,8 +71,8 @@ rust_constants setting =
     codes "\n"
     ++ rust_constant (in_capitals setting.name) (codes "ADDRESS") (codes "u16")
     setting.numbers.address
-    ++ rust_constant (in_capitals setting.name) (codes "LEAST") (codes "u32") setting.numbers.min
-    ++ rust_constant (in_capitals setting.name) (codes "MOST") (codes "u32") setting.numbers.max
+    ++ rust_constant (in_capitals setting.name) (codes "MIN") (codes "u32") setting.numbers.min
+    ++ rust_constant (in_capitals setting.name) (codes "MAX") (codes "u32") setting.numbers.max
     ++ rust_constant (in_capitals setting.name) (codes "DEFAULT") (codes "u32")
     setting.numbers.default
 
@@ -93,7 +93,7 @@ rust_row setting =
 -- how a list of so many rows begins
 abbrev pub rust_list : ℕ → List ℕ
 rust_list count =
-    codes "\n// Name, address, least, most, default.\n"
+    codes "\n// Name, address, min, max, default.\n"
     ++ codes "pub const SETTINGS: [(&str, u16, u32, u32, u32); " ++ decimal count ++ codes "] = [\n"
 
 -- the constants of each setting and the list of all of them, by rising name

@@ -73,8 +73,8 @@ fn push_constants<A: Allocator + Copy>(
     let address = u32::from(numbers.address.get());
     out.push_str("\n")?;
     push_constant(out, name, "ADDRESS", "u16", address, language)?;
-    push_constant(out, name, "LEAST", "u32", numbers.min, language)?;
-    push_constant(out, name, "MOST", "u32", numbers.max, language)?;
+    push_constant(out, name, "MIN", "u32", numbers.min, language)?;
+    push_constant(out, name, "MAX", "u32", numbers.max, language)?;
     push_constant(out, name, "DEFAULT", "u32", numbers.default, language)
 }
 
@@ -100,7 +100,7 @@ fn push_constant<A: Allocator>(
 fn push_rust_list_head<A: Allocator>(out: &mut String<A>, count: u64) -> Result<(), AllocError>
     ensures { OnOk result (string_bytes out.new ≡ string_bytes out.old ++ rust_list count) }
 {
-    out.push_str("\n// Name, address, least, most, default.\n")?;
+    out.push_str("\n// Name, address, min, max, default.\n")?;
     writeln!(
         out,
         "pub const SETTINGS: [(&str, u16, u32, u32, u32); {count}] = ["

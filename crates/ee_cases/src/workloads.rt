@@ -4,6 +4,7 @@
 //!     run          a firmware's day: writes, reads and forgettings on a thousand variables
 //!     brown-outs   a small part whose power is cut again and again
 //!     crowded      a large part with hardly a slot to spare
+//!     refused      a part that is filled, and writes for which it has no room
 //!     certify      certificates made and checked, and a part's size chosen
 //!     settings     settings programmed, listed and tidied by name
 //!     parts        images to a part's bytes and back
@@ -22,7 +23,7 @@ use job::{JOBS, Job, job_of};
 use naming::settings;
 use part::Part;
 use planning::certify;
-use playing::{brown_outs, crowded, run};
+use playing::{brown_outs, crowded, refused, run};
 use reading_out::parts;
 use std::alloc::Global;
 use std::io;
@@ -71,6 +72,7 @@ fn do_round(part: &mut Part, job: Job) {
         Job::Run => run(part),
         Job::BrownOuts => brown_outs(part),
         Job::Crowded => crowded(part),
+        Job::Refused => refused(part),
         Job::Certify => certify(part),
         Job::Settings => settings(part),
         Job::Parts => parts(part),

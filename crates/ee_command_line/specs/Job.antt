@@ -28,7 +28,7 @@ pub data Row : Type 0 where
   States : List ℕ → Row
   Clean : List ℕ → Row
   Rescue : List ℕ → Row
-  Clear : List ℕ → Row
+  ForgetAll : Bool → List ℕ → Row
   Stale : List ℕ → List ℕ → Row
   Tidy : List ℕ → List ℕ → Row
   Listing : List ℕ → Option (List ℕ) → Row
@@ -56,7 +56,7 @@ row_of (job.Wear image before) = Wear image.now (option_map (λ path. path.now) 
 row_of (job.States image) = States image.now
 row_of (job.Clean image) = Clean image.now
 row_of (job.Rescue image) = Rescue image.now
-row_of (job.Clear image) = Clear image.now
+row_of (job.ForgetAll force image) = ForgetAll force image.now
 row_of (job.Stale image settings) = Stale image.now settings.now
 row_of (job.Tidy image settings) = Tidy image.now settings.now
 row_of (job.List image settings) = Listing image.now (option_map (λ path. path.now) settings)
@@ -96,7 +96,8 @@ HasBase word base = decode_of word ≡ Ok (to_be_bytes w32 base)
 
 -- its size is within the limits, its value has 32 bits, its base is one, from which a part that is
 -- imported ends within 32 bits, an image to export is not named `--pairs`, one to run on is not
--- named `--indexed`, settings to tell are not named `--rust`, and cycles and runs are counts
+-- named `--indexed`, one to forget all of is not named `--force`, settings to tell are not named
+-- `--rust`, and cycles and runs are counts
 abbrev pub IsRow : Row → Type 0
 IsRow (Try size) = IsWithinLimits size
 IsRow (Format size image) = IsWithinLimits size
@@ -117,7 +118,7 @@ IsRow (Wear image before) = Unit {0}
 IsRow (States image) = Unit {0}
 IsRow (Clean image) = Unit {0}
 IsRow (Rescue image) = Unit {0}
-IsRow (Clear image) = Unit {0}
+IsRow (ForgetAll force image) = image ≢ codes "--force"
 IsRow (Stale image settings) = Unit {0}
 IsRow (Tidy image settings) = Unit {0}
 IsRow (Listing image settings) = Unit {0}
@@ -130,7 +131,7 @@ abbrev pub IsPlain : List ℕ → Type 0
 IsPlain command =
     command ≢ codes "run" × command ≢ codes "header" × command ≢ codes "export"
     × command ≢ codes "export-hex"
-    × command ≢ codes "import" × command ≢ codes "import-hex"
+    × command ≢ codes "import" × command ≢ codes "import-hex" × command ≢ codes "forget-all"
 
 -- a flag, if it is given, before other words
 abbrev pub with_flag : Bool → List ℕ → List (List ℕ) → List (List ℕ)
@@ -180,7 +181,8 @@ AreWordsOf words (Wear image (Some before)) = words ≡ codes "wear" ∷ image �
 AreWordsOf words (States image) = words ≡ codes "states" ∷ image ∷ []
 AreWordsOf words (Clean image) = words ≡ codes "clean" ∷ image ∷ []
 AreWordsOf words (Rescue image) = words ≡ codes "rescue" ∷ image ∷ []
-AreWordsOf words (Clear image) = words ≡ codes "clear" ∷ image ∷ []
+AreWordsOf words (ForgetAll force image) =
+    words ≡ codes "forget-all" ∷ with_flag force (codes "--force") (image ∷ [])
 AreWordsOf words (Stale image settings) = words ≡ codes "stale" ∷ image ∷ settings ∷ []
 AreWordsOf words (Tidy image settings) = words ≡ codes "tidy" ∷ image ∷ settings ∷ []
 AreWordsOf words (Listing image None) = words ≡ codes "list" ∷ image ∷ []

@@ -13,8 +13,8 @@ ee: flash EEPROM emulation over images as text, proved
 
   ee                                       as try 1 6
   ee try P W < SCRIPT                      answers a script on a fresh image
-  ee format P W IMAGE                      writes a formatted image, in place of what the file was
-  ee import P W DUMP IMAGE                 writes the image of a part, from the bytes of its flash
+  ee format P W IMAGE                      makes a formatted image, and replaces the file
+  ee import P W DUMP IMAGE                 makes an image of a part's bytes, and replaces the file
   ee export IMAGE DUMP                     writes those bytes
   ee import-hex P W BASE DUMP IMAGE        the same as import, from Intel HEX
   ee export-hex IMAGE BASE DUMP            the same as export, as Intel HEX
@@ -37,7 +37,7 @@ ee: flash EEPROM emulation over images as text, proved
   ee states IMAGE                          tells the state of each page
   ee clean IMAGE                           erases the pages that wait for it
   ee rescue IMAGE                          makes any image legal, without its bad words
-  ee clear IMAGE                           forgets all addresses
+  ee forget-all [--force] IMAGE            forgets all addresses; with values, only by --force
   ee --help, ee -h, ee help                tells this
   ee --version                             tells the version, and the toolchain that it is proved with
 

@@ -114,8 +114,10 @@ pub enum Job<'a> {
     Rescue {
         image: &'a str,
     },
-    /// `clear IMAGE`: forgets all addresses.
-    Clear {
+    /// `forget-all IMAGE` or `forget-all --force IMAGE`: forgets all addresses; with no flag only
+    /// where none has a value.
+    ForgetAll {
+        force: bool,
         image: &'a str,
     },
     /// `stale IMAGE SETTINGS`: tells the settings whose stored value isn't in their range.

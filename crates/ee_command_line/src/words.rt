@@ -31,6 +31,7 @@ pub fn job<'a>(words: &[&'a str]) -> Option<Job<'a>>
         "export-hex" => export_hex_job(others),
         "import" => import_job(others),
         "import-hex" => import_hex_job(others),
+        "forget-all" => forget_all_job(others),
         command => match *others {
             [] => job_of_one(command),
             [first] => job_of_two(command, first),
@@ -159,6 +160,18 @@ fn import_hex_job<'a>(words: &[&'a str]) -> Option<Job<'a>>
     }
 }
 
+/// The job of `forget-all`.
+fn forget_all_job<'a>(words: &[&'a str]) -> Option<Job<'a>>
+    ensures found { SpellsGiven (codes "forget-all" ∷ texts_of words.now) result }
+    ensures only { GivesSpelled (codes "forget-all" ∷ texts_of words.now) result }
+{
+    let (force, operands) = split_flag("--force", words)?;
+    match *operands {
+        [image] => Some(Job::ForgetAll { force, image }),
+        _ => None,
+    }
+}
+
 /// Whether `--pairs` is given, the shape behind it, and the words behind that.
 #[tactic(auto, using(crate::proofs::Flags::size_is_no_flag))]
 fn split_part<'w, 'a>(words: &'w [&'a str]) -> Option<(bool, Shape, &'w [&'a str])>
@@ -209,7 +222,6 @@ fn job_of_two<'a>(command: &'a str, image: &'a str) -> Option<Job<'a>>
         "inspect" => Job::Inspect { image },
         "clean" => Job::Clean { image },
         "rescue" => Job::Rescue { image },
-        "clear" => Job::Clear { image },
         _ => return None,
     };
     Some(job)

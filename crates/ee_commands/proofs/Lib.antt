@@ -7,7 +7,7 @@ mod PageStates
 mod Traces
 mod OneTask
 mod Rescued
-mod Cleared
+mod ForgottenAll
 mod Planned
 mod Sizes
 mod MadeRuns

@@ -147,7 +147,23 @@ append_then : (old mid : Device) (start : Situation) (call : Call) (calls : List
     → IsProper start → Follows mid (after_move start (Append change)) calls
     → IsLateOf start (call ∷ calls)
 append_then old mid start call calls change meant one still done is live proper follows =
-    search (rules, append_first, appends, changed-le)
+    let free : start.fill < start.slots = let a = is.fill_is in
+    let b = is.slots_are in
+    let c = done.free in omega arith in
+    let more = changed-le start.live change in
+    let held = proper.held in
+    let fits : length (live_after_one start.live change) ≤ start.slots =
+    omega (arith, free, more, held) in
+    let kept : IsProper (after_move start (Append change)) =
+    record { held = omega (arith, more, held); fits = omega (arith, free) } in
+    let here =
+    appends old.size (state_of old) (state_of mid) start change meant done.state_is live is in
+    let there : Starts mid (after_move start (Append change)) =
+    subst
+    (λ (size : Size).
+    IsStartOf (slot_count size) (state_of mid) (after_move start (Append change)))
+    (sym done.goes_on.same_size) here in
+    append_first start call calls change one still free fits (follows there kept)
 
 -- a move, and what follows
 carry_then : (old mid : Device) (start : Situation) (call : Call) (calls : List Call)

@@ -9,7 +9,7 @@ use Rattle.std.specs.BTreeSet.{BTreeSet, contains}
 use Rattle.std.specs.List.{Contains}
 use Rattle.std.specs.Ordering.{nat_cmp}
 use Rattle.ee_flash.specs.Device.{Device}
-use Rattle.ee_flash.specs.Size.{slot_count}
+use Rattle.ee_flash.specs.Size.{Size, slot_count}
 use Rattle.ee_pages.specs.Meaning.{Map}
 use Rattle.ee_core.specs.State.{State, state_of}
 use Rattle.ee_script.specs.declared.session.ScriptFault.{ScriptFault}
@@ -263,7 +263,18 @@ cause_of_check start trace certificate claim cause some (inr h) is =
 pub is_task : (image text : List ℕ) (store : Device) (start : Situation) (trace : List Change)
     → IsOpened image store → IsStartOf (slot_count store.size) (state_of store) start
     → IsTrace text trace → IsTask image text start trace
-is_task image text store start trace opened start_is trace_is = search rules
+is_task image text store start trace opened start_is trace_is = record {
+  start_is = record {
+    device = opened.device;
+    store = opened.old;
+    start_is =
+        subst (λ (state : State). IsStartOf (slot_count opened.device.size) state start)
+        opened.state_is
+        (subst (λ (size : Size). IsStartOf (slot_count size) (state_of store) start)
+        opened.same_size start_is);
+  };
+  trace_is = trace_is;
+}
 
 -- the trace, by another name; that they are one is found anew at each call, so that another
 -- trace leaves a goal open

@@ -1,6 +1,6 @@
 pub mod Images
 pub mod Rescuing
-pub mod Clearing
+pub mod Forgetting
 pub mod Wear
 pub mod Planning
 pub mod Sizing

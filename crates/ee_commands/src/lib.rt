@@ -1,6 +1,6 @@
 //! The commands of `ee` on images that answer no script and take no settings.
 //!
-//! `specs/Planning.antt`, `Wear.antt`, `Images.antt`, `Rescuing.antt`, `Clearing.antt` and
+//! `specs/Planning.antt`, `Wear.antt`, `Images.antt`, `Rescuing.antt`, `Forgetting.antt` and
 //! `Sizing.antt` say what each gives, and the first fault for which it gives nothing;
 //! `specs/ToldSizes.antt` what the sizes that are told mean for a store.
 //!
@@ -8,7 +8,7 @@
 //! head of `ee_shell` says.
 #![tactic(auto)]
 
-mod clearing;
+mod forgetting;
 mod images;
 pub mod laws;
 mod planning;
@@ -16,7 +16,7 @@ mod rescuing;
 mod sizing;
 mod wear;
 
-pub use clearing::clear_image;
+pub use forgetting::forget_all;
 pub use images::{clean_image, format_image, states_text};
 pub use planning::{check_script, plan_script};
 pub use rescuing::rescue_image;

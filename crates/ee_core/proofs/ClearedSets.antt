@@ -1,11 +1,17 @@
 -- The other set at the start of a transfer, whose pages are erased one after another.
-use Rattle.ee_core.proofs.Base.{◌≡◌, ◌⊎◌, ℕ, ◌+◌, ◌-◌, ◌<◌, ◌≤◌, true, false, [], ◌∷◌, length, take, get_or, subst, ap, arith, All, Device, IsFormed, page_at, GoesOn, IsPartlyErased, KeepsSide, is_blank, first_page, other, set_of, Side, keeps_side_both, length-set_of, IsSameBut, ErasesPartly, Wears, not_blank_from, not_blank_in, rules}
-use Rattle.ee_core.proofs.AfterCalls.{goes_on_both}
+use Rattle.ee_core.proofs.Base.{◌≡◌, ◌⊎◌, ℕ, ◌+◌, ◌-◌, ◌<◌, ◌≤◌, true, false, [], ◌∷◌, length, take, get_or, subst, ap, arith, All, Device, IsFormed, page_at, IsPartlyErased, KeepsSide, is_blank, first_page, other, set_of, Side, keeps_side_both, length-set_of, IsSameBut, ErasesPartly, Wears, not_blank_from, not_blank_in, rules}
 use Rattle.ee_core.proofs.Cuts.{erases_partly}
 use Rattle.ee_core.proofs.ErasedPages.{all_wear, wears_next, wears_to}
 use Rattle.ee_core.proofs.FormatFacts.{BlanksPage}
 use Rattle.ee_core.proofs.MovingFacts.{all_blank}
 use Rattle.ee_core.proofs.PendingCounts.{page_there}
+use Rattle.std.specs.List.{flat_map, range_with_len}
+use Rattle.std.specs.Prelude.{List}
+use Rattle.std.proofs.Common.{◌∙◌}
+use Rattle.ee_flash.specs.Step.{Erase, Step}
+use Rattle.ee_core.specs.StepLists.{steps_to_clear}
+use Rattle.ee_flash.specs.Taking.{Completes, StopsAmong}
+use Rattle.ee_core.proofs.Taken.{each_next, each_stops, erase_below, erase_words, erases_in, in_set}
 
 -- what that leaves, up to a page
 pub record ClearedTo (old now : Device) (side : Side) (first page : ℕ) : Type 0 where
@@ -13,10 +19,25 @@ pub record ClearedTo (old now : Device) (side : Side) (first page : ℕ) : Type 
   pub blank : (k : ℕ) → first ≤ k → k < page → is_blank (page_at now k) ≡ true
   pub rest : (k : ℕ) → (k < first) ⊎ (page ≤ k) → page_at now k ≡ page_at old k
   pub wear : Wears (not_blank_from first (take (page - first) (set_of (other side) old))) old now
-  pub goes : GoesOn old now
+  pub steps : Completes
+      (flat_map (λ k. erase_words (page_at old k) k) (range_with_len first (page - first))) old now
 
 module _ (side : Side) (old : Device) (first pages : ℕ) (formed : IsFormed old)
     (first_is : first ≡ first_page old.size (other side)) (pages_is : pages ≡ old.size.pages) where
+  cleared_is : flat_map (λ k. erase_words (page_at old k) k) (range_with_len first pages)
+      ≡ steps_to_clear old (other side)
+  cleared_is =
+      in_set (λ page. Erase page ∷ []) old (other side) first pages formed first_is pages_is
+      ∙ erases_in (not_blank_in (other side) old)
+
+  pub cleared_steps : (new : Device) (page : ℕ) → page ≡ first + pages
+      → ClearedTo old new side first page → Completes (steps_to_clear old (other side)) old new
+  cleared_steps new page end all =
+      subst (λ (list : List Step). Completes list old new) cleared_is
+      (subst
+      (λ n. Completes (flat_map (λ k. erase_words (page_at old k) k) (range_with_len first n)) old
+      new) (omega (arith, end)) all.steps)
+
   -- the whole set
   pub all_cleared : (new : Device) (page : ℕ) → IsFormed new → page ≡ first + pages
       → ClearedTo old new side first page
@@ -54,7 +75,8 @@ module _ (side : Side) (old : Device) (first pages : ℕ) (formed : IsFormed old
           wear = subst
               (λ n. Wears (not_blank_from first (take n (set_of (other side) old))) old new)
               (omega arith) (wears_next _ _ _ page _ mid _ at within there so_far.wear step.wear);
-          goes = goes_on_both _ _ _ so_far.goes step.power;
+          steps =
+              each_next erase_words erase_below old mid new first page from so_far.steps step.steps;
         }
 
     -- or power was cut in erasing it
@@ -64,3 +86,10 @@ module _ (side : Side) (old : Device) (first pages : ℕ) (formed : IsFormed old
         → ErasesPartly (first_page old.size (other side)) (set_of (other side) old) old new
     cleared_cut new written now others partly =
         search (rules, erases_partly, wears_to, at, within, there)
+
+    pub cleared_stops : (new : Device) → is_blank (page_at mid page) ≡ false
+        → StopsAmong (Erase page ∷ []) mid new → StopsAmong (steps_to_clear old (other side)) old new
+    cleared_stops new written stops =
+        subst (λ (list : List Step). StopsAmong list old new) cleared_is
+        (each_stops erase_words erase_below old mid new first page from so_far.steps pages below
+        (rw written stops))

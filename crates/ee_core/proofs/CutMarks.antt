@@ -1,12 +1,17 @@
 -- What is drawn where power was cut in setting marks, and in an append.
-use Rattle.ee_core.proofs.Base.{rules, ◌≡◌, inr, ℕ, ◌+◌, ◌-◌, ◌<◌, ◌≤◌, Bool, false, true, refl, sym, subst, ap, ◌∙◌, arith, ◌&&◌, nat_lt, not, Device, IsFormed, page_at, GoesOn, Size, Held, IsPageOf, IsLive, is_blank, is_marked, first_page, other, page_of_slot, place_of_slot, Side, Active, Erasing, Valid, IsSameBut, IsSameSet, KeepsMarks, SetsMark, Stays, IsDrawnPartly, PutsPartly, SetsPartly, IsOldMarked, last_used, ShowsCutMarks, IsDrawn, Picture, is_used, marked_to, picture_of, retired_pages, with_change}
+use Rattle.ee_core.proofs.Base.{rules, ◌≡◌, inr, ℕ, ◌+◌, ◌-◌, ◌<◌, ◌≤◌, Bool, false, true, refl, sym, subst, ap, ◌∙◌, arith, ◌&&◌, nat_lt, not, Device, IsFormed, page_at, Size, Held, IsPageOf, IsLive, is_blank, is_marked, first_page, other, page_of_slot, place_of_slot, Side, Active, Erasing, Valid, IsSameBut, IsSameSet, KeepsMarks, SetsMark, Stays, IsDrawnPartly, PutsPartly, SetsPartly, IsOldMarked, last_used, ShowsCutMarks, IsDrawn, Picture, is_used, marked_to, picture_of, retired_pages, with_change}
 use Rattle.ee_core.proofs.Cuts.{IsOnTheWay, drawn_before, drawn_between, drawn_whole, mark_drawn_partly, put_partly}
 use Rattle.ee_core.proofs.Drawings.{active_last, mark_drawn, drawn_as, retired_more, same_drawn, valid_drawn, valid_more, valid_to, with_mark, with_word-elsewhere}
-use Rattle.ee_core.proofs.AfterCalls.{goes_on_both, goes_on_same}
-use Rattle.ee_core.proofs.LiveMarks.{IsPageDone, MarksPage, done_already, done_more, stays_both}
+use Rattle.ee_core.proofs.LiveMarks.{IsPageDone, MarksPage, done_more, stays_both}
 use Rattle.ee_core.proofs.MarkedSets.{live_stays, retired_next, retired_start, retired_to}
 use Rattle.ee_core.proofs.Marks.{same_stays}
 use Rattle.ee_core.proofs.SetPages.{page_reached, same_page}
+use Rattle.std.specs.List.{flat_map, range_with_len}
+use Rattle.ee_core.specs.StepLists.{steps_to_mark, steps_to_retire}
+use Rattle.ee_flash.specs.Taking.{Completes, StopsAmong, Takes}
+use Rattle.ee_core.proofs.Taken.{each_next, each_start, each_stops, in_set as in_set_pages, retire_below, retire_words, takes_ok}
+use Rattle.std.specs.Prelude.{List, Ok}
+use Rattle.ee_flash.specs.Step.{Step}
 
 -- ---- the marks that are set so far are on the way
 
@@ -160,11 +165,11 @@ pub record MarkedTo (old now : Device) (side : Side) (generation first page : �
   pub stays : Stays old now side generation
   pub marks : KeepsMarks old now
   pub done : (k : ℕ) → k < page - first → IsPageDone now (first + k)
-  pub no_step : IsOldMarked old (other side) → now ≡ old
   pub drawn : IsDrawn (other side) now (retired_to (other side) old (page - first))
   pub live : IsSameSet side old now
   pub rest : (k : ℕ) → page ≤ k → page_at now k ≡ page_at old k
-  pub power : GoesOn old now
+  pub steps : Completes
+      (flat_map (λ k. retire_words (page_at old k) k) (range_with_len first (page - first))) old now
 
 module _ (side : Side) (generation : ℕ) (old : Device) (first pages : ℕ)
     (first_is : first ≡ first_page old.size (other side)) (pages_is : pages ≡ old.size.pages) where
@@ -173,12 +178,27 @@ module _ (side : Side) (generation : ℕ) (old : Device) (first pages : ℕ)
     stays = same_stays _ _ _ _ live refl;
     marks = λ page mark was. was;
     done = λ k below. absurd (omega arith);
-    no_step = λ marked. refl;
     drawn = retired_start _ old _ first_is _ refl;
     live = refl;
     rest = λ k h. refl;
-    power = goes_on_same _;
+    steps = each_start retire_words old first;
   }
+
+  retired_is : IsFormed old
+      → flat_map (λ k. retire_words (page_at old k) k) (range_with_len first pages)
+      ≡ steps_to_retire old (other side)
+  retired_is formed =
+      in_set_pages (steps_to_mark old Erasing) old (other side) first pages formed first_is pages_is
+
+  pub retired_steps : {T E : Type 0} {value : T} (new : Device) (page : ℕ) → IsFormed old
+      → page ≡ first + pages → MarkedTo old new side generation first page
+      → Takes {E = E} (Ok value) (steps_to_retire old (other side)) old new
+  retired_steps new page formed end all =
+      takes_ok
+      (subst (λ (list : List Step). Completes list old new) (retired_is formed)
+      (subst
+      (λ n. Completes (flat_map (λ k. retire_words (page_at old k) k) (range_with_len first n)) old
+      new) (omega (arith, end)) all.steps))
 
   -- the whole set
   pub marked_all : (new : Device) (page : ℕ) → first + pages ≤ page
@@ -199,9 +219,6 @@ module _ (side : Side) (generation : ℕ) (old : Device) (first pages : ℕ)
     within : page - first < mid.size.pages
     within = omega (arith, ap (λ size. size.pages) so_far.stays.keeps.same_size)
 
-    pub was_done : IsOldMarked old (other side) → IsPageDone mid page
-    was_done marked = search (rules, done_already)
-
     -- one page more
     pub marked_next : (new : Device) → IsFormed new → MarksPage mid new side generation page
         → MarkedTo old new side generation first (page + 1)
@@ -209,7 +226,6 @@ module _ (side : Side) (generation : ℕ) (old : Device) (first pages : ℕ)
       stays = stays_both _ _ _ _ _ so_far.stays step.stays;
       marks = λ p mark was. step.marks p mark (so_far.marks p mark was);
       done = done_more first page mid new from so_far.done step.others step.done;
-      no_step = λ marked. step.no_step (was_done marked) ∙ so_far.no_step marked;
       drawn =
           retired_next _ old _ first_is _ _ _ _ _ formed so_far.stays.keeps.same_size from within
           (so_far.rest page (omega arith)) step so_far.drawn;
@@ -217,7 +233,8 @@ module _ (side : Side) (generation : ℕ) (old : Device) (first pages : ℕ)
           live_stays side old mid new page formed new_formed step.stays.keeps.same_size in_set
           step.others so_far.live;
       rest = λ k h. step.others k (λ e. omega arith) ∙ so_far.rest k (omega arith);
-      power = goes_on_both _ _ _ so_far.power step.power;
+      steps =
+          each_next retire_words retire_below old mid new first page from so_far.steps step.steps;
     }
 
     -- or power was cut in marking it
@@ -241,3 +258,11 @@ module _ (side : Side) (generation : ℕ) (old : Device) (first pages : ℕ)
               begun) so_far.drawn,
           live_stays _ _ _ _ _ formed new_formed stays.keeps.same_size in_set others so_far.live,
         )
+
+    pub retired_cut : (new : Device) → IsFormed old → is_blank (page_at mid page) ≡ false
+        → StopsAmong (steps_to_mark mid Erasing page) mid new
+        → StopsAmong (steps_to_retire old (other side)) old new
+    retired_cut new old_formed written stops =
+        subst (λ (list : List Step). StopsAmong list old new) (retired_is old_formed)
+        (each_stops retire_words retire_below old mid new first page from so_far.steps pages below
+        (rw written stops))

@@ -1,10 +1,15 @@
 -- What a clear makes of a state, whole or cut, from what its transfer leaves.
-use Rattle.ee_core.proofs.Base.{◌≡◌, ◌⊎◌, ℕ, ◌+◌, ◌≤◌, Some, None, List, [], ◌∷◌, refl, sym, subst, ap, ◌∙◌, fun_ext, Device, GoesOn, IsCut, KeepsLiveSet, IsLive, Change, Forget, changed_by, live_in, meaning, first_page, live_of, other, pending_of, set_of, slots_of, Side, HasMoved, Moves, ErasesPartly, MovesPartly, IsDrawn, filled_set, is_used, moved_words, picture_of, retired_pages, each_forgotten, Wears, not_blank_in, state_of, used_pages_in, used_pages_of, rules}
+use Rattle.ee_core.proofs.Base.{◌≡◌, ◌⊎◌, inl, inr, ℕ, ◌+◌, ◌≤◌, Some, None, List, [], ◌∷◌, refl, sym, subst, ap, ◌∙◌, fun_ext, Device, GoesOn, IsCut, KeepsLiveSet, IsLive, Change, Forget, changed_by, live_in, meaning, first_page, live_of, other, pending_of, set_of, slots_of, Side, HasMoved, Moves, ErasesPartly, MovesPartly, IsDrawn, filled_set, is_used, moved_words, picture_of, retired_pages, each_forgotten, Wears, not_blank_in, state_of, with_pending, used_pages_in, used_pages_of, rules}
 use Rattle.ee_core.proofs.Making.{pending_was}
 use Rattle.ee_core.proofs.Nothing.{all_forgotten, none_live, none_moved}
 use Rattle.ee_core.proofs.States.{state_is, state_kept, state_moved}
 use Rattle.ee_core.specs.Emptying.{Empties, IsCutClear, MayClear, ShowsCleared, cleared_state}
 use Rattle.ee_core.specs.Puts.{forgets_from}
+use Rattle.ee_core.specs.CallSteps.{map_in}
+use Rattle.ee_core.specs.StepLists.{steps_in, steps_of_clear, steps_of_transfer, steps_to_move}
+use Rattle.ee_flash.specs.Step.{Step}
+use Rattle.ee_flash.specs.Taking.{Completes, StopsAmong}
+use Rattle.ee_core.proofs.Taken.{among_on}
 
 module _ (old new : Device) (side : Side) (generation : ℕ) (live : IsLive old side generation) where
   state_cleared : HasMoved old new side generation each_forgotten
@@ -23,17 +28,33 @@ module _ (old new : Device) (side : Side) (generation : ℕ) (live : IsLive old 
       → HasMoved old new side generation each_forgotten
       → Wears (not_blank_in (other side) old) old new
       → IsDrawn (other side) new (filled_set old.size (generation + 1) [])
-      → IsDrawn side new (retired_pages (is_used side old) (picture_of side old)) → Empties old new
-  empties may few goes_on has wear new_pages old_pages =
+      → IsDrawn side new (retired_pages (is_used side old) (picture_of side old))
+      → Completes (steps_of_clear old) old new → Empties old new
+  empties may few goes_on has wear new_pages old_pages steps =
       search (rules, state_is, state_cleared, pending_was)
+
+  state_cut : pending_of (set_of (other side) new) ≤ old.size.pages
+      → KeepsLiveSet old new side generation ⊎ HasMoved old new side generation each_forgotten
+      → ((pending : ℕ) × (pending ≤ old.size.pages)
+      × (state_of new ≡ with_pending pending (state_of old)))
+      ⊎ (state_of new ≡ cleared_state (used_pages_of old) (state_of old))
+  state_cut few (inl keeps) =
+      inl (pending_of (set_of (other side) new), few, state_kept _ _ _ _ live keeps _ refl)
+  state_cut _ (inr has) = inr (state_cleared has)
 
   pub cut_clear : MayClear old → IsCut old new
       → pending_of (set_of (other side) new) ≤ old.size.pages
       → KeepsLiveSet old new side generation ⊎ HasMoved old new side generation each_forgotten
       → ErasesPartly (first_page old.size (other side)) (set_of (other side) old) old new
       ⊎ MovesPartly old new side generation []
-      → IsCutClear old new
-  cut_clear may cut few left words = search (rules, state_is, state_kept, state_cleared)
+      → StopsAmong (steps_of_clear old) old new → IsCutClear old new
+  cut_clear may cut few left words stops = record {
+    may = may;
+    cut = cut;
+    steps = among_on may.on stops;
+    state_is = state_cut few left;
+    words = (side, generation, live.live, words);
+  }
 
 -- ---- a clear is a transfer that forgets each address
 
@@ -63,10 +84,23 @@ module _ (old new : Device) (side : Side) (generation : ℕ)
     all_counted : live_in (changed_by all (state_of old).map) ≡ 0
     all_counted = search none_counted
 
+    same_steps : steps_of_clear old ≡ steps_of_transfer all old
+    same_steps =
+        ap (steps_in (λ side generation. steps_to_move old side generation [])) live
+        ∙ sym
+        (ap (steps_to_move old side generation)
+        (ap (λ changes. moved_words changes (map_in side old)) (sym same)
+        ∙ none_moved (slots_of (set_of side old))))
+        ∙ sym
+        (ap
+        (steps_in (λ side generation.
+        steps_to_move old side generation (moved_words all (map_in side old)))) live)
+
     all_moves : Empties old new → ShowsCleared old new side generation → Moves old all new
     all_moves done shows = record {
       proceeds = search (rules, all_counted);
       goes_on = done.goes_on;
+      steps = subst (λ (list : List Step). Completes list old new) same_steps done.steps;
       needed = tt;
       few_left = done.few_left;
       state_is = search (rules, all_counted, none_left);

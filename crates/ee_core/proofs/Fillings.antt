@@ -6,6 +6,7 @@ use Rattle.ee_core.proofs.CopiedMaps.{at_first, at_last, changed_by-append, chan
 use Rattle.ee_core.proofs.CopiedWords.{all_words, copied_word, no_words, others, passed_word}
 use Rattle.ee_core.proofs.CutMoves.{adds_then, elements_front, partly_longer}
 use Rattle.ee_core.proofs.FilledSets.{adds_both, adds_none}
+use Rattle.ee_core.proofs.FilledSteps.{adds_steps_both, adds_steps_none, adds_steps_then, stops_longer}
 use Rattle.ee_core.proofs.MovingFacts.{side_map}
 use Rattle.ee_core.proofs.Outside.{meaning-zero}
 use Rattle.ee_core.proofs.ShownStates.{moved_words_are_live_lem}
@@ -15,13 +16,16 @@ pub both_filled : (old mid new : Device) (layout : Layout) (count slot written :
     (words more : List Word) (held map : Map)
     → Filled old mid layout count words held slot → Filled mid new layout slot more map written
     → Filled old new layout count (words ++ more) map written
-both_filled _ mid new layout _ _ _ words more _ _ first second = record {
+both_filled old mid new layout count slot _ words more _ _ first second = record {
   keeps = keeps_side_both _ _ _ _ first.keeps second.keeps;
   filling = second.filling;
   map_is = second.map_is;
   adds = search (rules, adds_both);
   as_many = omega (arith, length-append words more);
   wear = second.wear ∙ first.wear;
+  steps =
+      adds_steps_both old mid new layout.side (layout.generation + 1) count slot words more
+      first.keeps.same_size first.as_many first.adds first.steps second.steps;
 }
 
 -- or more in part
@@ -29,12 +33,13 @@ pub then_partly : (old mid new : Device) (layout : Layout) (count slot : ℕ) (w
     (held : Map)
     → Filled old mid layout count words held slot → FilledPartly mid new layout slot more
     → FilledPartly old new layout count (words ++ more)
-then_partly _ mid new layout _ _ _ more _ first second = search (rules, keeps_side_both, adds_then)
+then_partly _ mid new layout _ _ _ more _ first second =
+    search (rules, keeps_side_both, adds_then, adds_steps_then)
 
 -- some words in part are more words in part
 partly_filled : (old new : Device) (layout : Layout) (count : ℕ) (words rest : List Word)
     → FilledPartly old new layout count words → FilledPartly old new layout count (words ++ rest)
-partly_filled _ _ _ _ _ rest partly = search partly_longer
+partly_filled _ _ _ _ _ rest partly = search (partly_longer, stops_longer)
 
 -- the live addresses are copied behind what stands there, but for those that changes name
 module _ (old : Device) (layout : Layout) (place : Place) (changes : List Change) where
@@ -60,6 +65,7 @@ module _ (old : Device) (layout : Layout) (place : Place) (changes : List Change
     adds = search (no_words, adds_none);
     as_many = omega (arith, ap length (no_words map changes));
     wear = refl;
+    steps = search (no_words, adds_steps_none);
   }
 
   pub all_filled : (above : ℕ) (now : Device) (slot : ℕ) → FilledTo above now slot → above < 65535
@@ -201,7 +207,7 @@ module _ (old : Device) (layout : Layout) (puts : List listed.Put) where
       Filled old now layout 0 (words_to puts count) (map_of_first puts count) slot
 
   pub none_put : IsNewlyOpened old layout → FilledBy 0 old 0
-  none_put opened = search (keeps_side_same, adds_none)
+  none_put opened = search (keeps_side_same, adds_none, adds_steps_none)
 
   module _ (count : ℕ) (put : listed.Put) (mid new : Device) (slot : ℕ)
       (within : count < length puts) (is : put ≡ get_or puts count put)

@@ -1,16 +1,18 @@
 -- What formatting does: it erases what is not blank, and then commits the first set.
-use Rattle.ee_core.proofs.Base.{◌≡◌, ℕ, ◌+◌, ◌<◌, ◌≤◌, true, false, [], length, replicate, refl, ap, ◌∙◌, arith, All, get_or-replicate, get_or-set_other, get_or-set_same, length-replicate, All-from_get_or, Device, IsFormed, IsOn, page_at, GoesOn, page_count, with_page_erased, Erased, is_blank, is_written, blank_page, IsSameBut, Wears, rules}
-use Rattle.ee_core.proofs.AfterCalls.{goes_on_same}
+use Rattle.ee_core.proofs.Base.{◌≡◌, ℕ, ◌+◌, ◌<◌, ◌≤◌, true, false, [], length, replicate, refl, ap, ◌∙◌, arith, All, get_or-replicate, get_or-set_other, get_or-set_same, length-replicate, All-from_get_or, Device, IsFormed, IsOn, page_at, page_count, with_page_erased, Erased, is_blank, is_written, blank_page, IsSameBut, Wears, rules}
 use Rattle.ee_core.proofs.ErasedPages.{blank_wears, written_wears}
 use Rattle.ee_core.proofs.NotBlank.{named}
 use Rattle.ee_core.proofs.Wears.{page_wears}
+use Rattle.ee_flash.specs.Taking.{Completes}
+use Rattle.ee_core.proofs.Taken.{completes_none, completes_one, erase_words}
+use Rattle.ee_flash.specs.Step.{Erase}
 
 -- a page is blank now, and the others are as they were
 pub record BlanksPage (mid new : Device) (page : ℕ) : Type 0 where
   pub others : IsSameBut page mid new
   pub blank : is_blank (page_at new page) ≡ true
   pub wear : Wears (named page (page_at mid page)) mid new
-  pub power : GoesOn mid new
+  pub steps : Completes (erase_words (page_at mid page) page) mid new
 
 pub blank_already : (device : Device) (page : ℕ) → is_blank (page_at device page) ≡ true
     → BlanksPage device device page
@@ -18,20 +20,8 @@ blank_already device page blank = record {
   others = λ k apart. refl;
   blank = blank;
   wear = blank_wears page (page_at device page) _ blank;
-  power = goes_on_same _;
+  steps = rw blank (completes_none device);
 }
-
-erase_goes_on : (page : ℕ) (old new : Device) → IsOn old → new ≡ with_page_erased page old
-    → GoesOn old new
-erase_goes_on _ _ _ on done =
-    rw done
-    (record {
-      same_size = refl;
-      same_power = refl;
-      same_cuts = refl;
-      same_cuts_left = refl;
-      same_while_off = search rules;
-    })
 
 pub blanks_page : (page : ℕ) (mid new : Device) → IsFormed mid → page < page_count mid.size
     → is_blank (page_at mid page) ≡ false → IsOn mid → new ≡ with_page_erased page mid
@@ -51,7 +41,7 @@ blanks_page page mid new formed h written on done =
           (λ k below. ap is_written (get_or-replicate mid.size.words k Erased Erased below));
       wear = written_wears _ (page_at mid page) _ _ written
           (page_wears _ _ _ (omega arith) (ap (λ device. device.wear) done));
-      power = erase_goes_on page mid new on done;
+      steps = rw written (completes_one (Erase page) mid on done);
     }
 
 -- one page more is blank

@@ -6,6 +6,14 @@ mod PendingPages
 mod States
 mod ErasedPages
 mod AfterCalls
+mod Taken
+mod TurnedPages
+mod ClosedSets
+mod ClearedPages
+mod LiveSteps
+mod FilledSteps
+mod PublicSteps
+mod MovedSteps
 mod FormatFacts
 mod FirstSet
 mod LiveMarks
@@ -49,4 +57,5 @@ mod MapMoves
 mod ClearedSets
 mod RescuedMaps
 mod RescueCuts
+mod StepCounts
 pub mod Public

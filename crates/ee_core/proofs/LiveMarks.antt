@@ -1,9 +1,11 @@
 -- The marks that an opening sets in the live set and in the other one, page after page.
-use Rattle.ee_core.proofs.Base.{rules, ◌≡◌, ◌⊎◌, inl, inr, ℕ, ◌+◌, ◌-◌, ◌<◌, ◌≤◌, true, false, refl, sym, subst, ap, ◌∙◌, arith, cases_lt, true≢false, Device, page_at, GoesOn, IsLayout, IsLive, is_blank, is_marked, IsMarkBehind, fill_of, first_page, page_of_slot, set_of, slots_of, Layout, Side, Mark, Active, Valid, Erasing, page_in_range, slot_below, IsSameBut, KeepsMarks, SetsMark, Stays, IsLiveMarked, IsOldMarked, last_used}
+use Rattle.ee_core.proofs.Base.{rules, ◌≡◌, ◌⊎◌, inl, inr, ℕ, ◌+◌, ◌-◌, ◌<◌, ◌≤◌, true, false, refl, sym, subst, ap, ◌∙◌, arith, cases_lt, Device, page_at, IsLayout, IsLive, is_blank, is_marked, IsMarkBehind, fill_of, first_page, page_of_slot, set_of, slots_of, Layout, Side, Mark, Active, Valid, Erasing, page_in_range, slot_below, IsSameBut, KeepsMarks, SetsMark, Stays, IsLiveMarked, last_used}
 use Rattle.ee_core.proofs.SetPages.{first_below}
-use Rattle.ee_core.proofs.AfterCalls.{goes_on_same}
 use Rattle.ee_core.proofs.Marks.{same_stays}
 use Rattle.ee_core.proofs.KeptMarks.{fill_fits}
+use Rattle.ee_core.specs.StepLists.{steps_to_mark}
+use Rattle.ee_flash.specs.Taking.{Completes}
+use Rattle.ee_core.proofs.Taken.{completes_none, retire_words}
 
 -- after what keeps the live set, the layout is still right
 pub layout_stays : (layout : Layout) (old new : Device) → IsLayout old layout
@@ -52,15 +54,6 @@ pub last_behind : (layout : Layout) (device : Device) (mark : Mark) → IsLayout
 last_behind layout device mark is kind =
     mark_behind layout device (layout.current - first_page device.size layout.side) mark is
     (omega (arith, last_is layout device is)) kind
-
--- where the live set is marked, each mark is set
-pub valid_already : (layout : Layout) (device : Device) (page : ℕ) → IsLayout device layout
-    → IsLiveMarked device layout.side → first_page device.size layout.side ≤ page
-    → page < layout.current → is_marked device page Valid ≡ true
-valid_already layout device page is marked from below =
-    ap (λ n. is_marked device n Valid) (omega arith)
-    ∙ marked.valid (page - first_page device.size layout.side)
-    (omega (arith, last_is layout device is))
 
 -- one page more is marked
 pub valid_more : (first page : ℕ) (mid new : Device) → first ≤ page
@@ -125,57 +118,35 @@ pub record MarksPage (mid new : Device) (side : Side) (generation page : ℕ) : 
   pub marks : KeepsMarks mid new
   pub others : IsSameBut page mid new
   pub done : IsPageDone new page
-  pub no_step : IsPageDone mid page → new ≡ mid
-  pub power : GoesOn mid new
   pub waiting : is_blank (page_at mid page) ≡ false → SetsMark page Erasing mid new
   pub passed : is_blank (page_at mid page) ≡ true → new ≡ mid
+  pub steps : Completes (retire_words (page_at mid page) page) mid new
 
 pub marks_none : (device : Device) (side : Side) (generation page : ℕ)
     → IsLive device side generation → is_blank (page_at device page) ≡ true
     → MarksPage device device side generation page
-marks_none _ _ _ _ live blank = record {
+marks_none device _ _ page live blank = record {
   stays = same_stays _ _ _ _ live refl;
   marks = λ p mark was. was;
   others = λ p apart. refl;
   done = inl blank;
-  no_step = λ done. refl;
-  power = goes_on_same _;
   waiting = search rules;
   passed = λ is. refl;
+  steps = rw blank (completes_none device);
 }
-
--- a page that is not blank is done only by its mark
-pub marked_from : (device : Device) (page : ℕ) → is_blank (page_at device page) ≡ false
-    → IsPageDone device page → is_marked device page Erasing ≡ true
-marked_from _ _ written (inl blank) = absurd (true≢false (sym blank ∙ written))
-marked_from _ _ _ (inr marked) = marked
 
 pub marks_one : (mid new : Device) (side : Side) (generation page : ℕ)
     → is_blank (page_at mid page) ≡ false → Stays mid new side generation → KeepsMarks mid new
     → IsSameBut page mid new → is_marked new page Erasing ≡ true → SetsMark page Erasing mid new
-    → (is_marked mid page Erasing ≡ true → new ≡ mid) → GoesOn mid new
+    → Completes (steps_to_mark mid Erasing page) mid new
     → MarksPage mid new side generation page
-marks_one mid _ _ _ page written stays marks others marked sets no_step power =
+marks_one mid _ _ _ page written stays marks others marked sets steps =
     record {
       stays = stays;
       marks = marks;
       others = others;
       done = inr marked;
-      no_step = λ done. no_step (marked_from mid page written done);
-      power = power;
       waiting = λ is. sets;
       passed = search rules;
+      steps = rw written steps;
     }
-
--- where the other set is marked, each page of it is done
-pub done_already : (device : Device) (side : Side) (page : ℕ) → IsOldMarked device side
-    → first_page device.size side ≤ page → page < first_page device.size side + device.size.pages
-    → IsPageDone device page
-done_already device side page marked from below =
-    subst (λ n. IsPageDone device n) (omega arith)
-    (marked (page - first_page device.size side) (omega arith))
-
--- in a device that is as before
-pub old_marks_kept : (side : Side) (old new : Device) → new ≡ old → IsOldMarked old side
-    → IsOldMarked new side
-old_marks_kept side _ _ same marked = search rules

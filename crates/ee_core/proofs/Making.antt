@@ -1,5 +1,5 @@
 -- What an append or a transfer makes of a state, and when each is done.
-use Rattle.ee_core.proofs.Base.{rules, ◌≡◌, ◌≢◌, ◌⊎◌, inl, inr, ℕ, ◌+◌, ◌-◌, ◌<◌, ◌≤◌, ◌&&◌, Bool, true, false, cond, Option, Some, None, is_some, List, [], ◌∷◌, length, nat_lt, refl, sym, ap, ◌∙◌, arith, Result, Ok, Err, OnErr, OnOk, common_steps, filter, Device, IsFormed, IsOff, IsOn, Ends, GoesOn, IsCut, Word, Erased, Held, Torn, IsAddress, IsGeneration, KeepsLiveSet, IsLive, Change, Map, Put, Forget, changed_by, map_after, live_in, meaning, address_of, TakesSlot, fill_of, first_page, other, pending_of, set_of, slots_of, Side, live_commits, change_counts, full_set_has_no_blank_page, live_within_fill, length-set_of, length-slots, Appends, HaveNoGeneration, IsAccepted, IsCutAppend, IsCutChange, IsCutMaking, IsCutMove, IsFull, Moves, NeedsTransfer, Proceeds, greatest_generation, pages_left, ErasesPartly, IsDrawnPartly, MovesPartly, IsDrawn, filled_set, is_used, moved_words, number_of_change, picture_of, retired_pages, with_change, AreApart, ForgetsHeld, HasMoved, IsSameSet, map_change, number_written, IsMarked, IsStore, Wears, appended_state, capacity, moved_state, not_blank_in, pending_pages, pending_pages_in, torn_state, state_of, used_pages_in}
+use Rattle.ee_core.proofs.Base.{rules, ◌≡◌, ◌≢◌, ◌⊎◌, inl, inr, ℕ, ◌+◌, ◌-◌, ◌<◌, ◌≤◌, ◌&&◌, Bool, true, false, cond, Option, Some, None, is_some, List, [], ◌∷◌, length, nat_lt, refl, sym, subst, ap, ◌∙◌, arith, Result, Ok, Err, OnErr, OnOk, common_steps, filter, Device, IsFormed, IsOff, IsOn, Ends, GoesOn, IsCut, Word, Erased, Held, Torn, IsAddress, IsGeneration, KeepsLiveSet, IsLive, Change, Map, Put, Forget, changed_by, map_after, live_in, meaning, address_of, TakesSlot, fill_of, first_page, other, pending_of, set_of, slots_of, Side, live_commits, change_counts, full_set_has_no_blank_page, live_within_fill, length-set_of, length-slots, Appends, HaveNoGeneration, IsAccepted, IsCutAppend, IsCutChange, IsCutMaking, IsCutMove, IsFull, Moves, NeedsTransfer, Proceeds, greatest_generation, pages_left, ErasesPartly, IsDrawnPartly, MovesPartly, IsDrawn, filled_set, is_used, moved_words, number_of_change, picture_of, retired_pages, with_change, AreApart, ForgetsHeld, HasMoved, IsSameSet, map_change, number_written, IsMarked, IsStore, Wears, appended_state, capacity, moved_state, not_blank_in, pending_pages, pending_pages_in, torn_state, state_of, used_pages_in}
 use Rattle.ee_codec.specs.Reading.{receive_of}
 use Rattle.ee_core.specs.Appending.{MayTakeSlot}
 use Rattle.ee_core.specs.Changes.{IsSpent}
@@ -9,6 +9,11 @@ use Rattle.ee_core.specs.declared.change.Change as declared
 use Rattle.ee_core.specs.declared.change.Change.TheVariants as kinds
 use Rattle.ee_core.proofs.Drawings.{drawn_as, same_drawn}
 use Rattle.ee_core.proofs.MovedSets.{used_where_full}
+use Rattle.ee_core.proofs.PublicSteps.{making_appends, making_moves}
+use Rattle.ee_core.proofs.Taken.{among_on}
+use Rattle.ee_core.specs.StepLists.{steps_in, steps_of_append, steps_of_transfer, steps_to_append}
+use Rattle.ee_flash.specs.Step.{Step}
+use Rattle.ee_flash.specs.Taking.{Completes, IsCutAmong, StopsAmong}
 use Rattle.ee_core.specs.Known.{Knows}
 use Rattle.ee_core.specs.declared.known.Known.{Known}
 use Rattle.ee_core.proofs.States.{same_states, state_is, state_kept, state_moved}
@@ -19,7 +24,7 @@ kept_few : {X : Type 0} (b : Bool) (x : X) (ys xs : List X) → length ys ≤ le
 kept_few true x _ _ h = omega arith
 kept_few false x _ _ h = omega arith
 
-filter_few : {X : Type 0} (p : X → Bool) (xs : List X) → length (filter p xs) ≤ length xs
+pub filter_few : {X : Type 0} (p : X → Bool) (xs : List X) → length (filter p xs) ≤ length xs
 filter_few p [] = omega arith
 filter_few p (x ∷ xs) = kept_few (p x) x (filter p xs) xs (filter_few p xs)
 
@@ -113,8 +118,8 @@ module _ (old new : Device) (side : Side) (generation : ℕ) (live : IsLive old 
       → fill_of (slots_of (set_of side old)) < capacity old
       → TakesSlot old new side generation (map_after change (meaning (slots_of (set_of side old))))
       → IsSameSet (other side) old new → new.wear ≡ old.wear → ShowsAppended old change new side
-      → Appends old change new
-  appends _ proceeds goes_on free takes same wear shows =
+      → Completes (steps_of_append change old) old new → Appends old change new
+  appends _ proceeds goes_on free takes same wear shows steps =
       search (fill_was, state_is, state_appended, pending_stays)
 
   cut_append : (change : Change) → IsSameSet (other side) old new
@@ -127,8 +132,11 @@ module _ (old new : Device) (side : Side) (generation : ℕ) (live : IsLive old 
   pub cut_in_append : (change : Change) → Proceeds old (change ∷ []) → IsCut old new
       → fill_of (slots_of (set_of side old)) < capacity old → IsSameSet (other side) old new
       → MayTakeSlot old new side generation change → new.wear ≡ old.wear
-      → ShowsCutAppend old change new side → IsCutChange old change new
-  cut_in_append change proceeds cut free same left wear shows = record {
+      → ShowsCutAppend old change new side → StopsAmong (steps_of_append change old) old new
+      → IsCutChange old change new
+  cut_in_append change proceeds cut free same left wear shows stops = record {
+    steps = subst (λ (list : List Step). IsCutAmong list old new)
+        (making_appends old change (omega (arith, fill_was))) (among_on proceeds.on stops);
     free_words = search rules;
     used_words = λ all. absurd (omega (arith, fill_was));
     proceeds = proceeds;
@@ -149,8 +157,9 @@ module _ (old new : Device) (side : Side) (generation : ℕ) (live : IsLive old 
   pub moves : (changes : List Change) → Proceeds old changes → GoesOn old new
       → NeedsTransfer (capacity old) (state_of old) changes
       → HasMoved old new side generation changes → Wears (not_blank_in (other side) old) old new
-      → ShowsMoved old changes new side generation → Moves old changes new
-  moves changes proceeds goes_on needed has wear shows =
+      → ShowsMoved old changes new side generation
+      → Completes (steps_of_transfer changes old) old new → Moves old changes new
+  moves changes proceeds goes_on needed has wear shows steps =
       search (rules, pending_left, few_pending, state_is, state_left, pending_was)
 
   cut_move : (changes : List Change) → NeedsTransfer (capacity old) (state_of old) changes
@@ -165,9 +174,12 @@ module _ (old new : Device) (side : Side) (generation : ℕ) (live : IsLive old 
     pub cut_in_move : (changes : List Change) → Proceeds old changes
         → NeedsTransfer (capacity old) (state_of old) changes
         → KeepsLiveSet old new side generation ⊎ HasMoved old new side generation changes
-        → ShowsCutMove old changes new side generation → IsCutMaking old changes new
-    cut_in_move [] _ needed _ _ = absurd needed
-    cut_in_move (change ∷ []) proceeds needed left shows = record {
+        → ShowsCutMove old changes new side generation
+        → StopsAmong (steps_of_transfer changes old) old new → IsCutMaking old changes new
+    cut_in_move [] _ needed _ _ _ = absurd needed
+    cut_in_move (change ∷ []) proceeds needed left shows stops = record {
+      steps = subst (λ (list : List Step). IsCutAmong list old new)
+          (making_moves old change needed) (among_on proceeds.on stops);
       used_words = search rules;
       free_words = λ less. absurd (omega arith);
       proceeds = proceeds;
@@ -177,8 +189,9 @@ module _ (old new : Device) (side : Side) (generation : ℕ) (live : IsLive old 
       all_used = λ _. cut_move (change ∷ []) needed few left;
       no_wear = λ less. absurd (omega arith);
     }
-    cut_in_move (first ∷ second ∷ more) proceeds needed left shows =
+    cut_in_move (first ∷ second ∷ more) proceeds needed left shows stops =
         record {
+          steps = among_on proceeds.on stops;
           proceeds = proceeds;
           cut = cut;
           state_is = search cut_move;
@@ -190,6 +203,21 @@ pub number_is : (change : declared.Change) (map : Map) → ForgetsHeld map chang
     → number_written change ≡ number_of_change map (map_change change)
 number_is (kinds.Put _ _) _ _ = refl
 number_is (kinds.Forget _ _) _ held = rw held refl
+
+pub append_is : (old : Device) (layout : Layout) (change : declared.Change) → IsLayout old layout
+    → ForgetsHeld (state_of old).map change
+    → steps_to_append old layout.side layout.fill (number_written change)
+    ≡ steps_of_append (map_change change) old
+append_is old layout change found held =
+    ap (λ n. steps_to_append old layout.side n (number_written change))
+    (found.fill ∙ sym (fill_was old old layout.side layout.generation found.live))
+    ∙ ap (steps_to_append old layout.side (state_of old).fill)
+    (number_is change (state_of old).map held)
+    ∙ sym
+    (ap
+    (steps_in (λ side generation.
+    steps_to_append old side (state_of old).fill
+    (number_of_change (state_of old).map (map_change change)))) found.live.live)
 
 -- the counts of a map that a change is accepted for
 put_count : (live now slots : ℕ) (held : Bool) → now ≡ live + cond held 0 1 → live ≤ slots

@@ -85,7 +85,7 @@ used_where_full side device generation page live full h =
 -- ---- a set that is drawn as before
 
 -- has the same pages
-same_page_drawn : (side : Side) (old new : Device) (page : ℕ) → IsFormed old → IsFormed new
+pub same_page_drawn : (side : Side) (old new : Device) (page : ℕ) → IsFormed old → IsFormed new
     → new.size ≡ old.size → IsDrawn side new (picture_of side old) → page < new.size.pages
     → page_at new (first_page new.size side + page) ≡ page_at old (first_page old.size side + page)
 same_page_drawn side old new page old_formed formed sizes drawn h =

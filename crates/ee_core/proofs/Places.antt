@@ -1,6 +1,6 @@
 -- A place goes on from slot to slot of a set.
 use Rattle.std.proofs.Common.{◌≡◌, ◌≢◌, ℕ, ◌+◌, ◌-◌, ◌*◌, ◌<◌, ◌≤◌, ◌/◌, ◌%◌, ap, ◌∙◌, arith, sym, List, subst}
-use Rattle.std.proofs.Math.Nat.{mod-lt, zero-div}
+use Rattle.std.proofs.Math.Nat.{mod-lt}
 use Rattle.std.proofs.lemmas.Nat.{div-mul-add, mod-mul-add}
 use Rattle.ee_flash.specs.Device.{Device}
 use Rattle.ee_flash.specs.Size.{Size}
@@ -84,13 +84,6 @@ behind_slot size side place stands =
         split_by place.slot (size.words - 4),
       );
     }
-
--- nothing is filled up to the first slot
-pub behind_none : (size : Size) (side : Side)
-    → IsBehind size side record { slot = 0; page = first_page size side; at = 4 }
-behind_none size side =
-    let first : page_of_slot size (0 - 1) ≡ 0 = zero-div (size.words - 4) in
-    record { page = omega (arith, first); at = omega (arith, ap (λ n. n * (size.words - 4)) first) }
 
 -- words that were added from there on
 pub added_from : (old new : Device) (layout : Layout) (words : List Word) (map : Map) (written : ℕ)

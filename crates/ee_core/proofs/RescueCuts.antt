@@ -68,7 +68,9 @@ after_rescue old new side generation held cut = elim cut.left [
 ]
 
 after_opening : (old new : Device) → IsCutOpening old new → Holds new old
-after_opening old new cut = search (rules, legal_holds, legal_map)
+after_opening old new cut =
+    legal_holds new old cut.legal
+    (λ address. ap (λ state. state.map address) cut.state_is ∙ legal_map old cut.was_legal address)
 
 holds_later : (device mid old : Device) → Holds device mid → Holds mid old → Holds device old
 holds_later _ _ _ second first = record {

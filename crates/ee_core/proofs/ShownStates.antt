@@ -1,5 +1,5 @@
 -- What the pictures say of the states of the pages.
-use Rattle.ee_core.proofs.Base.{rules, ◌≡◌, inl, inr, ℕ, ◌+◌, ◌-◌, ◌<◌, Bool, true, false, cond, not, Option, Some, None, is_some, List, [], ◌∷◌, length, refl, sym, ap, ◌∙◌, arith, suc, zero, length-append, ◌==◌, ◌&&◌, zero-div, cases_Bool, cases_lt, ext_get_or, Device, page_at, word_at, Size, page_count, Word, Erased, Held, Torn, length-page_at, IsLegal, IsLive, Change, Forget, Map, Put, changed_by, map_after, live_in, live_to, is_blank, is_written, state_of_words, first_page, live_of, other, page_of_slot, Side, First, Second, Mark, live_to-zero, change_counts, blank_word, live_to-suc, IsLowestPending, last_used, ShowsMarks, IsDrawn, OfLive, Picture, element_at, elements_to, filled_set, is_used, marked_word, marked_to, moved_words, picture_of, retired_pages, state_of}
+use Rattle.ee_core.proofs.Base.{rules, ◌≡◌, inl, inr, ℕ, ◌+◌, ◌-◌, ◌<◌, Bool, true, false, cond, not, Option, Some, None, is_some, List, [], ◌∷◌, length, refl, sym, subst, ap, ◌∙◌, arith, suc, zero, length-append, ◌==◌, ◌&&◌, zero-div, cases_Bool, cases_lt, ext_get_or, Device, page_at, word_at, Size, page_count, Word, Erased, Held, Torn, length-page_at, IsLegal, IsLive, Change, Forget, Map, Put, changed_by, map_after, live_in, live_to, is_blank, is_written, state_of_words, first_page, live_of, other, page_of_slot, Side, First, Second, Mark, live_to-zero, change_counts, blank_word, live_to-suc, IsLowestPending, IsSameBut, last_used, ShowsMarks, IsDrawn, OfLive, Picture, element_at, elements_to, filled_set, is_used, marked_word, marked_to, moved_words, picture_of, retired_pages, state_of}
 use Rattle.ee_pages.specs.declared.state.State.TheVariants.{Erased as Unused, Erasing}
 use Rattle.ee_core.specs.Shown.{ShowsAppended, ShowsMoved, is_left}
 use Rattle.ee_core.specs.PageStates.{MovedWordsAreLive, PicturesTellImages, StatesAfterAppend, StatesAfterClean, StatesAfterFormat, StatesAfterOpening, StatesAfterTransfer, filled_state, marked_state, state_at}
@@ -180,10 +180,18 @@ lowest_is _ first second one two = elim (cases_lt _ _) [
   ]
 ]
 
+clean_state : (old new : Device) (lowest page : ℕ) → is_blank (page_at new lowest) ≡ true
+    → IsSameBut lowest old new
+    → state_of_words (page_at new page)
+    ≡ cond (page == lowest) Unused (state_of_words (page_at old page))
+clean_state old new lowest page blank others = search (rules, blank_state)
+
 pub states_after_clean_lem : StatesAfterClean
 states_after_clean_lem old new lowest page erases is =
     let same = lowest_is old erases.lowest.page lowest erases.lowest.lowest is in
-    search (rules, blank_state)
+    clean_state old new lowest page
+    (subst (λ n. is_blank (page_at new n) ≡ true) same erases.lowest.blank)
+    (subst (λ n. IsSameBut n old new) same erases.lowest.others)
 
 -- where a page is blank, it is not marked
 not_waiting : (blank : Bool) → blank ≡ true → (picture : Picture) (page at : ℕ)

@@ -12,6 +12,8 @@ use Rattle.ee_pages.specs.declared.side.Side.{Side}
 use Rattle.ee_core.specs.CallSteps.{IsSameBut}
 use Rattle.ee_core.specs.Changes.{Appends, HaveNoGeneration, HaveNoPlace, IsCutChange, IsCutMaking, IsFull, IsSpent, Moves, Proceeds}
 use Rattle.ee_core.specs.Puts.{HasNew, IsEachOnce, IsFirstTwice, puts_of}
+use Rattle.ee_core.specs.StepLists.{steps_of_clean}
+use Rattle.ee_flash.specs.Taking.{Completes, IsCutAmong}
 use Rattle.ee_core.specs.State.{Wears, capacity, pending_pages, state_of, with_pending}
 use Rattle.ee_core.specs.declared.change.Put as listed
 use Rattle.ee_core.specs.declared.variables.Written.{Written}
@@ -114,6 +116,7 @@ pub record KeepsAllButLowest (old new : Device) : Type 0 where
 pub record ErasesOne (old new : Device) : Type 0 where
   pub was_on : IsOn old
   pub goes_on : GoesOn old new
+  pub steps : Completes (steps_of_clean old) old new
   pub some : 0 < (state_of old).pending
   pub state_is : state_of new ≡ with_pending ((state_of old).pending - 1) (state_of old)
   pub live_is : live_of new ≡ live_of old
@@ -122,6 +125,7 @@ pub record ErasesOne (old new : Device) : Type 0 where
 -- power was cut in erasing it: as many pages wait, or one less
 pub record IsCutClean (old new : Device) : Type 0 where
   pub cut : IsCut old new
+  pub steps : IsCutAmong (steps_of_clean old) old new
   pub some : 0 < (state_of old).pending
   pub state_is : (state_of new ≡ state_of old)
       ⊎ (state_of new ≡ with_pending ((state_of old).pending - 1) (state_of old))

@@ -6,6 +6,8 @@ use Rattle.ee_pages.specs.Meaning.{Change, Map, Put, Forget, changed_by, live_in
 use Rattle.ee_pages.specs.Sets.{live_of}
 use Rattle.ee_core.specs.Picture.{OfLive}
 use Rattle.ee_core.specs.Shown.{ShowsAppended, ShowsCutAppend, ShowsCutMove, ShowsMoved}
+use Rattle.ee_core.specs.StepLists.{steps_of_append, steps_of_making, steps_of_transfer}
+use Rattle.ee_flash.specs.Taking.{Completes, IsCutAmong}
 use Rattle.ee_core.specs.State.{State, Wears, appended_state, capacity, moved_state, pending_pages, torn_state, state_of, next_live, used_pages_of, with_pending}
 
 -- the greatest generation: no transfer follows it
@@ -75,6 +77,7 @@ pub record Appends (old : Device) (change : Change) (new : Device) : Type 0 wher
   pub live_is : live_of new ≡ live_of old
   pub same_pending : pending_pages new ≡ pending_pages old
   pub image : OfLive old (λ side generation. ShowsAppended old change new side)
+  pub steps : Completes (steps_of_append change old) old new
   pub no_wear : new.wear ≡ old.wear
 
 -- a transfer was needed, and the map was moved to the other set with the changes; the pages of that
@@ -87,6 +90,7 @@ pub record Moves (old : Device) (changes : List Change) (new : Device) : Type 0 
   pub state_is : state_of new ≡ moved_state (pages_left changes old) changes (state_of old)
   pub live_is : live_of new ≡ next_live (live_of old)
   pub image : OfLive old (λ side generation. ShowsMoved old changes new side generation)
+  pub steps : Completes (steps_of_transfer changes old) old new
   pub wear : Wears (pending_pages old) old new
 
 -- With a slot free, a cut leaves the state as it was, or a slot more torn, or the change appended.
@@ -106,6 +110,7 @@ IsCutMove pages left old changes new =
 pub record IsCutChange (old : Device) (change : Change) (new : Device) : Type 0 where
   pub proceeds : Proceeds old (change ∷ [])
   pub cut : IsCut old new
+  pub steps : IsCutAmong (steps_of_making (change ∷ []) old) old new
   pub within : (state_of old).fill ≤ capacity old
   pub free : (state_of old).fill < capacity old → IsCutAppend (state_of old) change (state_of new)
   pub all_used : (state_of old).fill ≡ capacity old
@@ -120,6 +125,7 @@ pub record IsCutChange (old : Device) (change : Change) (new : Device) : Type 0 
 pub record IsCutTransfer (old : Device) (changes : List Change) (new : Device) : Type 0 where
   pub proceeds : Proceeds old changes
   pub cut : IsCut old new
+  pub steps : IsCutAmong (steps_of_transfer changes old) old new
   pub state_is : IsCutMove old.size.pages (pages_left changes old) (state_of old) changes
       (state_of new)
   pub words : OfLive old (λ side generation. ShowsCutMove old changes new side generation)

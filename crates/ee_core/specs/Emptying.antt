@@ -7,6 +7,8 @@ use Rattle.ee_pages.specs.declared.side.Side.{Side}
 use Rattle.ee_core.specs.Changes.{greatest_generation}
 use Rattle.ee_core.specs.Cuts.{ErasesPartly, MovesPartly}
 use Rattle.ee_core.specs.Picture.{IsDrawn, OfLive, filled_set, is_used, picture_of, retired_pages}
+use Rattle.ee_core.specs.StepLists.{steps_of_clear}
+use Rattle.ee_flash.specs.Taking.{Completes, IsCutAmong}
 use Rattle.ee_core.specs.State.{State, Wears, next_live, pending_pages, state_of, used_pages_of, with_pending}
 use Rattle.ee_core.specs.declared.variables.ClearFault.{ClearFault}
 use Rattle.ee_core.specs.declared.variables.ClearFault.TheVariants as clear
@@ -34,6 +36,7 @@ pub record ShowsCleared (old new : Device) (side : Side) (generation : ℕ) : Ty
 pub record Empties (old new : Device) : Type 0 where
   pub may : MayClear old
   pub goes_on : GoesOn old new
+  pub steps : Completes (steps_of_clear old) old new
   pub few_left : used_pages_of old ≤ old.size.pages
   pub state_is : state_of new ≡ cleared_state (used_pages_of old) (state_of old)
   pub live_is : live_of new ≡ next_live (live_of old)
@@ -45,6 +48,7 @@ pub record Empties (old new : Device) : Type 0 where
 pub record IsCutClear (old new : Device) : Type 0 where
   pub may : MayClear old
   pub cut : IsCut old new
+  pub steps : IsCutAmong (steps_of_clear old) old new
   pub state_is
       :
       ((pending : ℕ) × (pending ≤ old.size.pages)

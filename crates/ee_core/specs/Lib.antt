@@ -13,6 +13,8 @@ pub mod CallSteps
 pub mod Cuts
 pub mod Appending
 pub mod Transfers
+pub mod StepLists
+pub mod StepLaws
 pub mod Course
 pub mod Runs
 pub mod PageStates

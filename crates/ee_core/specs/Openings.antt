@@ -11,6 +11,8 @@ use Rattle.ee_pages.specs.declared.side.Side.TheVariants.{First, Second}
 use Rattle.ee_core.specs.Finished.{IsFinished, IsStore, last_used}
 use Rattle.ee_core.specs.Cuts.{ErasesPartly, IsDrawnPartly}
 use Rattle.ee_core.specs.Picture.{IsDrawn, OfLive, blank_picture, filled_set, marked_to, picture_of, retired_pages}
+use Rattle.ee_core.specs.StepLists.{steps_of_format, steps_of_open}
+use Rattle.ee_flash.specs.Taking.{Completes, IsCutAmong}
 use Rattle.ee_core.specs.State.{Wears, formatted_state, not_blank_from, pending_pages, state_of}
 use Rattle.ee_core.specs.declared.opening.OpenFault.{OpenFault}
 use Rattle.ee_core.specs.declared.opening.OpenFault.TheVariants.{Scan, Cut}
@@ -30,6 +32,7 @@ pub record Opens (old new : Device) : Type 0 where
   pub legal : IsLegal old
   pub store : IsStore new
   pub goes_on : GoesOn old new
+  pub steps : Completes (steps_of_open old) old new
   pub state_is : state_of new ≡ state_of old
   pub live_is : live_of new ≡ live_of old
   pub same_pending : pending_pages new ≡ pending_pages old
@@ -53,6 +56,7 @@ pub record IsCutOpening (old new : Device) : Type 0 where
   pub was_legal : IsLegal old
   pub mark_left : ¬ IsFinished old
   pub cut : IsCut old new
+  pub steps : IsCutAmong (steps_of_open old) old new
   pub legal : IsLegal new
   pub state_is : state_of new ≡ state_of old
   pub no_wear : new.wear ≡ old.wear
@@ -78,6 +82,7 @@ pub record FormatsPartly (old new : Device) : Type 0 where
 -- power was cut in a format: in erasing the pages that were not blank, or behind that
 pub record IsCutFormat (old new : Device) : Type 0 where
   pub cut : IsCut old new
+  pub steps : IsCutAmong (steps_of_format old) old new
   pub words : ErasesPartly 0 old.image old new ⊎ FormatsPartly old new
 
 -- a store with nothing in it, whose live set is the first, with generation 1; each page that was
@@ -86,6 +91,7 @@ pub record IsFormatted (old new : Device) : Type 0 where
   pub store : IsStore new
   pub live_is : live_of new ≡ Some (First, 1)
   pub goes_on : GoesOn old new
+  pub steps : Completes (steps_of_format old) old new
   pub state_is : state_of new ≡ formatted_state
   pub first_set : IsDrawn First new (filled_set new.size 1 [])
   pub second_set : IsDrawn Second new blank_picture

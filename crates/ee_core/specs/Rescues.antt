@@ -19,6 +19,8 @@ use Rattle.ee_core.specs.Finished.{IsStore}
 use Rattle.ee_core.specs.Openings.{IsCutOpening, Opens}
 use Rattle.ee_core.specs.Picture.{IsDrawn, elements_of, filled_set, is_used, picture_of, retired_pages}
 use Rattle.ee_core.specs.Points.{with_power_on}
+use Rattle.ee_core.specs.StepLists.{steps_to_move}
+use Rattle.ee_flash.specs.Taking.{Completes, IsCutAmong}
 use Rattle.ee_core.specs.State.{Wears, moved_state, not_blank_in, state_of, state_with}
 use Rattle.ee_core.specs.declared.rescuing.RescueFault.{RescueFault}
 use Rattle.ee_core.specs.declared.rescuing.RescueFault.TheVariants as faults
@@ -38,6 +40,7 @@ pub record IsRescued (old : Device) (rescued : Rescued) (new : Device) : Type 0 
   pub rescues : Rescues old side generation
   pub store : IsStore new
   pub goes_on : GoesOn old new
+  pub steps : Completes (steps_to_move old side generation (elements_of (map_in side old))) old new
   pub state_is : state_of new
       ≡ moved_state (pending_of (set_of side old)) [] (state_with old side generation)
   pub map_is : (address : ℕ) → (state_of new).map address ≡ rescued_map old address
@@ -62,6 +65,7 @@ pub record IsCutRescue (old new : Device) : Type 0 where
   pub generation : ℕ
   pub rescues : Rescues old side generation
   pub cut : IsCut old new
+  pub steps : IsCutAmong (steps_to_move old side generation (elements_of (map_in side old))) old new
   pub words : ErasesPartly (first_page old.size (other side)) (set_of (other side) old) old new
       ⊎ MovesPartly old new side generation (elements_of (map_in side old))
   pub left : KeepsSide old new side ⊎ HasRescued old new

@@ -19,6 +19,8 @@ use Rattle.ee_core.specs.Cuts.{AddsPartly, ErasesPartly, FillsPartly, IsDrawnPar
 use Rattle.ee_core.specs.Finished.{IsMarked}
 use Rattle.ee_core.specs.Picture.{IsDrawn, blank_picture, filled_set, is_used, picture_of, retired_pages}
 use Rattle.ee_core.specs.State.{Wears, not_blank_in}
+use Rattle.ee_core.specs.StepLists.{steps_to_fill}
+use Rattle.ee_flash.specs.Taking.{Completes, StopsAmong}
 use Rattle.ee_core.specs.declared.change.Change as declared
 use Rattle.ee_core.specs.declared.copying.Place.{Place}
 
@@ -40,6 +42,18 @@ pub record IsOpenFor (device : Device) (layout : Layout) (place : Place) : Type 
   pub filling : IsFilling device (other layout.side) (layout.generation + 1) place.slot
   pub stands : Stands device.size (other layout.side) place
 
+-- the steps that fill it were taken for some more words, behind those that it held
+pub record AddsSteps (old new : Device) (side : Side) (generation count : ℕ) (more : List Word)
+    : Type 0 where
+  pub taken : (held : List Word) → length held ≡ count → Holds old (other side) generation held
+      → Completes (steps_to_fill old.size (other side) generation count more) old new
+
+-- or power was cut in one of them
+pub record AddsStepsPartly (old new : Device) (side : Side) (generation count : ℕ)
+    (more : List Word) : Type 0 where
+  pub stopped : (held : List Word) → length held ≡ count → Holds old (other side) generation held
+      → StopsAmong (steps_to_fill old.size (other side) generation count more) old new
+
 -- These words were added to the other set, of which so many slots were written; now this many are,
 -- and the set means this map. The live set and all wear are as before.
 pub record Filled (old new : Device) (layout : Layout) (count : ℕ) (words : List Word) (map : Map)
@@ -50,6 +64,7 @@ pub record Filled (old new : Device) (layout : Layout) (count : ℕ) (words : Li
   pub adds : AddsWords old new layout.side (layout.generation + 1) count words
   pub as_many : written ≡ count + length words
   pub wear : new.wear ≡ old.wear
+  pub steps : AddsSteps old new layout.side (layout.generation + 1) count words
 
 -- or they were added in part, when power was cut
 pub record FilledPartly (old new : Device) (layout : Layout) (count : ℕ) (words : List Word)
@@ -57,6 +72,7 @@ pub record FilledPartly (old new : Device) (layout : Layout) (count : ℕ) (word
   pub keeps : KeepsSide old new layout.side
   pub begun : AddsPartly old new layout.side (layout.generation + 1) count words
   pub wear : new.wear ≡ old.wear
+  pub steps : AddsStepsPartly old new layout.side (layout.generation + 1) count words
 
 -- a call ends so; what it gives says how many slots are written
 abbrev pub Fills : {T E : Type 0} → Result T E → (T → ℕ) → Device → Device → Layout → ℕ → List Word

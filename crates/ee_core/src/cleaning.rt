@@ -1,7 +1,6 @@
 //! The set that isn't live: how many of its pages wait to be erased, and the erasing of one.
-ghost use Rattle.std.specs.Prelude.{◌≡◌, ◌<◌, ◌≤◌, ◌⊎◌, ℕ, ◌+◌, IfNone, IfSome, OnErr, OnOk, false, true};
+ghost use Rattle.std.specs.Prelude.{◌≡◌, ◌<◌, ◌≤◌, ◌⊎◌, ℕ, ◌+◌, [], ◌∷◌, IfNone, IfSome, OnErr, OnOk, false, true};
 ghost use Rattle.ee_flash.specs.Device.{IsOn, page_at};
-ghost use Rattle.ee_flash.specs.Power.{Ends};
 ghost use Rattle.ee_pages.specs.Laws.{IsPageOf, KeepsLiveSet};
 ghost use Rattle.ee_pages.specs.Layout.{IsLayout};
 ghost use Rattle.ee_pages.specs.Page.{is_blank};
@@ -9,6 +8,9 @@ ghost use Rattle.ee_pages.specs.Sets.{first_page as first_of, other as other_of,
 ghost use Rattle.ee_core.specs.CallSteps.{ErasesPage};
 ghost use Rattle.ee_core.specs.Calls.{ErasesLowest, KeepsAllButLowest};
 ghost use Rattle.ee_core.specs.Finished.{IsMarked};
+ghost use Rattle.ee_core.specs.StepLists.{steps_of_clean};
+ghost use Rattle.ee_flash.specs.Taking.{Takes};
+ghost use Rattle.ee_flash.specs.Step.{Erase};
 
 use ee_flash::{Cut, Flash};
 use ee_pages::{Layout, Side, first_page, is_blank as page_is_blank};
@@ -36,7 +38,8 @@ pub fn clean<F: Flash>(flash: &mut F, layout: &Layout) -> Result<bool, Cut>
         ≡ pending_of (set_of (other_of layout.now.side) (F.device flash.old)))) }
     ensures others { OnErr result (IsOn (F.device flash.old)
         → KeepsAllButLowest (F.device flash.old) (F.device flash.new)) }
-    ensures power { Ends result (F.device flash.old) (F.device flash.new) }
+    ensures steps { Takes result (steps_of_clean (F.device flash.old))
+        (F.device flash.old) (F.device flash.new) }
 {
     let Some(page) = first_pending(flash, layout.side.other()) else {
         return Ok(false);
@@ -51,7 +54,7 @@ pub(crate) fn erase_other<F: Flash>(flash: &mut F, side: Side, page: usize) -> R
     requires not_blank { is_blank (page_at (F.device flash.old) page) ≡ false }
     // At an error power was cut: each word of the page is as before, erased or torn.
     ensures erases { ErasesPage result (F.device flash.old) (F.device flash.new) side page }
-    ensures power { Ends result (F.device flash.old) (F.device flash.new) }
+    ensures steps { Takes result (Erase page ∷ []) (F.device flash.old) (F.device flash.new) }
 {
     flash.erase(page)?;
     Ok(())

@@ -1,7 +1,6 @@
 //! The copying of a transfer: the map after its change, written into the other set word by word.
 ghost use Rattle.std.specs.Prelude.{◌≡◌, ◌<◌, ◌≤◌, ℕ, ◌+◌, IfOk, IfSome, [], ◌∷◌, None, Ok, OnErr, OnOk, OnSome, false, length, slice_set, true};
 ghost use Rattle.ee_codec.specs.Words.{IsAddress, element};
-ghost use Rattle.ee_flash.specs.Power.{Ends};
 ghost use Rattle.ee_flash.specs.Size.{slot_count};
 ghost use Rattle.ee_flash.specs.declared.word.Word.TheVariants.{Held};
 ghost use Rattle.ee_pages.specs.Laws.{KeepsSide};
@@ -12,6 +11,9 @@ ghost use Rattle.ee_core.specs.CallSteps.{IsBehind, Stands, map_change, map_in, 
 ghost use Rattle.ee_core.specs.Course.{GoesOver, course_of, last_given};
 ghost use Rattle.ee_core.specs.Picture.{elements_of, map_without, moved_words, put_words};
 ghost use Rattle.ee_core.specs.Puts.{AreApart, changes_of_puts, names, puts_of};
+ghost use Rattle.ee_core.specs.StepLists.{steps_to_mark};
+ghost use Rattle.ee_flash.specs.Taking.{Takes};
+ghost use Rattle.ee_pages.specs.Pushing.{slot_step};
 ghost use Rattle.ee_core.specs.Transfers.{Fills, IsNewlyOpened, IsOpenAt, IsOpenFor, ProgramsSlot, ReceivesSlot};
 
 use crate::change::{Change, Put};
@@ -153,7 +155,6 @@ pub(crate) fn fill_set<F: Flash, C: LiveCursor>(
         (map_in layout.now.side (F.device flash.old)))) }
     ensures behind { IfOk result
         (IsBehind (F.device flash.new).size (other_of layout.now.side)) }
-    ensures power { Ends result (F.device flash.old) (F.device flash.new) }
 {
     let first = put_all(flash, layout, values_put(puts, forgets))?;
     let all = copy_others(flash, layout, puts, first, cursor)?;
@@ -171,7 +172,6 @@ fn put_all<F: Flash>(flash: &mut F, layout: &Layout, puts: &[Put]) -> Result<Pla
         (changed_by (puts_of puts.now) (λ address. None)) }
     ensures behind { IfOk result
         (IsBehind (F.device flash.new).size (other_of layout.now.side)) }
-    ensures power { Ends result (F.device flash.old) (F.device flash.new) }
 {
     let mut place = first_place(flash, layout);
     'puts: for put in puts {
@@ -207,7 +207,6 @@ fn copy_others<F: Flash, C: LiveCursor>(
         (names (puts_of puts.now)) map) }
     ensures behind { IfOk result
         (IsBehind (F.device flash.new).size (other_of layout.now.side)) }
-    ensures power { Ends result (F.device flash.old) (F.device flash.new) }
 {
     let mut place = place;
     'live: while let Some((address, value)) = cursor.next(flash, layout) {
@@ -239,7 +238,6 @@ fn copy_one<F: Flash>(
         layout.now place.old.slot (Held (element address value) ∷ [])
         (map_after (MapPut address value) (map_in (other_of layout.now.side) (F.device flash.old))) }
     ensures wear { (F.device flash.new).wear ≡ (F.device flash.old).wear }
-    ensures power { Ends result (F.device flash.old) (F.device flash.new) }
 {
     if passed {
         return Ok(());
@@ -267,7 +265,6 @@ fn stage_put<F: Flash>(
         (map_after (MapPut address value) (map_in (other_of layout.now.side) (F.device flash.old))) }
     ensures behind { OnOk result
         (IsBehind (F.device flash.new).size (other_of layout.now.side) place.new) }
-    ensures power { Ends result (F.device flash.old) (F.device flash.new) }
 {
     let next = next_place(flash, layout, *place);
     stage(flash, layout, next, Change::Put { address, value })?;
@@ -293,7 +290,6 @@ fn stage<F: Flash>(flash: &mut F, layout: &Layout, place: Place, change: Change)
         × (slots_of (set_of (other_of layout.now.side) (F.device flash.new))
         ≡ slice_set (slots_of (set_of (other_of layout.now.side) (F.device flash.old))) place.slot
         (Held number))) }
-    ensures power { Ends result (F.device flash.old) (F.device flash.new) }
 {
     if place.at == HEADER_WORDS {
         receive(flash, layout, place)?;
@@ -309,7 +305,9 @@ fn receive<F: Flash>(flash: &mut F, layout: &Layout, place: Place) -> Result<(),
     // At an error power was cut: the receive word is there, or torn, or not there.
     ensures receives { ReceivesSlot result (F.device flash.old) (F.device flash.new) layout.now
         place.slot }
-    ensures power { Ends result (F.device flash.old) (F.device flash.new) }
+    ensures steps { Takes result
+        (steps_to_mark (F.device flash.old) (Mark.Receive (layout.now.generation + 1)) place.page)
+        (F.device flash.old) (F.device flash.new) }
 {
     mark(flash, place.page, Mark::Receive(layout.generation + 1))?;
     Ok(())
@@ -322,7 +320,10 @@ fn put_in<F: Flash>(flash: &mut F, layout: &Layout, place: Place, change: Change
     // At an error power was cut: the slot has the change, or is torn, or as before.
     ensures programs { ProgramsSlot result (F.device flash.old) (F.device flash.new) layout.now
         place.slot change }
-    ensures power { Ends result (F.device flash.old) (F.device flash.new) }
+    ensures steps { Takes result
+        (slot_step (F.device flash.old).size (other_of layout.now.side) place.slot
+        (number_written change) ∷ [])
+        (F.device flash.old) (F.device flash.new) }
 {
     flash.program(place.page, place.at, change.word())?;
     Ok(())

@@ -4,6 +4,7 @@ ghost use Rattle.ee_core.specs.PageStates.{MovedWordsAreLive, PicturesTellImages
 ghost use Rattle.ee_core.specs.Puts.{ListsAreThere};
 ghost use Rattle.ee_core.specs.Rescues.{HeldThroughCuts, OneWordCostsNoMore, WaitingWordCostsNoMore};
 ghost use Rattle.ee_core.specs.Starts.{StartsEnd};
+ghost use Rattle.ee_core.specs.StepLaws.{EachCallIsShort, FormatsAndRescuesAreShort};
 ghost use Rattle.ee_core.specs.Runs.{CleanRunsEraseSets, EachPageWearsEverySecondTransfer, EachTransferErasesASet, NoPageWearsMore, NoTransferErasesMore, NoPageWearsMuchMore, RunsGoOn, TheStoreIsAMap};
 
 /// Size, power and cuts are as before.
@@ -114,4 +115,17 @@ pub fn one_word_costs_no_more()
 /// One word of the set that waits costs nothing, by the same premise on its commit words.
 pub fn waiting_word_costs_no_more()
     ensures { WaitingWordCostsNoMore }
+{}
+
+/// On a legal image an opening programs 2 * P words at the most, where P is the pages of a set, an
+/// append 3, and a move one for each value that lives then and 3 * P + 1. A move erases P pages at
+/// the most, a clean step one, and no other of these calls any.
+pub fn each_call_is_short()
+    ensures { EachCallIsShort }
+{}
+
+/// On any device a format programs 2 words and erases each page once at the most; a rescue takes
+/// no more than a move of its values.
+pub fn formats_and_rescues_are_short()
+    ensures { FormatsAndRescuesAreShort }
 {}

@@ -1,7 +1,6 @@
 //! The marks that a transfer or a cut left to set: pages used up, the page in use,
 //! pages to be erased.
 ghost use Rattle.std.specs.Prelude.{◌≡◌, ◌<◌, ◌≤◌, ◌+◌, ◌-◌, OnErr, OnOk, false, not, true};
-ghost use Rattle.ee_flash.specs.Power.{Ends};
 ghost use Rattle.ee_flash.specs.Device.{page_at};
 ghost use Rattle.ee_pages.specs.Layout.{IsLayout};
 ghost use Rattle.ee_pages.specs.Page.{is_blank, is_marked};
@@ -13,6 +12,8 @@ ghost use Rattle.ee_core.specs.Cuts.{IsDrawnPartly, SetsPartly};
 ghost use Rattle.ee_core.specs.Openings.{ShowsCutMarks, ShowsMarks};
 ghost use Rattle.ee_core.specs.CallSteps.{IsSameBut, IsSameSet, KeepsMarks, SetsMark, Stays};
 ghost use Rattle.ee_core.specs.Picture.{IsDrawn, marked_to, picture_of, retired_pages};
+ghost use Rattle.ee_core.specs.StepLists.{steps_to_finish, steps_to_mark, steps_to_mark_live, steps_to_retire};
+ghost use Rattle.ee_flash.specs.Taking.{Takes};
 
 use ee_flash::{Cut, Flash};
 use ee_pages::{Layout, Mark, first_page, is_blank as page_is_blank, mark};
@@ -29,9 +30,10 @@ pub fn finish<F: Flash>(flash: &mut F, layout: &Layout) -> Result<(), Cut>
         (ShowsMarks (F.device flash.old) (F.device flash.new) layout.now.side) }
     ensures begun { OnErr result
         (ShowsCutMarks (F.device flash.old) (F.device flash.new) layout.now.side) }
-    ensures no_step { IsMarked (F.device flash.old) layout.now.side
-        → (result ≡ Ok tt) × (F.device flash.new ≡ F.device flash.old) }
-    ensures power { Ends result (F.device flash.old) (F.device flash.new) }
+    ensures steps { Takes result
+        (steps_to_finish (F.device flash.old) layout.now.side
+        (last_used (F.device flash.old) layout.now.side))
+        (F.device flash.old) (F.device flash.new) }
 {
     mark_live_set(flash, layout)?;
     mark_old_set(flash, layout)?;
@@ -57,9 +59,10 @@ fn mark_live_set<F: Flash>(flash: &mut F, layout: &Layout) -> Result<(), Cut>
         (picture_of layout.now.side (F.device flash.old)))) }
     ensures old_pages_stay { OnErr result
         (IsSameSet (other_of layout.now.side) (F.device flash.old) (F.device flash.new)) }
-    ensures no_step { IsLiveMarked (F.device flash.old) layout.now.side
-        → (result ≡ Ok tt) × (F.device flash.new ≡ F.device flash.old) }
-    ensures power { Ends result (F.device flash.old) (F.device flash.new) }
+    ensures steps { Takes result
+        (steps_to_mark_live (F.device flash.old) layout.now.side
+        (last_used (F.device flash.old) layout.now.side))
+        (F.device flash.old) (F.device flash.new) }
 {
     let first = first_page(flash, layout.side);
     'pages: for page in first..layout.current {
@@ -91,9 +94,9 @@ fn mark_old_set<F: Flash>(flash: &mut F, layout: &Layout) -> Result<(), Cut>
         (picture_of (other_of layout.now.side) old))) }
     ensures live_pages_stay { OnErr result
         (IsSameSet layout.now.side (F.device flash.old) (F.device flash.new)) }
-    ensures no_step { IsOldMarked (F.device flash.old) (other_of layout.now.side)
-        → (result ≡ Ok tt) × (F.device flash.new ≡ F.device flash.old) }
-    ensures power { Ends result (F.device flash.old) (F.device flash.new) }
+    ensures steps { Takes result
+        (steps_to_retire (F.device flash.old) (other_of layout.now.side))
+        (F.device flash.old) (F.device flash.new) }
 {
     let first = first_page(flash, layout.side.other());
     'pages: for page in first..first + flash.shape().pages() {
@@ -122,9 +125,8 @@ pub(crate) fn mark_live<F: Flash>(
     ensures marked { OnOk result (is_marked (F.device flash.new) page kind ≡ true) }
     ensures sets { OnOk result (SetsMark page kind (F.device flash.old) (F.device flash.new)) }
     ensures begun { OnErr result (SetsPartly page kind (F.device flash.old) (F.device flash.new)) }
-    ensures no_step { is_marked (F.device flash.old) page kind ≡ true
-        → (result ≡ Ok tt) × (F.device flash.new ≡ F.device flash.old) }
-    ensures power { Ends result (F.device flash.old) (F.device flash.new) }
+    ensures steps { Takes result (steps_to_mark (F.device flash.old) kind page)
+        (F.device flash.old) (F.device flash.new) }
 {
     mark(flash, page, kind)?;
     Ok(())
@@ -144,9 +146,8 @@ fn mark_old<F: Flash>(flash: &mut F, layout: &Layout, page: usize) -> Result<(),
         (SetsMark page Mark.Erasing (F.device flash.old) (F.device flash.new)) }
     ensures begun { OnErr result
         (SetsPartly page Mark.Erasing (F.device flash.old) (F.device flash.new)) }
-    ensures no_step { is_marked (F.device flash.old) page Mark.Erasing ≡ true
-        → (result ≡ Ok tt) × (F.device flash.new ≡ F.device flash.old) }
-    ensures power { Ends result (F.device flash.old) (F.device flash.new) }
+    ensures steps { Takes result (steps_to_mark (F.device flash.old) Mark.Erasing page)
+        (F.device flash.old) (F.device flash.new) }
 {
     mark(flash, page, Mark::Erasing)?;
     Ok(())

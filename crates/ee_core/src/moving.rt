@@ -1,16 +1,17 @@
 //! A transfer: the other set is erased, opened and filled, and one mark makes it the live one.
-ghost use Rattle.std.specs.Prelude.{◌≡◌, ◌≤◌, ℕ, ◌+◌, IfOk, [], true};
+ghost use Rattle.std.specs.Prelude.{◌≡◌, ◌≤◌, ℕ, ◌+◌, IfOk, [], ◌∷◌, true};
 ghost use Rattle.std.specs.List.{All};
 ghost use Rattle.ee_codec.specs.Words.{IsGeneration};
-ghost use Rattle.ee_flash.specs.Power.{Ends};
 ghost use Rattle.ee_flash.specs.Size.{slot_count};
 ghost use Rattle.ee_pages.specs.Filling.{IsFilling};
 ghost use Rattle.ee_pages.specs.Meaning.{changed_by, live_in};
-ghost use Rattle.ee_pages.specs.Page.{is_blank};
-ghost use Rattle.ee_pages.specs.Sets.{other as other_of, set_of, slots_of};
+ghost use Rattle.ee_pages.specs.Page.{is_blank, marking};
+ghost use Rattle.ee_pages.specs.Sets.{first_page as first_of, other as other_of, set_of, slots_of};
 ghost use Rattle.ee_core.specs.CallSteps.{IsBehind, IsOlder, map_in};
 ghost use Rattle.ee_core.specs.Picture.{moved_words};
 ghost use Rattle.ee_core.specs.Puts.{AreApart, changes_of_puts, each_forgotten};
+ghost use Rattle.ee_core.specs.StepLists.{steps_to_clear, steps_to_commit, steps_to_move};
+ghost use Rattle.ee_flash.specs.Taking.{Takes};
 ghost use Rattle.ee_core.specs.Transfers.{ClearsOther, CommitsOther, MovesMap, MovesSet, OpensOther};
 
 use crate::change::Put;
@@ -44,7 +45,11 @@ pub(crate) fn transfer<F: Flash, C: LiveCursor>(
         layout.old (changes_of_puts puts.now forgets)
         (moved_words (changes_of_puts puts.now forgets)
         (map_in layout.old.side (F.device flash.old))) }
-    ensures power { Ends result (F.device flash.old) (F.device flash.new) }
+    ensures steps { Takes result
+        (steps_to_move (F.device flash.old) layout.old.side layout.old.generation
+        (moved_words (changes_of_puts puts.now forgets)
+        (map_in layout.old.side (F.device flash.old))))
+        (F.device flash.old) (F.device flash.new) }
 {
     let filled = move_map(flash, layout, puts, forgets, cursor)?;
     *layout = Layout {
@@ -74,7 +79,11 @@ pub(crate) fn transfer_by_slots<F: Flash>(
         layout.old (changes_of_puts puts.now forgets)
         (moved_words (changes_of_puts puts.now forgets)
         (map_in layout.old.side (F.device flash.old))) }
-    ensures power { Ends result (F.device flash.old) (F.device flash.new) }
+    ensures steps { Takes result
+        (steps_to_move (F.device flash.old) layout.old.side layout.old.generation
+        (moved_words (changes_of_puts puts.now forgets)
+        (map_in layout.old.side (F.device flash.old))))
+        (F.device flash.old) (F.device flash.new) }
 {
     let mut cursor = Cursor::new(flash, layout);
     transfer(flash, layout, puts, forgets, &mut cursor)?;
@@ -104,7 +113,11 @@ fn move_map<F: Flash, C: LiveCursor>(
         (map_in layout.now.side (F.device flash.old))) }
     ensures behind { IfOk result
         (IsBehind (F.device flash.new).size (other_of layout.now.side)) }
-    ensures power { Ends result (F.device flash.old) (F.device flash.new) }
+    ensures steps { Takes result
+        (steps_to_commit (F.device flash.old) layout.now.side layout.now.generation
+        (moved_words (changes_of_puts puts.now forgets)
+        (map_in layout.now.side (F.device flash.old))))
+        (F.device flash.old) (F.device flash.new) }
 {
     clear(flash, layout)?;
     open_set(flash, layout)?;
@@ -121,7 +134,9 @@ pub(crate) fn transfer_nothing<F: Flash>(flash: &mut F, layout: &mut Layout) -> 
     // At an error power was cut: the map has moved, or the set is live as before.
     ensures moves { MovesSet result (λ done. layout.new) (F.device flash.old) (F.device flash.new)
         layout.old each_forgotten [] }
-    ensures power { Ends result (F.device flash.old) (F.device flash.new) }
+    ensures steps { Takes result
+        (steps_to_move (F.device flash.old) layout.old.side layout.old.generation [])
+        (F.device flash.old) (F.device flash.new) }
 {
     move_nothing(flash, layout)?;
     *layout = Layout {
@@ -142,7 +157,9 @@ fn move_nothing<F: Flash>(flash: &mut F, layout: &Layout) -> Result<(), Cut>
     // At an error power was cut: the map has moved, or the set is live as before.
     ensures moves { MovesMap result (λ done. 0) (F.device flash.old) (F.device flash.new)
         layout.now each_forgotten [] }
-    ensures power { Ends result (F.device flash.old) (F.device flash.new) }
+    ensures steps { Takes result
+        (steps_to_commit (F.device flash.old) layout.now.side layout.now.generation [])
+        (F.device flash.old) (F.device flash.new) }
 {
     clear(flash, layout)?;
     open_set(flash, layout)?;
@@ -154,7 +171,8 @@ fn move_nothing<F: Flash>(flash: &mut F, layout: &Layout) -> Result<(), Cut>
 fn clear<F: Flash>(flash: &mut F, layout: &Layout) -> Result<(), Cut>
     // At an error power was cut: some pages are erased, and one in part.
     ensures clears { ClearsOther result (F.device flash.old) (F.device flash.new) layout.now.side }
-    ensures power { Ends result (F.device flash.old) (F.device flash.new) }
+    ensures steps { Takes result (steps_to_clear (F.device flash.old) (other_of layout.now.side))
+        (F.device flash.old) (F.device flash.new) }
 {
     let first = first_page(flash, layout.side.other());
     'pages: for page in first..first + flash.shape().pages() {
@@ -174,7 +192,10 @@ fn open_set<F: Flash>(flash: &mut F, layout: &Layout) -> Result<(), Cut>
         (set_of (other_of layout.now.side) (F.device flash.old)) }
     // At an error power was cut: the other set is open in part, and the live set as before.
     ensures opens { OpensOther result (F.device flash.old) (F.device flash.new) layout.now }
-    ensures power { Ends result (F.device flash.old) (F.device flash.new) }
+    ensures steps { Takes result
+        (marking (first_of (F.device flash.old).size (other_of layout.now.side))
+        (Mark.Receive (layout.now.generation + 1)) ∷ [])
+        (F.device flash.old) (F.device flash.new) }
 {
     let first = first_page(flash, layout.side.other());
     mark(flash, first, Mark::Receive(layout.generation + 1))?;
@@ -191,7 +212,9 @@ fn commit<F: Flash>(flash: &mut F, layout: &Layout) -> Result<(), Cut>
         (layout.now.generation + 1) count }
     // At an error power was cut: the other set is committed, or the set is live as before.
     ensures commits { CommitsOther result (F.device flash.old) (F.device flash.new) layout.now }
-    ensures power { Ends result (F.device flash.old) (F.device flash.new) }
+    ensures steps { Takes result
+        (marking (first_of (F.device flash.old).size (other_of layout.now.side)) Mark.Active ∷ [])
+        (F.device flash.old) (F.device flash.new) }
 {
     let first = first_page(flash, layout.side.other());
     mark(flash, first, Mark::Active)?;

@@ -2,11 +2,12 @@
 ghost use Rattle.std.specs.Prelude.{ℕ, ◌+◌, [], IfErr, IfOk};
 ghost use Rattle.ee_codec.specs.Words.{IsGeneration};
 ghost use Rattle.ee_flash.specs.Device.{IsOn};
-ghost use Rattle.ee_flash.specs.Power.{Ends};
 ghost use Rattle.ee_pages.specs.Rescue.{bad_words as bad_in};
 ghost use Rattle.ee_core.specs.CallSteps.{IsOlder, map_in};
 ghost use Rattle.ee_core.specs.Picture.{elements_of};
 ghost use Rattle.ee_core.specs.Rescues.{IsRescued, RescueFails};
+ghost use Rattle.ee_core.specs.StepLists.{steps_to_move};
+ghost use Rattle.ee_flash.specs.Taking.{Takes};
 ghost use Rattle.ee_core.specs.Transfers.{MovesSet};
 
 use crate::moving::transfer_by_slots;
@@ -101,7 +102,10 @@ fn rescue_set<F: Flash>(flash: &mut F, side: Side, generation: u32) -> Result<La
     ensures moves { MovesSet result (λ layout. layout) (F.device flash.old) (F.device flash.new)
         (record { side = side; generation = generation; fill = 0; current = 0 }) []
         (elements_of (map_in side (F.device flash.old))) }
-    ensures power { Ends result (F.device flash.old) (F.device flash.new) }
+    ensures steps { Takes result
+        (steps_to_move (F.device flash.old) side generation
+        (elements_of (map_in side (F.device flash.old))))
+        (F.device flash.old) (F.device flash.new) }
 {
     let mut layout = Layout {
         side,

@@ -1,14 +1,16 @@
 //! The appending of a change: where its slot begins a further page, two marks come first.
-ghost use Rattle.std.specs.Prelude.{◌≡◌, ◌<◌, ◌+◌, OnErr, OnOk};
-ghost use Rattle.ee_flash.specs.Power.{Ends};
+ghost use Rattle.std.specs.Prelude.{◌≡◌, ◌<◌, ◌+◌, [], ◌∷◌, OnErr, OnOk};
 ghost use Rattle.ee_flash.specs.Size.{slot_count};
 ghost use Rattle.ee_pages.specs.Layout.{IsLayout};
 ghost use Rattle.ee_pages.specs.Sets.{first_page as first_of, other as other_of, page_of_slot, place_of_slot};
 ghost use Rattle.ee_core.specs.Appending.{Pushes, WritesChange};
-ghost use Rattle.ee_core.specs.CallSteps.{IsReady, IsSameSet, Stays};
+ghost use Rattle.ee_core.specs.CallSteps.{IsReady, IsSameSet, Stays, number_written};
 ghost use Rattle.ee_core.specs.Cuts.{IsDrawnPartly};
 ghost use Rattle.ee_core.specs.Finished.{IsMarked};
 ghost use Rattle.ee_core.specs.Picture.{IsDrawn, marked_to, picture_of};
+ghost use Rattle.ee_core.specs.StepLists.{steps_to_append, steps_to_turn};
+ghost use Rattle.ee_flash.specs.Taking.{Takes};
+ghost use Rattle.ee_pages.specs.Pushing.{slot_step};
 
 use crate::change::Change;
 use crate::marking::mark_live;
@@ -29,7 +31,10 @@ pub(crate) fn append<F: Flash>(
     // At an error power was cut: the change is there in part, or whole, or not at all.
     ensures writes { WritesChange result (F.device flash.old) (F.device flash.new)
         layout.old layout.new change }
-    ensures power { Ends result (F.device flash.old) (F.device flash.new) }
+    ensures steps { Takes result
+        (steps_to_append (F.device flash.old) layout.old.side layout.old.fill
+        (number_written change))
+        (F.device flash.old) (F.device flash.new) }
 {
     let (page, at) = free_slot(flash, layout);
     open_page(flash, layout, page)?;
@@ -79,7 +84,9 @@ fn open_page<F: Flash>(flash: &mut F, layout: &Layout, page: usize) -> Result<()
         (picture_of layout.now.side (F.device flash.old))
         (marked_to (page_of_slot (F.device flash.old).size layout.now.fill)
         (picture_of layout.now.side (F.device flash.old)))) }
-    ensures power { Ends result (F.device flash.old) (F.device flash.new) }
+    ensures steps { Takes result
+        (steps_to_turn (F.device flash.old) layout.now.side layout.now.fill)
+        (F.device flash.old) (F.device flash.new) }
 {
     if page == layout.current {
         return Ok(());
@@ -106,7 +113,10 @@ fn push<F: Flash>(
     requires place { at ≡ place_of_slot (F.device flash.old).size layout.now.fill }
     // At an error power was cut: the change is there in part, or whole, or not at all.
     ensures pushes { Pushes result (F.device flash.old) (F.device flash.new) layout.now change }
-    ensures power { Ends result (F.device flash.old) (F.device flash.new) }
+    ensures steps { Takes result
+        (slot_step (F.device flash.old).size layout.now.side layout.now.fill
+        (number_written change) ∷ [])
+        (F.device flash.old) (F.device flash.new) }
 {
     flash.program(page, at, change.word())?;
     Ok(())

@@ -4,7 +4,7 @@ use Rattle.ee_text.specs.Line.{line_of}
 use Rattle.ee_faults.specs.declared.fault.File.{File}
 use Rattle.ee_faults.specs.declared.fault.File.TheVariants.{Image, Before, Script, Certificate, Settings, Dump, Values}
 use Rattle.ee_faults.specs.declared.fault.Fault.{Fault}
-use Rattle.ee_faults.specs.declared.fault.Fault.TheVariants.{CannotRead, TooLong, CannotWriteImage, ImageChanged, CannotWriteDump, CannotWriteOutput, BadLine, BadShape, Unformatted, NoLiveSet, TwoLive, Foreign, SettingsText, BadName, BadField, BadRange, SameAddress, UnknownName, OutOfRange, Full, Spent, NothingToRescue, NotFitting, WrongStart, NotRising, WrongFrom, NotForced, OtherShape, Backwards, NoSizeEnough, DumpLength, LowPair, TornWord, Base, ValuesText, BadValue, UnknownValue, ValueOutOfRange, FullAt, SpentAt, Memory}
+use Rattle.ee_faults.specs.declared.fault.Fault.TheVariants.{CannotRead, TooLong, CannotWriteImage, ImageChanged, CannotWriteDump, CannotWriteOutput, OutputIsWritten, BadLine, BadShape, Unformatted, NoLiveSet, TwoLive, Foreign, SettingsText, BadName, BadField, BadRange, SameAddress, UnknownName, OutOfRange, Full, Spent, HoldsValues, NothingToRescue, NotFitting, WrongStart, NotRising, WrongFrom, NotForced, OtherShape, Backwards, NoSizeEnough, DumpLength, LowPair, TornWord, Base, ValuesText, BadValue, UnknownValue, ValueOutOfRange, FullAt, SpentAt, Memory}
 use Rattle.ee_image.specs.declared.fault.ImageFault.{ImageFault}
 use Rattle.ee_image.specs.declared.fault.ImageFault.TheVariants as image
 use Rattle.ee_pages.specs.declared.find.ScanFault.{ScanFault}
@@ -39,6 +39,7 @@ cause CannotWriteImage = codes "cannot write image"
 cause ImageChanged = codes "image changed"
 cause CannotWriteDump = codes "cannot write dump"
 cause CannotWriteOutput = codes "cannot write output"
+cause OutputIsWritten = codes "output is the file to write"
 cause (BadLine file line) = file_name file ++ codes " line " ++ decimal line
 cause (BadShape file) = file_name file ++ codes " shape"
 cause Unformatted = codes "image unformatted"
@@ -54,6 +55,7 @@ cause UnknownName = codes "unknown name"
 cause (OutOfRange min max) = codes "out of range " ++ decimal min ++ codes " " ++ decimal max
 cause Full = codes "full"
 cause Spent = codes "spent"
+cause HoldsValues = codes "holds values, --force forgets them"
 cause NothingToRescue = codes "nothing to rescue"
 cause (NotFitting change) = codes "not fitting " ++ decimal change
 cause WrongStart = codes "wrong start"
@@ -82,10 +84,12 @@ fault_text fault = line_of (codes "ee: " ++ cause fault)
 
 -- 3 for a bad file, 4 for what is refused, 5 for want of memory
 abbrev pub status : Fault → ℕ
+status OutputIsWritten = 4
 status UnknownName = 4
 status (OutOfRange min max) = 4
 status Full = 4
 status Spent = 4
+status HoldsValues = 4
 status NothingToRescue = 4
 status (NotFitting change) = 4
 status WrongStart = 4

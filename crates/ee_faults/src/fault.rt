@@ -62,6 +62,8 @@ pub enum Fault {
     CannotWriteDump,
     /// Writing to standard output failed.
     CannotWriteOutput,
+    /// Standard output goes to the file that is to be written. Nothing was written.
+    OutputIsWritten,
     /// The first bad line, counted from 1.
     BadLine { file: File, line: u64 },
     /// The first line says no size of a device.
@@ -92,6 +94,8 @@ pub enum Fault {
     Full,
     /// A transfer is needed, and no generation is left for it.
     Spent,
+    /// An address of the image has a value, and nothing says that all are to be forgotten.
+    HoldsValues,
     /// No set of the image is begun: it has nothing that could be rescued.
     NothingToRescue,
     /// This change of the trace, counted from 1, is the first that makes more addresses live
@@ -171,6 +175,7 @@ impl Fault {
             Fault::ImageChanged => "image changed",
             Fault::CannotWriteDump => "cannot write dump",
             Fault::CannotWriteOutput => "cannot write output",
+            Fault::OutputIsWritten => "output is the file to write",
             Fault::BadLine { .. } => " line ",
             Fault::BadShape(_) => " shape",
             Fault::Unformatted => "image unformatted",
@@ -186,6 +191,7 @@ impl Fault {
             Fault::OutOfRange { .. } => "out of range ",
             Fault::Full => "full",
             Fault::Spent => "spent",
+            Fault::HoldsValues => "holds values, --force forgets them",
             Fault::NothingToRescue => "nothing to rescue",
             Fault::NotFitting(_) => "not fitting ",
             Fault::WrongStart => "wrong start",
@@ -400,10 +406,12 @@ pub fn status_of(fault: &Fault) -> u8
         | Fault::LowPair { .. }
         | Fault::ValuesText
         | Fault::BadValue(_) => 3,
-        Fault::UnknownName
+        Fault::OutputIsWritten
+        | Fault::UnknownName
         | Fault::OutOfRange { .. }
         | Fault::Full
         | Fault::Spent
+        | Fault::HoldsValues
         | Fault::NothingToRescue
         | Fault::NotFitting(_)
         | Fault::WrongStart

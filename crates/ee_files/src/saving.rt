@@ -257,20 +257,20 @@ fn reads_as<A: Allocator + Copy, F: Read>(
     Ok(found.as_slice() == text)
 }
 
-/// Makes a file beside one, with its owner and its mode, and gives it with its name. `None`:
-/// none can be made there.
+/// Makes a file beside one, with its owner and its mode, and gives it locked, with its name.
+/// `None`: none can be made there.
 ///
 /// # Errors
 ///
-/// All names are taken. Whose files have them isn't known, so none is removed.
-fn make_beside<R: Files + AllocGlobal>(
+/// All names are taken.
+fn make_beside<R: FileLocks + AllocGlobal>(
     rt: &R,
     target: &str,
     found: &Metadata,
 ) -> Result<Option<(R::File, String)>, SaveFault> {
     for number in 0..MOST_BESIDE {
         let beside: String = format!(in rt.alloc(); "{target}{BESIDE}{number}")?;
-        match create_alike(rt, beside.as_str(), found) {
+        match create_anew(rt, beside.as_str(), found) {
             Ok(file) => return Ok(Some((file, beside))),
             Err(error) if error.kind() == ErrorKind::AlreadyExists => {}
             Err(_) => return Ok(None),
@@ -279,14 +279,42 @@ fn make_beside<R: Files + AllocGlobal>(
     Err(SaveFault::Failed)
 }
 
-/// A new file with the owner and the mode of one that was found.
-fn create_alike<R: Files>(rt: &R, path: &str, found: &Metadata) -> io::Result<R::File> {
+/// A new file of this name, alike one that was found. What a run left under the name that ended
+/// while it wrote is taken away before.
+fn create_anew<R: FileLocks>(rt: &R, path: &str, found: &Metadata) -> io::Result<R::File> {
+    match create_alike(rt, path, found) {
+        Err(error) if error.kind() == ErrorKind::AlreadyExists && take_left(rt, path) => {
+            create_alike(rt, path, found)
+        }
+        created => created,
+    }
+}
+
+/// Takes a plain file away that nobody has locked, as each run has what it writes. Says whether it
+/// did.
+fn take_left<R: FileLocks>(rt: &R, path: &str) -> bool {
+    match fs::symlink_metadata(rt, path) {
+        Ok(left) if left.is_file() => {}
+        _ => return false,
+    }
+    match OpenOptions::new().write(true).open(rt, path) {
+        Ok(file) => rt.try_lock(&file).is_ok() && fs::remove_file(rt, path).is_ok(),
+        Err(_) => false,
+    }
+}
+
+/// A new file with the owner and the mode of one that was found, locked.
+fn create_alike<R: FileLocks>(rt: &R, path: &str, found: &Metadata) -> io::Result<R::File> {
     // Until it is the owner's nobody else reads it.
     let file = OpenOptions::new()
         .write(true)
         .create_new(true)
         .mode(0o600)
         .open(rt, path)?;
+    // Where another run takes it for one that was left, that run removes it.
+    if let Err(TryLockError::WouldBlock) = rt.try_lock(&file) {
+        return Err(io::Error::from(ErrorKind::AlreadyExists));
+    }
     match make_alike(rt, path, &file, found) {
         Ok(()) => Ok(file),
         Err(error) => {

@@ -12,3 +12,4 @@ pub mod Kept
 pub mod Memory
 pub mod Laws
 pub mod Endurance
+pub mod Taking

@@ -5,15 +5,17 @@ use Rattle.ee_flash.specs.Device.{Device, IsFormed, blank_device}
 use Rattle.ee_flash.specs.Formed.{IsFormed-pages_of}
 use Rattle.ee_flash.specs.Kept.{words_of}
 use Rattle.ee_flash.specs.Memory.{device_of}
+use Rattle.ee_flash.specs.Power.{GoesOn}
 use Rattle.ee_flash.specs.Size.{Size, page_count}
 use Rattle.ee_flash.specs.declared.memory.MemFlash.{MemFlash}
 use Rattle.ee_flash.specs.declared.word.Word.TheVariants.{Erased}
+use Rattle.ee_pages.specs.Legal.{IsLegal}
 use Rattle.ee_pages.specs.Page.{is_written}
 use Rattle.ee_pages.specs.Sets.{pending_of}
 use Rattle.ee_core.proofs.Public.{length-not_blank, no_wear, wears_rise}
 use Rattle.ee_core.specs.Openings.{IsFormatted, Opens, not_blank_pages}
 use Rattle.ee_image.specs.Text.{at_rest, image_text}
-use Rattle.ee_image_store.specs.Opening.{IsNewStore, IsOpened, StaysOn}
+use Rattle.ee_image_store.specs.Opening.{IsNewStore, IsOpened, IsStoreText, StaysOn}
 use Rattle.ee_image_store.proofs.Erasing.{by_wear, unworn}
 
 -- a device in memory is formed
@@ -29,9 +31,31 @@ stays : (old new : Device) → StaysOn old → new.on ≡ old.on → new.cuts_le
     → StaysOn new
 stays old new kept on left = record { on = on ∙ kept.on; never_cut = left ∙ kept.never_cut }
 
+rests : (device : Device) → device ≡ at_rest device → StaysOn device
+rests device rest = record {
+  on = ap (λ (d : Device). d.on) rest;
+  never_cut = ap (λ (d : Device). d.cuts_left) rest;
+}
+
+is_text : (text : List ℕ) (device : Device) → text ≡ image_text device → IsLegal device
+    → IsStoreText text device
+is_text text device spelled legal = search rules
+
 pub is_opened : (text : List ℕ) (old new : Device) → old ≡ at_rest old → text ≡ image_text old
     → Opens old new → IsOpened text new
-is_opened text old new rest spelled opens = search (rules, by_wear, no_wear, stays)
+is_opened text old new rest spelled opens =
+    let goes : GoesOn old new = opens.goes_on in
+    record {
+      device = old;
+      old = is_text text old spelled opens.legal;
+      opens = opens;
+      stays_on = stays old new (rests old rest) goes.same_power goes.same_cuts_left;
+      same_size = goes.same_size;
+      state_is = opens.state_is;
+      same_pending = opens.same_pending;
+      no_wear = opens.no_wear;
+      erases = by_wear old new opens.state_is (no_wear old new opens.no_wear);
+    }
 
 -- ---- a new device
 

@@ -1,36 +1,39 @@
 //! When an index pays: what looking for values has cost a store without one, beside what
 //! an index would cost.
 //!
-//! All is counted in looks at a slot for a value, each some ten instructions. The figures of an
-//! index were taken by callgrind.
+//! All is counted in looks at a slot for a value, each some eight instructions. The figures were
+//! taken by callgrind.
 
-/// What a look through the slots for a value costs besides.
-const STARTING: u64 = 8;
+use ee_pages::BATCH;
 
-/// What a used slot costs in a look for the next sixteen live addresses.
-const USED_LOOK: u64 = 2;
+/// What a look through the slots for a value costs besides, in looks.
+const STARTING_LOOKS: u64 = 8;
 
-/// What a free slot costs in such a look.
-const FREE_LOOK: u64 = 1;
+/// What a used slot costs in a look for the next batch of live addresses, in looks.
+const USED_SLOT_LOOKS: u64 = 2;
 
-/// How many live addresses a look finds.
-const FOUND: u64 = 16;
+/// What a free slot costs in such a look, in looks.
+const FREE_SLOT_LOOKS: u64 = 1;
 
-/// What an index costs for each used slot when it is made and given back.
-const ENTERING: u64 = 10;
+/// What a batch costs besides, in looks, where the addresses stand in their order, as a move leaves
+/// them. Where they stand in none it is up to ten times as much.
+const BATCH_LOOKS: u64 = 200;
+
+/// What an index costs for each used slot when it is made and given back, in looks.
+const ENTERING_LOOKS: u64 = 10;
 
 /// What each index costs besides when it is made and given back, as much as so many slots.
 const FIXED_SLOTS: u64 = 16;
 
-/// What an index costs with each change.
-const KEEPING: u64 = 6;
+/// What an index costs with each change, in looks.
+const KEEPING_LOOKS: u64 = 6;
 
-/// What an index costs for each live address when they are moved.
-const MOVING: u64 = 5;
+/// What an index costs for each live address when they are moved, in looks.
+const MOVING_LOOKS: u64 = 5;
 
-/// What an index costs with each read, where its addresses rise evenly. Else it costs more, the
-/// more often they can be halved.
-const READING: u64 = 6;
+/// What an index costs with each read, in looks, where its addresses rise evenly. Else it costs
+/// more, the more often they can be halved.
+const READING_LOOKS: u64 = 6;
 
 /// An index is made when looking has cost so many times what it may cost, so that it takes no more
 /// than a tenth of what the lines before it took.
@@ -94,20 +97,27 @@ impl Costs {
     /// A change was appended. Says whether an index has nothing left to lose.
     #[inline]
     pub fn note_append(&mut self) -> bool {
-        self.ahead = self.ahead.saturating_sub(KEEPING);
+        self.ahead = self.ahead.saturating_sub(KEEPING_LOOKS);
         self.has_index && self.ahead == 0
     }
 
     /// A change moved so many live addresses, in a set of so many slots.
     pub fn note_move(&mut self, live: usize, slots: usize) {
         let looking = count_cost(live, slots, slots);
-        let moving = (live as u64).saturating_mul(MOVING);
-        self.balance(looking, moving.saturating_add(KEEPING));
+        let moving = (live as u64).saturating_mul(MOVING_LOOKS);
+        self.balance(looking, moving.saturating_add(KEEPING_LOOKS));
     }
 
     /// An address with no value was looked for in so many used slots.
     pub fn note_absent(&mut self, fill: usize) {
         self.balance(looking(fill), reading(fill));
+    }
+
+    /// A write of a new address was refused, since each of so many slots holds a live one: it was
+    /// looked for, and they were counted.
+    pub fn note_full(&mut self, slots: usize) {
+        let counting = count_cost(slots, slots, slots);
+        self.balance(looking(slots).saturating_add(counting), reading(slots));
     }
 
     /// A value was read. Says whether it is this read's turn to be measured: one of some sixty is,
@@ -175,26 +185,27 @@ impl Costs {
 /// What so many live addresses cost to count in a set of which so many slots are used.
 fn count_cost(live: usize, fill: usize, slots: usize) -> u64 {
     let free = slots.saturating_sub(fill) as u64;
-    let slot_looks = (fill as u64)
-        .saturating_mul(USED_LOOK)
-        .saturating_add(free.saturating_mul(FREE_LOOK));
-    (live as u64 / FOUND + 1).saturating_mul(slot_looks)
+    let batch_looks = (fill as u64)
+        .saturating_mul(USED_SLOT_LOOKS)
+        .saturating_add(free.saturating_mul(FREE_SLOT_LOOKS))
+        .saturating_add(BATCH_LOOKS);
+    ((live / BATCH) as u64 + 1).saturating_mul(batch_looks)
 }
 
 /// What an index of so many used slots costs when it is made and given back.
 fn making(fill: usize) -> u64 {
     (fill as u64)
         .saturating_add(FIXED_SLOTS)
-        .saturating_mul(ENTERING)
+        .saturating_mul(ENTERING_LOOKS)
 }
 
 /// What a look through so many slots costs.
 fn looking(looks: usize) -> u64 {
-    (looks as u64).saturating_add(STARTING)
+    (looks as u64).saturating_add(STARTING_LOOKS)
 }
 
 /// What a read in an index of so many addresses costs, between where they rise evenly
 /// and where they don't.
 fn reading(addresses: usize) -> u64 {
-    u64::from((usize::BITS - addresses.leading_zeros()) / 2).saturating_add(READING)
+    u64::from((usize::BITS - addresses.leading_zeros()) / 2).saturating_add(READING_LOOKS)
 }

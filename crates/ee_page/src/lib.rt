@@ -1,11 +1,11 @@
 //! The page's module: the store's calls over a mirror of the flash, each with the list of the steps
 //! that it takes. It is a static library with a C interface, without a heap, callbacks or global
-//! state, which `page/build` links as WebAssembly; firmware has `firmware/rust` and `firmware/c`.
+//! state, which `web/build` links as WebAssembly; firmware has `firmware/rust` and `firmware/c`.
 //!
 //! Proved of a list, as a whole: each listed step can be taken when it comes, and all of them in
 //! order lead from what the mirror meant to what it means. Not proved: what a front of it leaves,
 //! as when power is cut between two of its steps, and that a list with a place for each step is
-//! never refused; `page/test` compares the first with the program, and tries the second. Of a cut
+//! never refused; `web/test` compares the first with the program, and tries the second. Of a cut
 //! at any step the contracts of `ee_store` speak, over a device that is asked step by step.
 //!
 //! A call works on a mirror of the flash, which the caller lends: its words, a flag for each, and

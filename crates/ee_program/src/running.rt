@@ -6,9 +6,9 @@ use ee_by_name::{
     Language, apply_values, get_setting, header_text, list_text, set_setting, stale_text,
     tidy_image,
 };
-use ee_command_line::{HELP, Job, VERSION, job, read_whole, write_whole};
+use ee_command_line::{HELP, Job, VERSION, read_whole, write_whole};
 use ee_commands::{
-    check_script, clean_image, clear_image, format_image, plan_script, rescue_image, size_parts,
+    check_script, clean_image, forget_all, format_image, plan_script, rescue_image, size_parts,
     states_text, wear_text,
 };
 use ee_faults::{Fault, File, fault_line, status_of};
@@ -18,38 +18,24 @@ use ee_image_store::ImageAndText;
 use ee_part::{Form, export_hex, export_image, import_hex, import_image, inspect_text};
 use ee_replay::{replay, replay_indexed, try_script};
 use std::alloc::Global;
+use std::os::unix::fs::MetadataExt;
 use std::rt::Files;
 use std::{fs, io};
 
 /// The status of a bad command line.
 pub const BAD_COMMAND_LINE: u8 = 2;
 
+/// The path by which standard output is looked at.
+const STANDARD_OUTPUT: &str = "/dev/stdout";
+
 /// The status of want of memory.
 pub const OUT_OF_MEMORY: u8 = 5;
 
-/// Does what the words ask for, and gives the status that the program ends with: 0 done, 2 bad
-/// command line, 3 bad file, 4 refused, 5 want of memory.
-///
-/// Files are read whole, in the order in which they are named, before anything is decided. An image
-/// is written only after all work succeeded, and its file is closed before anything is printed.
-pub fn run<R: FileLocks + Input + Print + Eprint + AllocGlobal>(rt: &R, words: &[String]) -> u8 {
-    let mut texts: Vec<&str> = Vec::new(rt.alloc());
-    for word in words {
-        if texts.push(word.as_str()).is_err() {
-            return out_of_memory(rt);
-        }
-    }
-    match job(texts.as_slice()) {
-        None => bad_command_line(rt),
-        Some(job) => match work(rt, &job) {
-            Ok(()) => 0,
-            Err(fault) => tell(rt, &fault),
-        },
-    }
-}
-
 /// Does a job.
-fn work<R: FileLocks + Input + Print + AllocGlobal>(rt: &R, job: &Job<'_>) -> Result<(), Fault> {
+pub(crate) fn work<R: FileLocks + Input + Print + AllocGlobal>(
+    rt: &R,
+    job: &Job<'_>,
+) -> Result<(), Fault> {
     match *job {
         Job::Try { shape } => try_input(rt, shape),
         Job::Format { shape, image } => format_file(rt, shape, image),
@@ -106,7 +92,7 @@ fn work<R: FileLocks + Input + Print + AllocGlobal>(rt: &R, job: &Job<'_>) -> Re
         Job::States { image } => tell_states(rt, image),
         Job::Clean { image } => clean_file(rt, image),
         Job::Rescue { image } => rescue_file(rt, image),
-        Job::Clear { image } => clear_file(rt, image),
+        Job::ForgetAll { force, image } => forget_in_file(rt, force, image),
         Job::Stale { image, settings } => tell_stale(rt, image, settings),
         Job::Tidy { image, settings } => tidy_file(rt, image, settings),
         Job::List { image, settings } => tell_values(rt, image, settings),
@@ -351,11 +337,16 @@ fn rescue_file<R: FileLocks + Print + AllocGlobal>(rt: &R, image: &str) -> Resul
     write_changed(rt, image, &before, rescued)
 }
 
-/// Forgets all addresses of an image, writes it in its place, and prints how many had a value.
-fn clear_file<R: FileLocks + Print + AllocGlobal>(rt: &R, image: &str) -> Result<(), Fault> {
+/// Forgets all addresses of an image, by force or only where none has a value, writes it in its
+/// place, and prints how many had one.
+fn forget_in_file<R: FileLocks + Print + AllocGlobal>(
+    rt: &R,
+    force: bool,
+    image: &str,
+) -> Result<(), Fault> {
     let before = read_file(rt, File::Image, image)?;
-    let cleared = clear_image(rt.alloc(), &before);
-    write_changed(rt, image, &before, cleared)
+    let forgotten = forget_all(rt.alloc(), force, &before);
+    write_changed(rt, image, &before, forgotten)
 }
 
 /// Prints the settings whose stored value in an image isn't in their range.
@@ -426,7 +417,11 @@ fn tell_sizes<R: Files + Print + AllocGlobal>(
 }
 
 /// All bytes of a file.
-fn read_file<R: Files + AllocGlobal>(rt: &R, file: File, path: &str) -> Result<Vec<u8>, Fault> {
+pub(crate) fn read_file<R: Files + AllocGlobal>(
+    rt: &R,
+    file: File,
+    path: &str,
+) -> Result<Vec<u8>, Fault> {
     let mut reader = match fs::open(rt, path) {
         Ok(reader) => reader,
         Err(_) => return Err(Fault::CannotRead(file)),
@@ -434,6 +429,17 @@ fn read_file<R: Files + AllocGlobal>(rt: &R, file: File, path: &str) -> Result<V
     match read_whole(rt.alloc(), &mut reader) {
         Ok(bytes) => Ok(bytes),
         Err(fault) => Err(Fault::reading(file, fault)),
+    }
+}
+
+/// Whether standard output goes to the plain file of this path, where the system tells that.
+/// What is printed would be written over what the file gets.
+fn is_output<R: Files>(rt: &R, path: &str) -> bool {
+    match (fs::metadata(rt, STANDARD_OUTPUT), fs::metadata(rt, path)) {
+        (Ok(output), Ok(file)) => {
+            file.is_file() && output.dev() == file.dev() && output.ino() == file.ino()
+        }
+        _ => false,
     }
 }
 
@@ -445,6 +451,9 @@ fn write_image<R: FileLocks + AllocGlobal>(
     before: Option<&[u8]>,
     image: &[u8],
 ) -> Result<(), Fault> {
+    if is_output(rt, path) {
+        return Err(Fault::OutputIsWritten);
+    }
     match save(rt, path, before, image) {
         Ok(()) => Ok(()),
         Err(fault) => Err(fault.into_fault()),
@@ -481,7 +490,11 @@ fn write_dump<R: FileLocks + Print + AllocGlobal>(
     path: &str,
     dump: Result<Vec<u8>, Fault>,
 ) -> Result<(), Fault> {
-    match save(rt, path, None, &dump?) {
+    let dump = dump?;
+    if is_output(rt, path) {
+        return Err(Fault::OutputIsWritten);
+    }
+    match save(rt, path, None, &dump) {
         Ok(()) => print(rt, b"exported\n"),
         Err(fault) => Err(fault.into_dump_fault()),
     }
@@ -493,7 +506,7 @@ fn print_text<R: Print>(rt: &R, text: Result<Vec<u8>, Fault>) -> Result<(), Faul
 }
 
 /// Prints on standard output.
-fn print<R: Print>(rt: &R, text: &[u8]) -> Result<(), Fault> {
+pub(crate) fn print<R: Print>(rt: &R, text: &[u8]) -> Result<(), Fault> {
     match write_whole(&mut io::writer(rt), text) {
         Ok(()) => Ok(()),
         Err(_) => Err(Fault::CannotWriteOutput),
@@ -501,7 +514,7 @@ fn print<R: Print>(rt: &R, text: &[u8]) -> Result<(), Fault> {
 }
 
 /// Prints the line of a fault on standard error, and gives its status.
-fn tell<R: Eprint + AllocGlobal>(rt: &R, fault: &Fault) -> u8 {
+pub(crate) fn tell<R: Eprint + AllocGlobal>(rt: &R, fault: &Fault) -> u8 {
     match fault_line(rt.alloc(), fault) {
         Ok(line) => {
             eprint_bytes(rt, &line);
@@ -527,8 +540,8 @@ pub fn out_of_memory<R: Eprint>(rt: &R) -> u8
     OUT_OF_MEMORY
 }
 
-/// Prints a line on standard error. Where that fails there is nobody left to tell.
-fn eprint_bytes<R: Eprint>(rt: &R, line: &[u8]) {
+/// Prints on standard error. Where that fails there is nobody left to tell.
+pub(crate) fn eprint_bytes<R: Eprint>(rt: &R, line: &[u8]) {
     if let Ok(text) = str::from_utf8(line) {
         let _ = rt.eprint(text);
     }

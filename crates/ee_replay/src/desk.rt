@@ -202,7 +202,9 @@ impl<A: Allocator + Copy> Desk<A> {
         match answer {
             Answer::Appended => self.costs.note_append(),
             Answer::Value(_) => self.costs.note_read(),
-            Answer::NoValue | Answer::Absent | Answer::Moved => self.note_looks(answer),
+            Answer::NoValue | Answer::Absent | Answer::Moved | Answer::Full | Answer::Spent => {
+                self.note_looks(answer)
+            }
             _ => false,
         }
     }
@@ -214,10 +216,10 @@ impl<A: Allocator + Copy> Desk<A> {
         ensures { self.new ≡ self.old }
     {
         let fill = self.known.layout.fill;
-        if answer == Answer::Moved {
-            self.costs.note_move(fill, self.flash.shape().slots());
-        } else {
-            self.costs.note_absent(fill);
+        match answer {
+            Answer::Moved => self.costs.note_move(fill, self.flash.shape().slots()),
+            Answer::Full => self.costs.note_full(fill),
+            _ => self.costs.note_absent(fill),
         }
         self.costs.is_time_to_change(fill)
     }
@@ -255,6 +257,27 @@ impl<A: Allocator + Copy> Desk<A> {
             && lookup.pays_to_count(alloc, &self.flash, layout, &self.costs, slots)
         {
             let _ = self.make_index(alloc);
+        }
+    }
+
+    /// Whether no slot is free.
+    #[inline(always)]
+    pub(crate) fn is_filled(&self) -> bool {
+        self.known.layout.fill >= self.flash.shape().slots()
+    }
+
+    /// Goes on with an index where no slot is free, if the store counts its live addresses sooner
+    /// by one, as it has to for a write of an address with no value.
+    #[inline(never)]
+    pub(crate) fn settle_to_write(&mut self, alloc: A, address: Address)
+        ensures { self.new ≡ self.old }
+    {
+        let slots = self.flash.shape().slots();
+        let fill = self.known.layout.fill;
+        if self.costs.pays_for_a_count(fill, fill, slots)
+            && matches!(self.read(address), Ok(None))
+        {
+            self.settle_to_count(alloc, Kind::AsPays);
         }
     }
 

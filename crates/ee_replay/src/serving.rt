@@ -136,6 +136,17 @@ impl<A: Allocator + Copy> Server<A> {
         }
     }
 
+    /// Goes on with the look-up by which a write of this address is answered sooner.
+    #[inline(always)]
+    fn settle_to_write(&mut self, address: Address)
+        ensures desk { self.new.desk ≡ self.old.desk }
+        ensures notes { self.new.notes ≡ self.old.notes }
+    {
+        if self.desk.is_filled() && matches!(self.kind, Kind::AsPays) {
+            self.desk.settle_to_write(self.alloc, address);
+        }
+    }
+
     /// Takes note of what a line about this address took, and goes on with the look-up that pays.
     #[inline(always)]
     fn settle(&mut self, address: Address, answer: Answer)
@@ -158,6 +169,7 @@ impl<A: Allocator + Copy> Serve for Server<A> {
     fn serve(&mut self, command: Command) -> Result<Answer, AllocError> {
         match command {
             Command::Write { address, value } => {
+                self.settle_to_write(address);
                 let answer = self.write(address, value)?;
                 self.settle(address, answer);
                 Ok(answer)

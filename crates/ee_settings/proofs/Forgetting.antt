@@ -53,15 +53,12 @@ pub each_keeps : (addresses : List ℕ) (old new : Device) (address : ℕ)
     → (state_of new).map address ≡ (state_of old).map address
 each_keeps [] old new address done others =
     ap (λ (device : Device). (state_of device).map address) done
-each_keeps (one ∷ addresses) old new address done others = search (
-  rules,
-  All-head,
-  All-tail,
-  map_without,
-  forget-other,
-  (each_keeps addresses done.1 new address done.3
-      (All-tail (λ a. a ≢ address) one addresses others)),
-)
+each_keeps (one ∷ addresses) old new address done others =
+    each_keeps addresses done.1 new address done.3
+    (All-tail (λ a. a ≢ address) one addresses others)
+    ∙ (ap (λ (map : Map). map address) (map_without old done.1 one done.0 done.2)
+    ∙ forget-other (state_of old).map one address
+    (λ same. All-head (λ a. a ≢ address) one addresses others (sym same)))
 
 -- ---- where one stops
 

@@ -42,7 +42,7 @@
 //! `format_image`, `clean_image` and `set_setting` leave is said word for word, as what formatting
 //! leaves of a new device, and as what an opening and the clean steps or the write leave
 //! (`formatted`, `cleaned`, `set`); so is what `rescue_image` leaves of any image, which tells each
-//! bad word, and what `clear_image` leaves, in which no address has a value (`rescued`, `cleared`;
+//! bad word, and what `forget_all` leaves, in which no address has a value (`rescued`, `forgotten`;
 //! `fault`, `names`); `states_text` gives the state of each page (`states`; `fault`, `names`).
 //! `laws` joins what `size_parts` tells to the store: one that is formatted and then asked, without
 //! cuts, for the changes of a script so many times moves the map no more often than the line of its
@@ -63,7 +63,7 @@ pub use ee_command_line::{
     Job, MOST_BYTES, MOST_READS, ReadFault, Stopped, job, read_whole, write_whole,
 };
 pub use ee_commands::{
-    PartSizes, check_script, clean_image, clear_image, format_image, plan_script, rescue_image,
+    PartSizes, check_script, clean_image, forget_all, format_image, plan_script, rescue_image,
     size_parts, states_text, wear_text,
 };
 pub use ee_faults::{Fault, File, ReplayFault, fault_line, status_of};

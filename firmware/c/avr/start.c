@@ -39,7 +39,7 @@ int main(void) {
     UCSR0B = _BV(TXEN0);
     put_hex(sum);
     put(' ');
-    put_decimal((uint16_t)(checksum_frame - low));
+    put_decimal((uint16_t)((uintptr_t)checksum_frame - (uintptr_t)low));
     put('\n');
     /* simavr ends where a core sleeps that no interrupt wakes. */
     cli();

@@ -12,17 +12,19 @@ ALIASES = {"Address": "number", "Pairs": "nor"}
 # Structs that stand in ee.h, with their names there and their fields.
 IN_HEADER = {"Shape": ("struct ee_shape", ["pages", "words"]),
              "Layout": ("struct ee_layout", ["side", "generation", "fill", "current"]),
-             "Known": ("struct ee_known", ["layout"]),
+             "Known": ("struct ee_known", ["layout", "lookup"]),
+             "LentList": ("struct ee_list", ["room", "count"]),
+             "LentIndex": ("struct ee_index", ["list", "is_given_up"]),
              "Store": ("struct ee_kept", ["flash", "known"]),
              "Put": ("ee_value", ["address", "value"])}
-# An enum in one of those is a number of 32 bits, whatever size a compiler gives an enum.
+# An enum is a number of 8 bits, whatever size a compiler gives an enum; in one of those of 32.
 IN_STORE = {"Side"}
 # Shorter names of types that are made of others.
 SHORT = {
     "AddressAndMaybeU32": "Said", "MaybeAddressAndMaybeU32": "MaybeSaid",
     "MaybeMaybeU32": "MaybeSaidValue", "AddressAndU32": "Live", "MaybeAddressAndU32": "MaybeLive",
     "IndexAndIndex": "IndexPair", "IndexAndIndexOrIndexAndIndex": "FrontResult",
-    "IndexOrIndex": "UsedResult", "UnitOrIndexAndIndex": "BlankResult",
+    "IndexOrIndex": "PlaceResult", "UnitOrIndexAndIndex": "BlankResult",
     "SideAndU32": "LiveSet", "SideAndU32OrScanFault": "LiveSetResult",
     "LayoutOrScanFault": "ScanResult", "DeviceAndOpenFault": "OpenRefusal",
     "StoreOrDeviceAndOpenFault": "OpenResult", "DeviceAndCut": "FormatRefusal",
@@ -31,9 +33,14 @@ SHORT = {
     "WrittenOrForgetFault": "ForgetResult", "BoolOrWriteFault": "CleanResult",
     "BoolOrClearFault": "ClearResult", "StoreAndIndex": "RescuedStore",
     "DeviceAndRescueFault": "RescueRefusal", "StoreAndIndexOrDeviceAndRescueFault": "RescueResult",
+    "AddressAndU16": "Entry", "MaybeAddressAndU16AndListOfEntry": "MaybeShown",
+    "AddressAndU16AndListOfEntry": "Shown", "MaybeAddressAndIndex": "MaybePlaced",
+    "AddressAndIndex": "Placed",
 }
 # Types that are written by hand.
-HAND = {"Device", "Numbers"}
+HAND = {"Device", "Numbers", "Lookup"}
+# Names of those in ee.h that no item has: a tuple, and a list of such.
+ALSO_IN_HEADER = {"AddressAndU16": "ee_entry", "RoomOfEntry": "struct ee_room"}
 
 
 def snake(name):
@@ -81,8 +88,11 @@ class Types:
         """Whether a list stands in a type: such a value is made where it stays."""
         it = known(it)
         item = self.program.item_of(it)
-        if it.name == "array" or item is None or item.kind != "struct":
+        if it.name == "array" or item is None:
             return it.name == "array"
+        if item.kind == "enum":
+            return any(self.is_large(f) for name, _, _ in item.variants
+                       for _, f in self.program.variant_fields(item, name))
         return any(self.is_large(f) for _, f, _ in self.program.field_types(item))
 
     def word(self, it):
@@ -96,6 +106,8 @@ class Types:
             return "Maybe" + self.word(it.args[0])
         if it.name == "Result":
             return "Or".join(self.word(a) for a in it.args)
+        if is_ref(it) and known(it.args[0]).name == "slice":
+            return self.list_name(it)
         return it.name
 
     def name(self, it):
@@ -125,15 +137,25 @@ class Types:
         if inner.name == "array":
             return ("const " if it.name == "ref" else "") + self.name(inner.args[0]) + " *"
         if inner.name == "slice":
-            name = ("ListOf" if it.name == "ref" else "RoomOf") + self.word(inner.args[0])
-            if name not in self.used:
-                item = self.name(inner.args[0])
-                const = "const " if it.name == "ref" else ""
-                lines = [f"typedef struct {name} {{", f"    {const}{item} *items;",
+            name = self.list_name(it)
+            if name in ALSO_IN_HEADER:
+                self.used[name] = ([f"typedef {ALSO_IN_HEADER[name]} {name};"], [])
+            elif name not in self.used:
+                lines = [f"typedef struct {name} {{", f"    {spaced(self.items(it), 'items')};",
                          "    uint32_t len;", f"}} {name};"]
-                self.used[name] = (lines, [item])
+                self.used[name] = (lines, [self.name(inner.args[0])])
             return name
         return ("const " if it.name == "ref" else "") + self.name(inner) + " *"
+
+    def list_name(self, it):
+        """The name of the type of a slice."""
+        word = self.word(known(it.args[0]).args[0])
+        return ("ListOf" if it.name == "ref" else "RoomOf") + SHORT.get(word, word)
+
+    def items(self, it):
+        """The pointer to the items of a slice."""
+        const = "const " if known(it).name == "ref" else ""
+        return f"{const}{self.name(known(known(it).args[0]).args[0])} *"
 
     def member(self, it, name, needs):
         """A member of a struct. What stands in it is added to `needs`."""
@@ -142,7 +164,7 @@ class Types:
             needs.append(self.name(it.args[0]))
             return f"    {self.name(it.args[0])} {name}[{it.size}];"
         of_type = self.name(it)
-        if not is_ref(it):
+        if not is_ref(it) or known(it.args[0]).name == "slice":
             needs.append(of_type)
         return f"    {spaced(of_type, name)};"
 
@@ -151,6 +173,8 @@ class Types:
         if name == "Step":
             return ["/* Whether a step, or a call of several, ended as it should, or was cut. */",
                     "typedef enum Step {", "    DONE,", "    CUT", "} Step;"], []
+        if self.word(it) in ALSO_IN_HEADER:
+            return [f"typedef {ALSO_IN_HEADER[self.word(it)]} {name};"], []
         parts = {"Option": ("some", ["value"]), "Result": ("ok", ["value", "error"]),
                  "tuple": (None, ["first", "second"])}.get(it.name)
         if parts is None:
@@ -192,13 +216,12 @@ class Types:
 
     def enum_definition(self, name, item, doc):
         tag = name if is_flat(item) else name + "Tag"
-        lines = [*doc, f"typedef enum {tag} {{"]
-        if name in IN_STORE:
-            lines = [*doc, f"typedef uint32_t {name};", "enum {"]
+        width = 32 if name in IN_STORE else 8
+        lines = [*doc, f"typedef uint{width}_t {tag};", "enum {"]
         for place, (variant, _, variant_doc) in enumerate(item.variants):
             lines += comment_of(variant_doc, "    ")
             lines.append(f"    {name}_{variant}{',' if place + 1 < len(item.variants) else ''}")
-        lines.append("};" if name in IN_STORE else f"}} {tag};")
+        lines.append("};")
         if is_flat(item):
             return lines, []
         members, needs = {}, []

@@ -1,8 +1,4 @@
-/* ---- By hand: the thirteen calls of ee.h. A store stays in the memory that the caller lends. */
-
-/* The memory has the size that the files of assembly take, and more where a pointer has 16 bits. */
-typedef char ee_store_has_its_size[sizeof(ee_store) == (sizeof(uintptr_t) < 4u ? 32u :
-        9u * sizeof(uintptr_t)) ? 1 : -1];
+/* ---- By hand: the calls of ee.h. A store stays in the memory that the caller lends. */
 
 /* What says whether a store can take a call. It is written in a call that only reads, too: a store
  * that was opened is no constant. */
@@ -67,6 +63,12 @@ static ee_result scan_status(ScanFault fault) {
     }
 }
 
+#ifdef EE_NO_PAIRS
+#define EE_GREATEST_KIND EE_WORDS
+#else
+#define EE_GREATEST_KIND EE_PAIRS_CLEARING
+#endif
+
 /* The flash of C as a device in memory that is on, where its members are in range; else why not. */
 static ee_result device_in(ee_store *memory, const ee_flash *flash, Device *device) {
     if (memory == NULL) {
@@ -77,7 +79,7 @@ static ee_result device_in(ee_store *memory, const ee_flash *flash, Device *devi
         return EE_NULL;
     }
     const MaybeShape shape = shape_new(flash->pages, flash->page_words);
-    if (!shape.some || flash->kind > EE_PAIRS_CLEARING) {
+    if (!shape.some || flash->kind > EE_GREATEST_KIND) {
         return EE_WRONG_SHAPE;
     }
     memory->memory.parts.power.flash = flash;
@@ -94,24 +96,24 @@ EE_APART ee_result opening_ended(ee_result status, ee_store *memory) {
     return answer;
 }
 
-/* Keeps the store of a device that an opening gave this, and gives its status. */
-static ee_result keep_opened(ee_store *memory, const Device *device,
-        const LayoutOrOpenFault *answer) {
-    if (answer->ok) {
-        memory->memory.parts.store = store_of(*device, answer->value);
-        return EE_OK;
+/* Keeps the store of a device of which this is the layout, with the index that its flash lends. */
+static void keep_store(ee_store *memory, const Device *device, const Layout *layout) {
+    Store *const store = &memory->memory.parts.store;
+    *store = (Store){ .flash = *device, .known = { .layout = *layout, .lookup = NULL } };
+#ifdef EE_INDEX
+    const ee_flash *const flash = device->power->flash;
+    if (flash != NULL && flash->index != NULL) {
+        store->known.lookup = flash->index;
+        lent_index_read_anew(flash->index, &store->flash, &store->known.layout);
     }
-    if (answer->error.tag == OpenFault_Scan) {
-        return scan_status(answer->error.scan);
-    }
-    return EE_DRIVER;
+#endif
 }
 
 /* Looks a flash of numbers through before it is opened, unless its erases clear first: EE_FOREIGN
  * where a word is no store's. */
-static ee_result looked_through(const Device *device) {
+EE_APART ee_result looked_through(const Device *device) {
     const ee_flash *const flash = device->power->flash;
-    if (flash->kind == EE_PAIRS) {
+    if (EE_IS_OF_PAIRS(flash) && flash->kind == EE_PAIRS) {
         const Numbers numbers = numbers_of(device, flash);
         if (first_low(&numbers).some) {
             return EE_FOREIGN;
@@ -122,7 +124,7 @@ static ee_result looked_through(const Device *device) {
 
 /* Whether a word is written that a first start which was cut doesn't leave: any but the first two of
  * page 0, or but those of page 0 where an erase clears first. */
-static bool holds_more(const Device *device, bool clears_first) {
+EE_APART bool holds_more(const Device *device, bool clears_first) {
     const uint32_t from = clears_first ? device->shape.words : 2u;
     if (blank_to(device, 0u, from) != device->shape.words) {
         return true;
@@ -135,65 +137,72 @@ static bool holds_more(const Device *device, bool clears_first) {
     return false;
 }
 
-ee_result ee_open(ee_store *store, const ee_flash *flash) {
+/* How a store is opened. */
+enum {
+    HOW_OPEN,
+    HOW_START,
+    HOW_FORMAT
+};
+#ifdef EE_NO_OPEN
+#define EE_IS_HOW(how, it) ((void)(how), (it) == HOW_START)
+#else
+#define EE_IS_HOW(how, it) ((how) == (it))
+#endif
+
+/* Opens the store of a device, or makes one, in this way; gives the status, and the layout where that
+ * is EE_OK. Where a flash of numbers holds more than a first start leaves it is opened, and no first
+ * store made there. A format itself erases each page that isn't blank, by rising page. */
+EE_IN_PLACE ee_result layout_of(Device *device, uint32_t how, Layout *layout) {
+    if (EE_IS_HOW(how, HOW_FORMAT)) {
+        const LayoutOrCut made = write_format(device);
+        *layout = made.value;
+        return made.ok ? (ee_result)EE_OK : (ee_result)EE_DRIVER;
+    }
+    const ee_result refused = looked_through(device);
+    if (refused != EE_OK) {
+        return refused;
+    }
+    const ee_flash *const flash = device->power->flash;
+    const bool starts = EE_IS_HOW(how, HOW_START) && !(flash != NULL && EE_IS_OF_PAIRS(flash) &&
+            holds_more(device, flash->kind == EE_PAIRS_CLEARING));
+    const LayoutOrOpenFault answer = starts ? start_on(device) : open_on(device);
+    *layout = answer.value;
+    if (answer.ok) {
+        return EE_OK;
+    }
+    return answer.error.tag == OpenFault_Scan ? scan_status(answer.error.scan) : (ee_result)EE_DRIVER;
+}
+
+/* Opens a store in the memory that the caller lends, in this way. */
+EE_APART ee_result opened(ee_store *store, const ee_flash *flash, uint32_t how) {
     Device device;
+    Layout layout;
     ee_result status = device_in(store, flash, &device);
     if (status != EE_OK) {
         return status;
     }
-    status = looked_through(&device);
+    status = layout_of(&device, how, &layout);
     if (status == EE_OK) {
-        const LayoutOrOpenFault answer = open_on(&device);
-        status = keep_opened(store, &device, &answer);
+        keep_store(store, &device, &layout);
     }
     return opening_ended(status, store);
 }
 
-/* Where a flash of numbers holds more than a first start leaves it is opened, and no first store
- * made there. */
 ee_result ee_start(ee_store *store, const ee_flash *flash) {
-    Device device;
-    ee_result status = device_in(store, flash, &device);
-    if (status != EE_OK) {
-        return status;
-    }
-    status = looked_through(&device);
-    if (status == EE_OK) {
-        const bool holds = flash->kind != EE_WORDS && holds_more(&device, flash->kind == EE_PAIRS_CLEARING);
-        const LayoutOrOpenFault answer = holds ? open_on(&device) : start_on(&device);
-        status = keep_opened(store, &device, &answer);
-    }
-    return opening_ended(status, store);
+    return opened(store, flash, HOW_START);
 }
 
-/* A flash of numbers isn't wiped before: a format itself erases each page that isn't blank, by rising
- * page. */
+#ifndef EE_NO_OPEN
+ee_result ee_open(ee_store *store, const ee_flash *flash) {
+    return opened(store, flash, HOW_OPEN);
+}
+
 ee_result ee_format(ee_store *store, const ee_flash *flash) {
-    Device device;
-    const ee_result status = device_in(store, flash, &device);
-    if (status != EE_OK) {
-        return status;
-    }
-    const LayoutOrCut answer = write_format(&device);
-    if (!answer.ok) {
-        return opening_ended(EE_DRIVER, store);
-    }
-    store->memory.parts.store = store_of(device, answer.value);
-    return opening_ended(EE_OK, store);
+    return opened(store, flash, HOW_FORMAT);
 }
+#endif
 
-static ee_result rescue_status(RescueFault fault) {
-    switch (fault) {
-    case RescueFault_NothingBegun:
-        return EE_NOTHING;
-    case RescueFault_Spent:
-        return EE_SPENT;
-    case RescueFault_Cut:
-    default:
-        return EE_DRIVER;
-    }
-}
-
+#ifndef EE_NO_RESCUE
 /* A pair of numbers that no store wrote is torn here, where an opening refuses it. */
 ee_result ee_rescue(ee_store *store, const ee_flash *flash) {
     Device device;
@@ -201,11 +210,19 @@ ee_result ee_rescue(ee_store *store, const ee_flash *flash) {
     if (status != EE_OK) {
         return status;
     }
-    const RescueResult answer = rescue_uncounted(device);
-    if (!answer.ok) {
-        return opening_ended(rescue_status(answer.error.second), store);
+    const MaybeSide side = rescued_side(&device);
+    if (!side.some) {
+        return opening_ended(EE_NOTHING, store);
     }
-    store->memory.parts.store = answer.value.first;
+    const uint32_t generation = named_generation(&device, side.value);
+    if (generation == GREATEST_GENERATION) {
+        return opening_ended(EE_SPENT, store);
+    }
+    const LayoutOrCut answer = rescue_set(&device, side.value, generation);
+    if (!answer.ok) {
+        return opening_ended(EE_DRIVER, store);
+    }
+    keep_store(store, &device, &answer.value);
     return opening_ended(EE_OK, store);
 }
 
@@ -224,6 +241,53 @@ ee_result ee_bad_words(const ee_flash *flash, uint32_t *count) {
         return EE_DRIVER;
     }
     *count = bad;
+    return EE_OK;
+}
+#endif
+
+/* The first pair of numbers that no store wrote, for which `looked_through` refuses a flash. */
+static bool low_found(const Device *device, uint32_t *page, uint32_t *word) {
+    const Numbers numbers = numbers_of(device, device->power->flash);
+    for (*page = 0u; *page < 2u * device->shape.pages; *page += 1u) {
+        for (*word = 0u; *word < device->shape.words; *word += 1u) {
+            const uint64_t number = numbers_read(&numbers, *page, 2u * *word);
+            if (is_low(number, numbers_read(&numbers, *page, 2u * *word + 1u))) {
+                return true;
+            }
+        }
+    }
+    return false;
+}
+
+static uint32_t no_program(void *context, uint32_t page, uint32_t place, uint64_t value) {
+    (void)context, (void)page, (void)place, (void)value;
+    return 0u;
+}
+
+/* An opening tells the place. What it programs then is not. */
+ee_result ee_foreign_word(const ee_flash *flash, uint32_t *page, uint32_t *word) {
+    ee_store looked;
+    Device device;
+    const ee_result status = device_in(&looked, flash, &device);
+    if (status != EE_OK || page == NULL || word == NULL) {
+        return status != EE_OK ? status : (ee_result)EE_NULL;
+    }
+    ee_flash read_only = *flash;
+    read_only.program = no_program;
+    looked.memory.parts.power.flash = &read_only;
+    ScanFault found = scan_fault_foreign(0u, 0u);
+    if (flash->kind != EE_PAIRS || !low_found(&device, &found.page, &found.at)) {
+        const LayoutOrOpenFault answer = open_on(&device);
+        found = answer.ok ? scan_fault_unformatted() : answer.error.scan;
+    }
+    if (is_broken(&looked)) {
+        return EE_DRIVER;
+    }
+    if (found.tag != ScanFault_Foreign) {
+        return EE_NOTHING;
+    }
+    *page = found.page;
+    *word = found.at;
     return EE_OK;
 }
 
@@ -254,6 +318,7 @@ ee_result ee_write(ee_store *store, uint16_t address, uint32_t value) {
     return ended(answer.ok ? (ee_result)EE_OK : write_status(answer.error), store);
 }
 
+#ifndef EE_NO_LISTS
 static ee_result write_all_status(WriteAllFault fault) {
     switch (fault.tag) {
     case WriteAllFault_Off:
@@ -281,11 +346,12 @@ ee_result ee_write_all(ee_store *store, const ee_value *values, uint32_t count) 
             return ended_well(EE_WRONG_NUMBER, store);
         }
     }
-    const ListOfPut list = { .items = values, .len = count };
-    const WriteAllResult answer = store_write_all(&store->memory.parts.store, list);
+    const WriteAllResult answer = store_write_all(&store->memory.parts.store, values, count);
     return ended(answer.ok ? (ee_result)EE_OK : write_all_status(answer.error), store);
 }
+#endif
 
+#ifndef EE_NO_FORGET
 static ee_result forget_status(ForgetFault fault) {
     switch (fault) {
     case ForgetFault_Off:
@@ -329,6 +395,7 @@ ee_result ee_forget_all(ee_store *store) {
     const ClearResult answer = store_clear(&store->memory.parts.store);
     return ended(answer.ok ? (ee_result)EE_OK : clear_status(answer.error), store);
 }
+#endif
 
 ee_result ee_clean(ee_store *store) {
     const ee_result refused = begun(store, EE_NO_ADDRESS, store);

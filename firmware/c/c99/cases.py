@@ -7,6 +7,16 @@ from .text import Text
 from .types import is_ref, is_slice, known
 
 
+class First(str):
+    """A list of which a pattern takes the first and what is behind it."""
+
+
+def member(held, field):
+    """A member of a value, or of what a reference is to."""
+    behind = re.fullmatch(r"\(\*(.*)\)", held)
+    return f"{behind[1]}->{field}" if behind else f"{held}.{field}"
+
+
 class Cases(Text):
     """What `FunctionWriter` has for patterns: their conditions, and their locals with values."""
 
@@ -46,10 +56,12 @@ class Cases(Text):
             return self.case_of_option(it, held, of_type)
         if it.what in ("Ok", "Err"):
             return self.case_of_result(it, held, of_type)
-        return self.case_of_variant(it, held)
+        return self.case_of_variant(it, held, of_type)
 
     def case_of_option(self, it, held, of_type):
         """A reference that may be none is a pointer."""
+        if isinstance(held, First):
+            return self.case_of_first(it, held, of_type)
         pointer = is_ref(of_type.args[0])
         first = f"{held}.items" if pointer and is_slice(of_type.args[0]) else held
         if it.what == "None":
@@ -57,6 +69,16 @@ class Cases(Text):
         value, there = (held, f"{first} != NULL") if pointer else (f"{held}.value", f"{held}.some")
         more, binds = self.pattern(it.parts[0], value, of_type.args[0])
         return [there, *more], binds
+
+    def case_of_first(self, it, held, of_type):
+        """What `split_first` gives of a list."""
+        if it.what == "None":
+            return [f"{held}.len == 0u"], []
+        (first, rest), (of_first, of_rest) = it.parts[0].parts, known(of_type.args[0]).args
+        behind = f"({self.types.name(of_rest)}){{ .items = &{held}.items[1], " \
+                 f".len = {held}.len - 1u }}"
+        binds = self.pattern(first, f"{held}.items", of_first)[1]
+        return [f"{held}.len != 0u"], binds + self.pattern(rest, behind, of_rest)[1]
 
     def case_of_result(self, it, held, of_type):
         good = it.what == "Ok"
@@ -66,16 +88,18 @@ class Cases(Text):
         more, binds = self.pattern(it.parts[0], f"{held}.{field}", of_type.args[not good])
         return [f"{held}.ok" if good else f"!{held}.ok", *more], binds
 
-    def case_of_variant(self, it, held):
+    def case_of_variant(self, it, held, of_type):
         item, name = it.item, it.path[-1]
-        tag = held if is_flat(item) else held + ".tag"
+        tag = held if is_flat(item) else member(held, "tag")
         conditions, binds = [f"{tag} == {item.cname}_{name}"], []
         fields = self.program.variant_fields(item, name)
         if it.named is not None:
-            parts = [(part, f"{held}.{field}", dict(fields)[field]) for field, part in it.named]
+            parts = [(part, member(held, field), dict(fields)[field]) for field, part in it.named]
         else:
-            parts = [(part, f"{held}.{snake(name)}", of_part)
+            parts = [(part, member(held, snake(name)), of_part)
                      for part, (_, of_part) in zip(it.parts, fields)]
+        if is_ref(of_type):
+            parts = [(part, "&" + text, of_part) for part, text, of_part in parts]
         for part, text, of_part in parts:
             more, named = self.pattern(part, text, of_part)
             conditions, binds = conditions + more, binds + named
@@ -87,4 +111,7 @@ class Cases(Text):
         condition = conditions[0]
         if re.fullmatch(r"!?[\w.>\-]+", condition):
             return condition[1:] if condition.startswith("!") else "!" + condition
-        return condition.replace(" == ", " != ") if " == " in condition else f"!({condition})"
+        for sign, other in ((" == ", " != "), (" != ", " == ")):
+            if sign in condition:
+                return condition.replace(sign, other)
+        return f"!({condition})"

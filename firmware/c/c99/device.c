@@ -39,29 +39,43 @@ static Step step_ended(const Device *device, uint32_t failed) {
 }
 
 /* So many words or numbers of a page from a place on, where C has them in memory; else no items. */
-static ListOfU64 device_seen(const ee_flash *flash, uint32_t page, uint32_t at, uint32_t count) {
-    ListOfU64 seen = { .items = NULL, .len = count };
-    if (flash->words != NULL) {
-        seen.items = flash->words(flash->context, page, at, count);
+static const uint64_t *seen_at(const ee_flash *flash, uint32_t page, uint32_t at, uint32_t count) {
+    return flash->words == NULL ? NULL : flash->words(flash->context, page, at, count);
+}
+
+/* A read of a number gave this, which isn't 0: unless the number is torn the device is off from here
+ * on. */
+EE_APART void number_failed(const Device *device, uint32_t failed) {
+    if (failed != EE_TORN) {
+        turn_off(device);
     }
-    return seen;
 }
 
 /* A number of a flash of numbers. One that can't be read is taken as 0: no word of a store is 0, so
- * none is made of it. No read follows one that failed. While the device is on it has the flash that
- * it had. */
-static uint64_t numbers_read(const Numbers *numbers, uint32_t page, uint32_t at) {
-    const ee_flash *const flash = numbers->device->power->flash;
-    uint64_t number = 0u;
-    if (flash == NULL || !device_found(numbers->device, flash, page, at, &number)) {
+ * none is made of it. No read follows one that failed. */
+EE_APART uint64_t number_at(const Device *device, uint32_t page, uint32_t at) {
+    const ee_flash *const flash = device->power->flash;
+    uint64_t number;
+    if (flash == NULL) {
+        return 0u;
+    }
+    const uint32_t failed = flash->word(flash->context, page, at, &number);
+    if (failed != 0u) {
+        number_failed(device, failed);
         return 0u;
     }
     return number;
 }
 
-static ListOfU64 numbers_window(const Numbers *numbers, uint32_t page, uint32_t at,
+/* These two stand in place, so that nothing of what they take and give goes through memory. While the
+ * device is on it has the flash that it had. */
+EE_IN_PLACE uint64_t numbers_read(const Numbers *numbers, uint32_t page, uint32_t at) {
+    return number_at(numbers->device, page, at);
+}
+
+EE_IN_PLACE ListOfU64 numbers_window(const Numbers *numbers, uint32_t page, uint32_t at,
         uint32_t count) {
-    return device_seen(numbers->flash, page, at, count);
+    return (ListOfU64){ .items = seen_at(numbers->flash, page, at, count), .len = count };
 }
 
 static Step numbers_program(const Numbers *numbers, uint32_t page, uint32_t at, uint64_t number) {
@@ -84,7 +98,7 @@ static Word device_word(const Device *device, uint32_t page, uint32_t at) {
         turn_off(device);
         return word_torn();
     }
-    if (flash->kind != EE_WORDS) {
+    if (EE_IS_OF_PAIRS(flash)) {
         const Numbers numbers = numbers_of(device, flash);
         return pairs_word(&numbers, page, at);
     }
@@ -98,8 +112,14 @@ static Word device_word(const Device *device, uint32_t page, uint32_t at) {
     return word_held(number);
 }
 
-/* Asks for each word of a run. One that can't be read is 0. No read follows one that failed, and
- * what the room has then counts for nothing. */
+/* Nothing is read any more, and what a run gives then counts for nothing: it is the same each time. */
+EE_APART void fill_unread(uint64_t *items, uint32_t len) {
+    for (uint32_t at = 0u; at < len; at++) {
+        items[at] = UNREAD;
+    }
+}
+
+/* Asks for each word of a run. One that can't be read is 0. No read follows one that failed. */
 static void device_fill(const Device *device, const ee_flash *flash, uint32_t page, uint32_t at,
         RoomOfU64 room) {
     for (uint32_t place = 0u; place < room.len; place++) {
@@ -108,6 +128,7 @@ static void device_fill(const Device *device, const ee_flash *flash, uint32_t pa
             room.items[place] = 0u;
             if (failed != EE_TORN) {
                 turn_off(device);
+                fill_unread(&room.items[place], room.len - place);
                 return;
             }
         }
@@ -117,23 +138,31 @@ static void device_fill(const Device *device, const ee_flash *flash, uint32_t pa
 /* The numbers of the words from a place on, as many as there is room for: all ones of an erased
  * word, 0 of a torn one. They stand in the room, or where C has them. It asks for pages as
  * `device_word` does. */
-static ListOfU64 device_run(const Device *device, uint32_t page, uint32_t at, RoomOfU64 room) {
-    const ListOfU64 filled = { .items = room.items, .len = room.len };
+EE_APART const uint64_t *run_at(const Device *device, uint32_t page, uint32_t at, uint64_t *items,
+        uint32_t len) {
     const ee_flash *const flash = device->power->flash;
     if (flash == NULL || (at == 0u && page >= 2u * flash->pages)) {
         turn_off(device);
-        return filled;
+        fill_unread(items, len);
+        return items;
     }
-    if (flash->kind != EE_WORDS) {
+    if (EE_IS_OF_PAIRS(flash)) {
         const Numbers numbers = numbers_of(device, flash);
-        return pairs_run(&numbers, page, at, room);
+        pairs_run(&numbers, page, at, items, len);
+        return items;
     }
-    const ListOfU64 seen = device_seen(flash, page, at, room.len);
-    if (seen.items != NULL) {
+    const uint64_t *const seen = seen_at(flash, page, at, len);
+    if (seen != NULL) {
         return seen;
     }
-    device_fill(device, flash, page, at, room);
-    return filled;
+    device_fill(device, flash, page, at, (RoomOfU64){ .items = items, .len = len });
+    return items;
+}
+
+/* The same as a list, which has the room's length: in place, so that no list goes through memory. */
+EE_IN_PLACE ListOfU64 device_run(const Device *device, uint32_t page, uint32_t at,
+        RoomOfU64 room) {
+    return (ListOfU64){ .items = run_at(device, page, at, room.items, room.len), .len = room.len };
 }
 
 static Step device_program(const Device *device, uint32_t page, uint32_t at, uint64_t value) {
@@ -141,7 +170,7 @@ static Step device_program(const Device *device, uint32_t page, uint32_t at, uin
     if (flash == NULL) {
         return CUT;
     }
-    if (flash->kind != EE_WORDS) {
+    if (EE_IS_OF_PAIRS(flash)) {
         Numbers numbers = numbers_of(device, flash);
         return pairs_program(&numbers, page, at, value);
     }

@@ -1,8 +1,8 @@
 /* ee: variables in flash, the library of ee.h as one file of C99.
  *
  * Made by firmware/c/to_c of firmware/rust/ee-store, which is made of proved sources, and of parts
- * that are written by hand: the device over the three functions of an `ee_flash`, and the thirteen
- * calls of ee.h. Change none of it here. */
+ * that are written by hand: the device over the three functions of an `ee_flash`, and the calls
+ * of ee.h. Change none of it here. */
 #include "ee.h"
 
 #include <stdbool.h>
@@ -20,5 +20,18 @@
 #define EE_IN_PLACE static inline
 #define EE_APART static
 #define EE_IN_ORDER() ((void)0)
+#endif
+
+/* By hand. Functions that only calls use which are left out have no use. */
+#if defined(__GNUC__) && (defined(EE_NO_PAIRS) || defined(EE_NO_LISTS) || defined(EE_NO_FORGET) || \
+        defined(EE_NO_RESCUE))
+#pragma GCC diagnostic ignored "-Wunused-function"
+#endif
+
+/* By hand. Whether a flash has numbers, two for each word. */
+#ifdef EE_NO_PAIRS
+#define EE_IS_OF_PAIRS(flash) ((void)(flash), false)
+#else
+#define EE_IS_OF_PAIRS(flash) ((flash)->kind != EE_WORDS)
 #endif
 

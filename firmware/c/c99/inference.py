@@ -1,6 +1,6 @@
 """Finds the type of each expression of a function, by making types that meet the same."""
 from .lexing import UNKNOWN, Refused
-from .program import BY_VALUE, Local
+from .program import BOUNDS, BY_VALUE, GIVEN_BY_CALLS, Local
 from .types import (BOOL, NEVER, NUMBERS, UNIT, USIZE, Type, Unknown, is_named, is_ref, known,
                     referred)
 from .matching import Patterns
@@ -192,8 +192,8 @@ class Inference(Patterns):
         """The type of a call of this function."""
         it.what, it.target = "fn", target
         bounds = target.bounds
-        it.given = {name: Unknown() for name, bound in bounds.items() if bound == "Copy"}
-        unknown = set(bounds.values()) - {"Copy", "Flash", "Nor", "LiveCursor", "Lookup"}
+        it.given = {name: Unknown() for name, bound in bounds.items() if bound in GIVEN_BY_CALLS}
+        unknown = set(bounds.values()) - {*GIVEN_BY_CALLS, *BOUNDS}
         if unknown:
             self.fail(it, f"the bound {unknown.pop()}")
 
@@ -231,6 +231,10 @@ class Inference(Patterns):
             return USIZE if name == "len" else BOOL
         if of_type.name in ("slice", "array") and name in ("iter", "iter_mut"):
             return Type("ref" if name == "iter" else "refmut", [Type("slice", of_type.args[:1])])
+        if of_type.name == "Result" and name in ("is_ok", "is_err"):
+            return BOOL
+        if of_type.name == "slice" and name in ("split_first", "get", "copy_within"):
+            return self.of_slice(it, of_type)
         if of_type.name == "slice" and name == "enumerate":
             it.what = "same"
             return it.e.ty
@@ -242,6 +246,17 @@ class Inference(Patterns):
             self.check(it.args[0], of_type)
             return of_type
         return None
+
+    def of_slice(self, it, of_type):
+        """The type of a method of a slice that looks at its items, or moves them."""
+        item = Type("ref", [of_type.args[0]])
+        if it.name == "split_first":
+            return Type("Option", [Type("tuple", [item, Type("ref", [of_type])])])
+        self.check(it.args[-1], USIZE)
+        if it.name == "get":
+            return Type("Option", [item])
+        self.infer(it.args[0])
+        return UNIT
 
     def type_of_field(self, it, _want):
         of_type = referred(self.infer(it.e))

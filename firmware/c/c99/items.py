@@ -2,6 +2,8 @@
 from .expressions import Expressions
 from .lexing import Node
 
+# Functions that are written by hand, since C has no words for what they call of Rust's own.
+BY_HAND = {"search"}
 # How a method takes what it is of, but for the names of lifetimes.
 RECEIVERS = (["self"], ["&", "self"], ["&", "mut", "self"])
 
@@ -76,6 +78,13 @@ class Source(Expressions):
         self.take(";")
         return [Node("const", name=name, ty=of_type, value=value, doc=doc)]
 
+    def item_type(self, _doc, _copies):
+        name = self.take()
+        self.take("=")
+        of_type = self.type()
+        self.take(";")
+        return [Node("type", name=name, ty=of_type)]
+
     def field(self):
         doc = self.note()
         self.visibility()
@@ -95,6 +104,7 @@ class Source(Expressions):
 
     def item_enum(self, doc, copies):
         name = self.take()
+        self.generics()
         self.take("{")
         variants = self.listed("}", self.variant)
         return [Node("enum", name=name, variants=variants, doc=doc, copy=copies)]
@@ -134,9 +144,22 @@ class Source(Expressions):
         receiver = self.receiver()
         params = self.listed(")", self.parameter)
         gives = self.type() if self.maybe("->") else ("tuple", [])
-        body = None if self.maybe(";") else self.block()
+        body = None
+        if name in BY_HAND:
+            self.skip_body()
+        elif not self.maybe(";"):
+            body = self.block()
         return [Node("fn", name=name, bounds=bounds, receiver=receiver, params=params, ret=gives,
                      body=body, doc=doc, line=line)]
+
+    def skip_body(self):
+        """Goes over a body that isn't written."""
+        depth = 0
+        while True:
+            word = self.take()
+            depth += (word == "{") - (word == "}")
+            if depth == 0:
+                return
 
     def receiver(self):
         begin = [it for it in self.tokens[self.place:self.place + 4] if it.kind != "life"]

@@ -11,6 +11,8 @@ from .writer import Writer
 
 HERE = Path(__file__).resolve().parent
 WIDTH, FURTHER = 100, " " * 8
+# What stands in ee.c only with an index.
+WITH_INDEX, WITHOUT = "#ifdef EE_INDEX", "#endif"
 # The sources in the order in which they stand in ee.c.
 ORDER = {
     "ee_flash": "word shape device",
@@ -18,17 +20,23 @@ ORDER = {
     "ee_pages": "runs side state number table find batch_items batch read marking rescue",
     "ee_core": "change puts marking cleaning live_cursor copying moving writing changing lookup "
                "variables known store formatting opening first_start rescuing",
+    "ee_index": "entries listing lent_list entering reading lent_cursor index_changing lent_index",
     "ee_pairs": "nor pairs runs low_pair wiping",
 }
+LOOKUPS = "value_of live_count live_with next_live make_ready make_room append transfer".split()
 # What the parts by hand call.
 ROOTS = [
-    ("opening", "open_on"), ("formatting", "write_format"), ("first_start", "start_on"), ("Store", "of"),
-    ("rescuing", "rescue_uncounted"), ("rescue", "bad_words"), ("low_pair", "first_low"),
+    ("opening", "open_on"), ("formatting", "write_format"), ("first_start", "start_on"),
+    ("rescue", "rescued_side"), ("rescue", "named_generation"), ("rescuing", "rescue_set"),
+    ("rescue", "bad_words"), ("low_pair", "first_low"),
+    *[("Slots", name) for name in LOOKUPS],
     *[("Store", name) for name in "write write_all forget clear clean_step read next_live slots fill "
       "generation live_count pending torn_slots".split()],
     ("Pairs", "word"), ("Pairs", "run"), ("Pairs", "program"), ("state", "is_blank"), ("state", "blank_to"),
     ("Shape", "new"), ("Address", "new"),
 ]
+# What they call with an index.
+INDEX_ROOTS = [("LentIndex", name) for name in [*LOOKUPS, "find_nothing", "read_anew"]]
 # Methods of Rust's own, where a source uses them.
 HELPERS = {
     "u32_saturating_sub": ["/* By hand. The difference, 0 where it would be less. */",
@@ -87,16 +95,27 @@ def wrapped(line, further=None):
 
 
 def filled(lines):
-    """Comments that are too long, in lines that are not."""
+    """Comments with a line that is too long, in lines that are not."""
     out = []
     for line in lines:
-        start = re.match(r"( *)(/\* | \* )(?=.*)", line)
-        while start and len(line) > WIDTH:
-            at = line.rfind(" ", 0, WIDTH)
-            out.append(line[:at])
-            line = f"{start[1]} * {line[at + 1:]}"
+        start = re.match(r"( *)(/\* | \* )(?=\S)", line)
+        went_on = out and len(out[-1]) > WIDTH and start and start[2] == " * "
+        if went_on:
+            line = out.pop() + " " + line[len(start[0]):]
         out.append(line)
-    return out
+    return [each for line in out for each in cut(line)]
+
+
+def cut(line):
+    """A line of a comment in lines that are not too long."""
+    start = re.match(r"( *)(/\* | \* )(?=\S)", line)
+    if not start or len(line) <= WIDTH:
+        return [line]
+    own = line[len(start[0]):].replace(" */", "\0*/")
+    first, *others = textwrap.wrap(own, WIDTH - len(start[1]) - 3, break_long_words=False,
+                                   break_on_hyphens=False)
+    lines = [start[0] + first, *(f"{start[1]} * {other}" for other in others)]
+    return [each.replace("\0", " ") for each in lines]
 
 
 class Making:
@@ -106,14 +125,20 @@ class Making:
         self.program = Program(sources(folder))
         self.writer = Writer(self.program)
         self.types = self.writer.types
-        for owner, name in ROOTS:
+        self.write(ROOTS, folder)
+        self.always = set(self.writer.done) | set(self.types.makers)
+        self.write(INDEX_ROOTS, folder)
+        found = sorted((fn.order, args, fn, done) for (fn, args), done in self.writer.done.items())
+        self.found = [(fn, args, done) for _, args, fn, done in found]
+
+    def write(self, roots, folder):
+        """Writes these functions, and what they call."""
+        for owner, name in roots:
             table = self.program.methods if owner[0].isupper() else self.program.fns
             if (owner, name) not in table:
                 raise Refused(f"{folder}: no {owner}::{name}")
             self.writer.request(table[owner, name], {})
         self.writer.run()
-        self.found = sorted(((fn.order, args), fn, done)
-                            for (fn, args), done in self.writer.done.items())
 
     def text(self):
         functions = self.functions()
@@ -122,8 +147,10 @@ class Making:
             if any(name in line for line in functions):
                 lines += [*helper, ""]
         lines += ["/* The functions below, by their sources. */"]
-        lines += [head + ";" for _, _, (head, _, _) in self.found] + [""]
-        lines += part("device.c") + functions + part("calls.c")
+        lines += [line for fn, args, (head, _, _) in self.found
+                  for line in self.conditional((fn, args), [head + ";"])] + [""]
+        lines += part("device.c") + part("lookup.c") + functions + part("calls.c")
+        lines = self.joined(lines)
         lines = [more for line in lines for more in wrapped(line)]
         return "\n".join(filled(lines)).rstrip("\n") + "\n"
 
@@ -182,6 +209,8 @@ class Making:
 
     def members(self, of_type, item):
         """The members of a struct, with their types."""
+        if of_type == "Entry":
+            return {"first": "Address", "second": "uint16_t"}
         if of_type not in IN_HEADER:
             return self.types.fields_of(of_type)
         return {field: self.types.name(inner)
@@ -198,8 +227,8 @@ class Making:
             fields += [(field, field if field in params else self.zero(member))
                        for field, member in members.items() if field != flag]
             said = ", ".join(f".{field} = {text}" for field, text in fields)
-            lines += [f"static inline {in_c} {name}({typed}) {{",
-                      f"    return ({in_c}){{ {said} }};", "}", ""]
+            lines += self.conditional(name, [f"static inline {in_c} {name}({typed}) {{",
+                                             f"    return ({in_c}){{ {said} }};", "}", ""])
         return lines
 
     @staticmethod
@@ -208,7 +237,8 @@ class Making:
 
     def functions(self):
         lines, module = [], None
-        for _, fn, (head, doc, body) in self.found:
+        for fn, args, (head, doc, body) in self.found:
+            title = []
             if fn.module != module:
                 module = fn.module
                 path = self.program.paths[module]
@@ -216,7 +246,25 @@ class Making:
                 said = " ".join(line[4:] for line in text if line.startswith("//!"))
                 title = f"/* ---- {path.parent.name}/{path.name}: {said}"
                 *upper, last = textwrap.wrap(title, WIDTH - 3, subsequent_indent=" * ")
-                lines += [*upper, f"{last} */", ""]
-            lines += [*doc, head + " {", *body, "}", ""]
+                title = [*upper, f"{last} */", ""]
+            function = [*title, *doc, head + " {", *body, "}", ""]
+            lines += self.conditional((fn, args), function)
         return lines
+
+    def conditional(self, what, lines):
+        """Lines that stand only where there is an index, if what they make is a part of it alone."""
+        return lines if what in self.always else [WITH_INDEX, *lines, WITHOUT]
+
+    @staticmethod
+    def joined(lines):
+        """Conditions that follow one another as one, with empty lines between them and the rest."""
+        found = []
+        for line in lines:
+            if line == WITH_INDEX and found[-1:] == [WITHOUT]:
+                found.pop()
+                continue
+            if found[-2:] == ["", WITHOUT]:
+                found[-2:] = [WITHOUT, ""]
+            found.append(line)
+        return found
 

@@ -1,5 +1,5 @@
 """Finds the types of patterns, loops and jumps."""
-from .types import NEVER, UNIT, USIZE, Type, Unknown, known, referred
+from .types import NEVER, UNIT, USIZE, Type, Unknown, is_ref, known, referred
 
 
 class Patterns:
@@ -54,8 +54,11 @@ class Patterns:
 
     def pattern_of_variant(self, it, of_type):
         it.what, it.item = "variant", self.item(it, it.path[0])
-        self.unify(of_type, Type(it.item.cname), it)
+        self.unify(referred(of_type), Type(it.item.cname), it)
         fields = self.program.variant_fields(it.item, it.path[-1])
+        if is_ref(of_type):
+            # What stands in a variant that a reference is to is named by references.
+            fields = [(name, Type(known(of_type).name, [part])) for name, part in fields]
         if it.named is not None:
             for name, part in it.named:
                 self.pattern(part, dict(fields)[name])

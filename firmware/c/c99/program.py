@@ -3,9 +3,11 @@ from .lexing import Refused
 from .types import NUMBERS, Type
 
 # The one type that each bound of the sources stands for here.
-BOUNDS = {"Flash": "Device", "Nor": "Numbers", "LiveCursor": "Cursor", "Lookup": "Slots"}
+BOUNDS = {"Flash": "Device", "Nor": "Numbers", "Lookup": "Lookup", "Listing": "LentList"}
+# The bounds that stand for several types: a function is made for each that it is called with.
+GIVEN_BY_CALLS = ("Copy", "LiveCursor")
 # The traits whose methods are written by hand.
-BY_HAND = ("Flash", "Nor")
+BY_HAND = ("Flash", "Nor", "Lookup")
 # Constants of types that stand outside of the sources, with their values.
 BY_VALUE = {"Address::LEAST": "1u"}
 # The parameters of a generic struct of the sources, with their bounds.
@@ -40,6 +42,7 @@ class Program:
     def __init__(self, modules):
         self.modules = modules
         self.types, self.consts, self.fns, self.methods, self.uses = {}, {}, {}, {}, {}
+        self.aliases = {}
         self.folder = {m.name: m.folder for m in modules}
         self.paths = {m.name: m.path for m in modules}
         for rank, module in enumerate(modules):
@@ -62,6 +65,9 @@ class Program:
         self.types[item.module, item.name] = item
 
     add_enum = add_struct
+
+    def add_type(self, item):
+        self.aliases[item.module, item.name] = item
 
     def add_const(self, item):
         self.consts[item.module, item.name] = item
@@ -137,7 +143,9 @@ class Program:
             return owner
         if name in NUMBERS or name == "bool":
             return Type(name)
-        item = self.find(self.types, name, module)
+        item, alias = self.find(self.types, name, module), self.find(self.aliases, name, module)
+        if alias is not None:
+            return self.type(alias.ty, alias.module, {})
         if item is None:
             raise KeyError(f"no type {name}")
         return Type(item.cname)

@@ -87,7 +87,8 @@ class Reader:
         found = []
         if self.maybe("<"):
             while not self.closes():
-                found.append(self.type())
+                if not self.is_life():
+                    found.append(self.type())
                 self.maybe(",")
         return found
 

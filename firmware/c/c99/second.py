@@ -9,17 +9,18 @@ from collections import namedtuple
 
 TOKEN = re.compile(r"0x[0-9a-fA-F_]+|\d[\d_]*|[A-Za-z_]\w*|\.\.|::|->|=>|==|!=|<=|>=|&&|\|\||<<|>>"
                    r"|\+\+|--|\+=|-=|[^\s\w]")
-FOLDERS = ("ee_flash", "ee_codec", "ee_pages", "ee_core", "ee_pairs")
+FOLDERS = ("ee_flash", "ee_codec", "ee_pages", "ee_core", "ee_index", "ee_pairs")
 OPERATORS = {"&&", "||", "+", "-", "*", "/", "%", "<<", ">>", "&", "|", "+=", "-=", "<", "<=", ">",
              ">="}
 # Signs behind which `&`, `*` and `-` have one operand.
 BEFORE = {"", "(", ",", "=", "{", "}", ";", "return", "&&", "||", "=>", "!", "in", ":", "?", "[",
-          "if", "match", "const", "==", *OPERATORS}
+          "if", "match", "const", "mut", "==", *OPERATORS}
 # Methods of the device, which are written by hand in ee.c, and Rust's own.
 DEVICE = {f"{owner}_{name}": name for owner in ("device", "numbers")
           for name in ("word", "run", "read", "window", "program", "erase", "is_on")}
 OWN = {"u32_saturating_sub": "saturating_sub", "u32_wrapping_sub": "wrapping_sub",
-       "u32_wrapping_add": "wrapping_add", "u16_wrapping_sub": "wrapping_sub", "u32_least": "min"}
+       "u32_wrapping_add": "wrapping_add", "u16_wrapping_sub": "wrapping_sub", "u32_least": "min",
+       "copy_within": "copy_within", "get": "get"}
 # Methods that give a field, where they have no argument.
 FIELDS = {"shape", "pages", "words", "get", "len"}
 # Calls of the sources that C writes as a number.
@@ -168,7 +169,9 @@ class Rust:
         """Counts a token outside of patterns."""
         token, (before, after) = tokens[at], around
         if token in ("Some", "Ok", "Err", "None"):
-            rows.made.append(token)
+            # `None => None, Some(..` is as `?`.
+            if tokens[at - 2:at + 3] != ["None", "=>", "None", ",", "Some"]:
+                rows.made.append(token)
         elif after == "(" and token in self.known and token != "is_empty":
             if not (before == "." and token in FIELDS and tokens[at + 2] == ")"):
                 rows.calls.append((matching(tokens, at + 1), token))
@@ -204,7 +207,6 @@ FORMS = [
      r"\1\[\3\] = ([^;]*);\s*\}", r"\1 = \4; \2;"),
     (r"for \(uint32_t (\w+) = 0u; \1 < (\w+); \1\+\+\) \{\s*(made(?:\.|->)\w+\[\1\] = [^;]*);\s*\}",
      r"\3; \2;"),
-    (r"for \(uint32_t (\w+) = 0u; \1 < ([\w.>-]+)\.len; \1\+\+\)", r"for__ \2"),
     (r"for \(uint32_t (\w+) = ([^;,]*?); \1 < ([^;]*?); \1\+\+\)", r"for__ \2 range__ \3 "),
     (r"list\.len > 0u \? &list\.items\[0\] : NULL", ""),
     (r"for \(;;\)", "while__"),
@@ -212,6 +214,20 @@ FORMS = [
     (r"\{ \.items = &?(\w+),\s*\.len = 1u \}", r"{ \1 }"),
     (r"(\w+)\[1\] = \{\((\w+)\)(\{.*?\})\};", r"\1 = (\2)\3;"),
     (r"\{ \.items = NULL,\s*\.len = 0u \}", "{ }"),
+    # Lists that are handed over.
+    (r"(&\w+|puts), 1u(?=[,)])", r"\1"),
+    (r"NULL, 0u(?=[,)])", ""),
+    (r", BATCH(?=[,)])", ""),
+    # An array that runs fill alone.
+    (r"uint64_t (\w+)\[RUN\];", r"\1 = UNREAD; RUN;"),
+    # The first of a list and what is behind it, and an item that may not be there.
+    (r"(\w+)\.len [!=]= 0u(?=\) \{ (?:break;|return maybe_\w+_none\(\);))", r"\1"),
+    (r"\{ \.items = &(\w+)\.items\[1\], +\.len = \1\.len - 1u \}", r"\1"),
+    (r"(\w+) < (\w+)\.len \? &\2\.items\[\1\] : NULL", r"get(\1)"),
+    (r"\{ \.items = &(\w+)\.items\[(\w+)\], +\.len = \1\.len - \2 \}", r"\1, \2"),
+    # A pointer that falls with a count.
+    (r"const \w+ \*(\w+) = ([\w.>-]+)\.items \+ (\w+);\s*while \((\3 > 0u && .*?)\*--\1",
+     r"while (\4\2[\3 - 1u]"),
     (r"UINT(?:32|64)_C\((\w+)\)", r"\1"),
     (r"\(uint16_t\)\(\(uint32_t\)", "("),
     # `?`
@@ -226,6 +242,13 @@ FORMS = [
 ]
 MAKER = re.compile(r"static inline (\w+) (\w+)\(([^)]*)\) \{\s*return \((\w+)\)\{ (.*?) \};\s*\}",
                    re.S)
+# A loop over a list: its head, and its end by the names of the pointer and of where it ends.
+LIST_LOOP = re.compile(r"if \(([\w.>-]+)\.len != 0u\) \{\s*(?:const )?\w+ \*(\w+) = \1\.items;\s*"
+                       r"(?:const )?\w+ \*const (\w+) = \2 \+ \1\.len;\s*do \{")
+LIST_LOOP_END = r"\b{0}\+\+;\s*\}} while \({0} != {1}\);\s*\}}"
+# A list as two parameters and as two arguments.
+PAIRED = re.compile(r"\{ \.items = (\w+)_items, \.len = (\w+)_len \}"
+                    r"|([\w.>-]+)\.items,\s+([\w.>-]+)\.len\b(?! [-+*/])")
 FUNCTION = re.compile(r"(?m)^(?:static|EE_IN_PLACE|EE_APART) (?:const )?\w+ \*?(\w+)"
                       r"\(([^;{]*)\) \{\n(.*?)^\}\n", re.S)
 FLAGS = {("some", "true"): "Some", ("some", "false"): "None", ("ok", "true"): "Ok",
@@ -266,10 +289,13 @@ class C:
     def keys(self, name):
         """The functions of the sources that a name of C may be."""
         keys = self.rust.names.get(name)
-        return keys or self.rust.names.get(re.sub(r"_(bool|live|address_and_u32)$", "", name), [])
+        return keys or self.rust.names.get(re.sub(r"_(bool|live|address_and_u32|lent_cursor)$", "", name), [])
 
     def rows(self, body):
         body = re.sub(r"\n\s+", " ", body)
+        if any(it[1] != it[2] or it[3] != it[4] for it in PAIRED.finditer(body)):
+            return None
+        body = self.with_list_loops(body)
         for form, other in FORMS:
             body = re.sub(form, other, body)
         tokens, rows = TOKEN.findall(body), Rows([], [], [], [], [], [])
@@ -290,6 +316,19 @@ class C:
                 rows.operators.append(token)
         return rows._replace(calls=[name for _, name in sorted(rows.calls)])
 
+    @staticmethod
+    def with_list_loops(body):
+        """The loops over lists in one word each, where head and end are of the same names."""
+        for found in reversed(list(LIST_LOOP.finditer(body))):
+            items, name, last = found.groups()
+            inner = body[found.end():]
+            end = re.search(LIST_LOOP_END.format(name, last), inner)
+            if end:
+                inner = inner[:end.start()] + "}" + inner[end.end():]
+                inner = inner.replace(f"(uint32_t)({name} - {items}.items)", "place__")
+                body = body[:found.start()] + f"for__ {items} {{" + inner
+        return body
+
     def count_call(self, tokens, at, rows):
         token = tokens[at]
         if token in self.makers:
@@ -297,9 +336,14 @@ class C:
             (rows.made if kind == "made" else rows.variants).append(what)
         elif token not in ("if", "switch", "return", "while", "sizeof"):
             keys = self.keys(token)
-            real = DEVICE.get(token) or OWN.get(token)
+            real = DEVICE.get(token) or OWN.get(token) or self.of_lookup(token)
             real = real or (keys[0][2] if keys else "?" + token)
             rows.calls.append((matching(tokens, at + 1), real))
+
+    def of_lookup(self, token):
+        """The method of the look-up that a function by hand is."""
+        name = token.removeprefix("lookup_")
+        return name if name != token and name in self.rust.known else None
 
     def count_number(self, token, before, rows):
         if re.match(r"\d", token) and before != ".":
@@ -347,14 +391,14 @@ def look(folder_of_all, text):
     rust = Rust(folder_of_all)
     c = C(text, rust)
     faults, count = list(c.faults), 0
-    for name, body in c.functions("static Step device_erase(const Device *device, uint32_t page) {",
-                                  "typedef char ee_store_has_its_size"):
-        if name == "device_erase":
+    for name, body in c.functions("EE_IN_PLACE void lookup_find_nothing(Lookup *self) {",
+                                  "static struct ee_power *power_of"):
+        if name == "lookup_find_nothing":
             continue
         count += 1
         rows, keys = c.rows(body), c.keys(name)
         if rows is None or not keys:
-            faults.append((name, "a loop that isn't known" if keys else "no such function"))
+            faults.append((name, "a form that isn't known" if keys else "no such function"))
             continue
         found = [differences(rust.rows(key), rows) for key in keys]
         if all(found):

@@ -1,8 +1,10 @@
 """Writes statements: where a value goes is `return`, `discard`, or names that it is assigned to."""
 import re
 
+from .cases import member
 from .lexing import UNKNOWN
 from .program import is_flat
+from .text import nodes_of
 from .types import is_named, is_ref, known, referred
 from .values import AND, GIVEN, POSTFIX, Values
 
@@ -61,7 +63,7 @@ class Statements(Values):
             self.to(value, ("assign", [local.cname]))
         elif value.kind == "repeat":
             local.cname = self.fresh(s.pat.name)
-            self.array(value, local.cname)
+            self.array(value, local.cname, local)
         elif value.kind == "list":
             local.cname = self.fresh(s.pat.name)
             self.listed(value, local.cname)
@@ -200,7 +202,7 @@ class Statements(Values):
 
     def to_match(self, it, to):
         held = self.stable(it.e)
-        item = self.program.item_of(known(it.e.ty))
+        item = self.program.item_of(referred(it.e.ty))
         plain = all(arm.guard is None and self.is_plain(arm.pat) for arm in it.arms)
         if not isinstance(held, list) and plain and len(it.arms) > 2:
             if item is not None and item.kind == "enum":
@@ -243,7 +245,7 @@ class Statements(Values):
         return all(part.kind in ("bind", "wild") for part in parts)
 
     def switch(self, it, to, held, item):
-        self.emit(f"switch ({held if is_flat(item) else held + '.tag'}) {{")
+        self.emit(f"switch ({held if is_flat(item) else member(held, 'tag')}) {{")
         for place, arm in enumerate(it.arms):
             self.note(arm.note)
             _, binds = self.pattern(arm.pat, held, it.e.ty)
@@ -272,6 +274,7 @@ class Statements(Values):
         self.emit("}")
 
     def to_while(self, it, _to):
+        self.follow_down(it)
         mark = len(self.lines)
         condition = self.value(it.c).text
         if len(self.lines) > mark:
@@ -279,6 +282,39 @@ class Statements(Values):
         self.emit(f"while ({condition}) {{")
         self.scoped(it.body, ("discard",))
         self.emit("}")
+
+    def follow_down(self, it):
+        """Where a loop lowers a count past the last of a list, as in
+        `while count > 0 && is_erased(list[count - 1]) { count -= 1; }`, a pointer falls with it."""
+        local = self.counted_down(it)
+        if local is None or any(getattr(node, "op", None) == "||" for node in nodes_of(it.c.b)):
+            return
+        reads = [node for node in nodes_of(it.c.b) if node.kind == "index"
+                 and self.one_more(node.at) is local]
+        if len(reads) == 1 and is_named(referred(reads[0].e.ty), "slice"):
+            items, name = self.stable(reads[0].e), self.fresh("last")
+            self.emit(f"{self.types.items(reads[0].e.ty)}{name} = {items}.items + {local.cname};")
+            reads[0].by = f"*--{name}"
+
+    def counted_down(self, it):
+        """The count that a loop lowers by one and does no more, while it is above 0; else None."""
+        stmts = it.body.stmts
+        if it.c.kind != "binary" or it.c.op != "&&" or len(stmts) != 1 or it.body.tail:
+            return None
+        above, step = it.c.a, stmts[0].e
+        if above.kind != "binary" or above.op != ">" or step.kind != "assign" or step.op != "-=":
+            return None
+        is_zero = above.b.kind == "int" and above.b.text == "0"
+        is_one = step.e.kind == "int" and step.e.text == "1"
+        local = getattr(above.a, "local", None)
+        return local if is_zero and is_one and getattr(step.to, "local", None) is local else None
+
+    @staticmethod
+    def one_more(it):
+        """The local that an expression is one less than, None for another."""
+        if it.kind != "binary" or it.op != "-" or it.b.kind != "int" or it.b.text != "1":
+            return None
+        return getattr(it.a, "local", None)
 
     def to_whilelet(self, it, _to):
         self.emit("for (;;) {")
@@ -303,9 +339,10 @@ class Statements(Values):
             self.for_up(it)
         else:
             self.for_each(it)
-        self.scoped(it.body, ("discard",))
+        if kind in ("rev", "range"):
+            self.scoped(it.body, ("discard",))
+            self.emit("}")
         self.scopes.pop()
-        self.emit("}")
 
     def for_down(self, it):
         span = it.e.e
@@ -332,11 +369,20 @@ class Statements(Values):
         over = it.e
         while over.kind == "method" and over.name in ("iter", "iter_mut", "enumerate"):
             over = over.e
-        items = self.stable(over)
-        at = self.fresh(it.place or "at")
+        items, name = self.stable(over), self.fresh(it.name)
+        end, of_type = self.fresh(it.name + "_end"), self.types.name(it.local.ty)
+        it.local.cname = name
         if it.local_place:
-            it.local_place.cname = at
-        self.emit(f"for (uint32_t {at} = 0u; {at} < {items}.len; {at}++) {{")
-        it.local.cname = self.fresh(it.name)
-        of_type = self.types.name(it.local.ty)
-        self.emit(f"    {of_type}const {it.local.cname} = &{items}.items[{at}];")
+            it.local_place.cname = f"(uint32_t)({name} - {items}.items)"
+        # An empty list may be NULL, to which nothing may be added. gcc -Os turns no loop, so its
+        # condition stands at its end.
+        self.emit(f"if ({items}.len != 0u) {{")
+        self.open()
+        self.emit(f"{of_type}{name} = {items}.items;")
+        self.emit(f"{of_type}const {end} = {name} + {items}.len;")
+        self.emit("do {")
+        self.scoped(it.body, ("discard",))
+        self.emit(f"    {name}++;")
+        self.emit(f"}} while ({name} != {end});")
+        self.close()
+        self.emit("}")

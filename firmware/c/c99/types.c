@@ -9,3 +9,6 @@ typedef struct Numbers {
     const ee_flash *flash;
     Shape shape;
 } Numbers;
+
+/* By hand. Where the index stands that a store finds values by, NULL if it has none. */
+typedef struct ee_index *Lookup;

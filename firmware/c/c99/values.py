@@ -2,11 +2,11 @@
 import re
 
 from .c_types import ALIASES, C_NUMBERS, HAND, snake
-from .cases import Cases
+from .cases import Cases, First
 from .lexing import UNKNOWN
 from .program import BY_VALUE, is_flat
 from .text import nodes_of
-from .types import NUMBERS, Type, is_named, is_ref, known, referred
+from .types import NUMBERS, Type, is_named, is_ref, is_slice, known, referred
 
 LEVEL = {"||": 1, "&&": 2, "|": 3, "^": 4, "&": 5, "==": 6, "!=": 6, "<": 7, ">": 7, "<=": 7,
          ">=": 7, "<<": 8, ">>": 8, "+": 9, "-": 9, "*": 10, "/": 10, "%": 10}
@@ -16,6 +16,8 @@ CHOICE, UNARY, POSTFIX = 0, 11, 12
 # Methods of Rust's own on numbers, by their names in C.
 OWN = {"saturating_sub": "saturating_sub", "wrapping_sub": "wrapping_sub", "wrapping_add": "wrapping_add",
        "min": "least"}
+# Types of the hand-written part over the driver.
+DEVICES = {"Device", "Numbers"}
 # What asks the device.
 ASKING = HAND | {"Pairs", "Store"}
 
@@ -76,7 +78,7 @@ class Values(Cases):
     def address_of(piece):
         if piece.text == GIVEN:
             return Piece("made")
-        if re.fullmatch(r"\*\w+", piece.text):
+        if re.fullmatch(r"\*\w+(->\w+)?", piece.text):
             return Piece(piece.text[1:])
         return Piece("&" + piece.at(POSTFIX), UNARY)
 
@@ -90,6 +92,8 @@ class Values(Cases):
         """A text that reads a value again and again, or texts for the parts of a tuple."""
         if it.kind == "tuple":
             return [self.stable(part) for part in it.parts]
+        if it.kind == "method" and it.what == "builtin" and it.name == "split_first":
+            return First(self.stable(it.e))
         inner = it
         while inner.kind == "field":
             inner = inner.e
@@ -152,9 +156,27 @@ class Values(Cases):
             piece = self.value(arg)
             if several and self.asks(arg):
                 piece = Piece(self.temporary(name, arg.ty, piece.text))
-            if not self.types.is_unit(arg.ty):
+            of_type = getattr(arg, "to_slice", None) or arg.ty
+            if is_slice(of_type) and not self.is_of_device(it.target):
+                found += self.items_and_length(piece, name, of_type)
+            elif not self.types.is_unit(arg.ty):
                 found.append(piece.text)
         return found
+
+    @staticmethod
+    def is_of_device(target):
+        """Whether a function is written by hand over the driver."""
+        return target.owner is not None and target.owner.name in DEVICES
+
+    def items_and_length(self, piece, name, of_type):
+        """A list as two arguments."""
+        made = re.fullmatch(r"\(\w+\)\{ \.items = (.*), \.len = (.*) \}", piece.text)
+        if made:
+            return [made[1], made[2]]
+        held = piece.text
+        if not re.fullmatch(r"\w+((\.|->)\w+)*", held):
+            held = self.temporary(name, of_type, held)
+        return [f"{held}.items", f"{held}.len"]
 
     def in_order(self, it, parts):
         """C says not in which order parts are done: one alone may ask the device."""
@@ -219,6 +241,15 @@ class Values(Cases):
             name = f"{known(it.ty).name}_{OWN[it.name]}"
             name = name.replace("usize", "u32")
             return Piece(f"{name}({self.value(it.e).text}, {self.value(it.args[0]).text})")
+        if it.name in ("is_ok", "is_err"):
+            return self.is_good(it)
+        if it.name == "get":
+            held, at = self.stable(it.e), self.stable(it.args[0])
+            return Piece(f"{at} < {held}.len ? &{held}.items[{at}] : NULL", CHOICE)
+        if it.name == "copy_within":
+            held, (span, to) = self.stable(it.e), it.args
+            parts = ", ".join(self.value(part).text for part in (span.low, span.high, to))
+            return Piece(f"copy_within({held}.items, {parts})")
         if it.name == "first":
             held = self.temporary("list", it.e.ty, self.value(it.e).text)
             return Piece(f"{held}.len > 0u ? &{held}.items[0] : NULL", CHOICE)
@@ -232,6 +263,13 @@ class Values(Cases):
         if it.name == "len":
             return Piece(f"{held}.len")
         return Piece(f"{held}.len == 0u", EQUAL)
+
+    def is_good(self, it):
+        """Whether a Result is a good one, or isn't."""
+        held, good = self.value(it.e), it.name == "is_ok"
+        if self.types.is_step(it.e.ty):
+            return Piece(f"{held.at(EQUAL + 1)} == {'DONE' if good else 'CUT'}", EQUAL)
+        return Piece(f"{'' if good else '!'}{held.at(POSTFIX)}.ok", POSTFIX if good else UNARY)
 
     def field_of(self, it, field):
         """A field of a value, or of what a reference is to."""
@@ -248,6 +286,8 @@ class Values(Cases):
         return self.field_of(it.e, {"0": "first", "1": "second"}.get(it.name, it.name))
 
     def value_of_index(self, it):
+        if getattr(it, "by", None):
+            return Piece(it.by, UNARY)
         if is_named(it.ty, "slice"):
             self.fail(it, "a slice without a reference")
         items = ".items" if is_named(referred(it.e.ty), "slice") else ""
@@ -327,6 +367,8 @@ class Values(Cases):
         inner = it.e
         if inner.kind == "index" and inner.at.kind == "range":
             return self.part_of(it, inner)
+        if inner.kind == "deref" and is_slice(inner.e.ty):
+            return self.value(inner.e)
         if getattr(it, "to_slice", None) is not None:
             return self.list_of(it, inner)
         if is_named(inner.ty, "array"):
@@ -335,11 +377,15 @@ class Values(Cases):
         return self.address_of(self.value(inner))
 
     def part_of(self, it, inner):
-        """The first of an array or a list."""
-        if inner.at.low is not None or inner.at.high is None:
-            self.fail(it, "a slice that starts within")
+        """The first of an array or a list, or what is left of a list from a place on."""
+        low, high = inner.at.low, inner.at.high
         is_array = is_named(referred(inner.e.ty), "array")
-        items, count = self.value(inner.e), self.value(inner.at.high).text
+        if (low is None) == (high is None) or low is not None and is_array:
+            self.fail(it, "a slice that starts within")
+        if low is not None:
+            held, at = self.stable(inner.e), self.temporary("from", low.ty, self.value(low).text)
+            return self.literal(it.ty, [f".items = &{held}.items[{at}]", f".len = {held}.len - {at}"])
+        items, count = self.value(inner.e), self.value(high).text
         first = items.text if is_array else items.at(POSTFIX) + ".items"
         return self.literal(it.ty, [f".items = {first}", f".len = {count}"])
 
@@ -353,6 +399,8 @@ class Values(Cases):
                 return self.literal(it.to_slice, [f".items = &{only}", ".len = 1u"])
             self.fail(it, "a list")
         size = known(inner.ty).size
+        if not isinstance(size, str):
+            size = size.text if size.kind == "int" else size.path[-1]
         const = self.program.find(self.program.consts, size, self.fn.module)
         if const is None and not size.isdigit():
             self.fail(it, "an array of no constant's size")
@@ -404,15 +452,40 @@ class Values(Cases):
         """Makes what the function gives where its caller keeps it, unless it stands there."""
         if it.kind == "struct":
             self.value_of_struct(it, GIVEN)
+        elif it.kind == "call" and it.what == "variant":
+            self.variant_in_place(it)
         elif it.kind != "path" or it.local.cname != GIVEN:
             self.call_into(it, "made")
         self.emit("return;")
 
-    def array(self, it, name):
-        """A local that is an array of one value again and again."""
+    def variant_in_place(self, it):
+        """A variant with one field, made where the caller keeps it."""
+        name, (part,) = it.f.path[-1], it.args
+        self.emit(f"made->tag = {it.item.cname}_{name};")
+        if self.types.is_large(part.ty):
+            self.call_into(part, f"&made->{snake(name)}")
+        else:
+            self.emit(f"made->{snake(name)} = {self.value(part).text};")
+
+    def other_uses(self, local):
+        """The uses of a local but as a room that is handed over to be filled."""
+        runs = [call for call in nodes_of(self.fn.node.body) if call.kind in ("call", "method")
+                and getattr(call, "target", None) is not None
+                and call.target.node.name in ("run", "run_from")]
+        rooms = [node for call in runs for node in nodes_of(call.args[-1])]
+        return [node for node in nodes_of(self.fn.node.body) if node.kind == "path"
+                and getattr(node, "local", None) is local and node not in rooms]
+
+    def array(self, it, name, local):
+        """A local that is an array of one value again and again. One of UNREAD is only read where
+        `run` filled it."""
         of_item = self.types.name(known(it.ty).args[0])
         self.emit(f"{of_item} {name}[{self.value(it.size).text}];")
-        self.same_in_all(name, it)
+        is_room = self.value(it.e).text == "UNREAD"
+        if not is_room:
+            self.same_in_all(name, it)
+        for other in self.other_uses(local) if is_room else ():
+            self.fail(other, "an array of UNREAD that is more than a room for runs")
 
     def listed(self, it, name):
         """A local that is an array of one value."""

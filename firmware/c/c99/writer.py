@@ -5,7 +5,7 @@ from .c_types import Types, snake
 from .inference import Inference
 from .statements import Statements
 from .text import nodes_of
-from .types import known, referred
+from .types import is_slice, known, referred
 from .values import ASKING
 
 # What the hand-written part has for a device: a field for a method, and functions.
@@ -15,8 +15,15 @@ RESERVED = {"open", "remove", "read", "write", "close", "start", "format", "mark
 
 
 # The sources' marks of where a function's code stands, in C.
+# Functions of the sources that stand in place in C or apart there, whatever rustc is told: so gcc
+# keeps both halves of a word in registers, of which an M0+ has few.
+INLINE = {("state", "is_blank"): "always", ("state", "is_erased"): "never"}
 MARKS = {"always": "EE_IN_PLACE", "never": "EE_APART", None: "static"}
 LOOPS = {"for", "while", "whilelet", "loop"}
+
+
+# Types by which no name of a function is longer.
+USUAL = {"Cursor"}
 
 
 class Writer:
@@ -41,7 +48,7 @@ class Writer:
     def request(self, fn, given):
         """The name of a function in C. It is written too, unless that is done by hand."""
         args = tuple(self.types.word(t) for t in given.values())
-        name = self.names[fn] + "".join("_" + snake(a) for a in args)
+        name = self.names[fn] + "".join("_" + snake(a) for a in args if a not in USUAL)
         if fn.node.body is not None and (fn, args) not in self.done:
             self.done[fn, args] = None
             self.queue.append((fn, args, {k: known(t) for k, t in given.items()}, name))
@@ -81,16 +88,24 @@ class FunctionWriter(Statements):
     def __init__(self, writer, fn, inferred, name):
         super().__init__(writer, fn, inferred.ret)
         self.params, self.name = inferred.params, name
-        self.called = {writer.names[t] for t in self.targets(fn.node.body) if t.owner is None}
+        # No local hides a function.
+        self.called = set(writer.names.values())
 
     def write(self):
-        """Its head, its comment and its lines."""
-        params = []
+        """Its head, its comment and its lines. A slice is handed over as two parameters, since gcc
+        puts a struct of 8 bytes into memory."""
+        params, heads = [], {}
         for local in self.params:
             if not self.types.is_unit(local.ty):
                 local.cname = self.fresh(local.name)
-                of_type = self.types.name(local.ty)
-                params.append(self.spaced(of_type, local.cname))
+                of_type, name = self.types.name(local.ty), local.cname
+                if is_slice(local.ty):
+                    params += [self.spaced(self.types.items(local.ty), f"{name}_items"),
+                               f"uint32_t {name}_len"]
+                    heads[name] = f"    const {of_type} {name} = " \
+                                  f"{{ .items = {name}_items, .len = {name}_len }};"
+                else:
+                    params.append(self.spaced(of_type, name))
         gives = self.types.name(self.ret)
         if self.types.is_large(self.ret):
             params.append(self.spaced(gives + " *", "made"))
@@ -98,12 +113,15 @@ class FunctionWriter(Statements):
                 self.fail(self.fn.node, "a parameter of this name")
             gives, tail = "void", self.fn.node.body.tail
             self.given = tail.local if tail.kind == "path" else None
-        mark = MARKS[self.fn.node.inline or ("always" if self.is_short() else None)]
+        inline = INLINE.get((self.fn.module, self.fn.name), self.fn.node.inline)
+        mark = MARKS[inline or ("always" if self.is_short() else None)]
         head = f"{mark} {self.spaced(gives, self.name)}({', '.join(params) or 'void'})"
         self.block(self.fn.node.body, ("discard",) if self.is_void else ("return",))
         if self.lines[-1:] == ["    return;"]:
             self.lines.pop()
-        return head, self.comment(self.fn.node.doc, ""), self.unused() + self.lines
+        words = self.words_of("\n".join(self.lines))
+        lists = [line for name, line in heads.items() if name in words]
+        return head, self.comment(self.fn.node.doc, ""), self.unused() + lists + self.lines
 
     def is_short(self):
         """Whether it gives an Option, which C passes through memory, and does little for it."""
@@ -114,6 +132,9 @@ class FunctionWriter(Statements):
     def unused(self):
         """Lines for parameters that the function has no use for."""
         words = self.words_of("\n".join(self.lines))
-        names = [local.cname for local in self.params if local.cname]
-        return [f"    (void){name};" for name in names if name not in words]
-
+        names = []
+        for local in self.params:
+            if local.cname and local.cname not in words:
+                parts = ("_items", "_len") if is_slice(local.ty) else ("",)
+                names += [local.cname + part for part in parts]
+        return [f"    (void){name};" for name in names]

@@ -1,4 +1,4 @@
-/* What ee.s and ee.c ask of a C library, for a program that has none. */
+/* What ee.c asks of a C library, for a program that has none. */
 #include <stddef.h>
 
 void *memcpy(void *restrict to, const void *restrict from, size_t count) {
@@ -20,7 +20,7 @@ void *memset(void *to, int byte, size_t count) {
     return to;
 }
 
-/* What ee-index.s asks too. */
+/* What ee.c asks too where it has an index. */
 void *memmove(void *to, const void *from, size_t count) {
     unsigned char *at = to;
     const unsigned char *next = from;

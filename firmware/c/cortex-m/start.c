@@ -33,6 +33,6 @@ void reset(void) {
     uint64_t sum = checksum();
     const unsigned char *low = stack_low;
     while (*low == UNTOUCHED) low++;
-    print(sum, (uint32_t)(checksum_frame - low));
+    print(sum, (uint32_t)((uintptr_t)checksum_frame - (uintptr_t)low));
     end(sum != 0 && low > stack_low);
 }

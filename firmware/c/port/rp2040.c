@@ -1,14 +1,13 @@
 #include "rp2040.h"
 
-#include <string.h>
-
-/* What a test puts in place of the part. */
-#ifndef RP2040_GET
-#define RP2040_GET(address) (*(address))
-#define RP2040_SET(address, value) (*(address) = (value))
-#define RP2040_AT(address) ((volatile uint32_t *)(uintptr_t)(address))
 /* How often the chip is asked whether it is ready, each time some 100 cycles of at most 133 MHz: a sector takes 400 ms. */
-#define RP2040_MOST_TURNS 1000000
+#ifndef EE_MOST_TURNS
+#define EE_MOST_TURNS 1000000
+#endif
+#include "ee_port.h"
+
+/* What a test puts in place of the part, beside what ee_port.h has. */
+#ifndef RP2040_HALF_AT
 #define RP2040_BYTE_TURNS 1000
 #define RP2040_HALF_AT(address) (*(const volatile uint16_t *)(address))
 #endif
@@ -41,7 +40,7 @@ enum {
 };
 static const uint32_t SSI_SR = 0x18000028, SSI_DR0 = 0x18000060, SELECT = 0x4001800c, OUTOVER = 3u << 8, OUTOVER_LOW = 2u << 8;
 
-typedef void *(*lookup_call)(const uint16_t *table, uint32_t code);
+typedef uintptr_t (*lookup_call)(const uint16_t *table, uint32_t code); /* no pointer to data: C makes no function of one */
 
 rp2040_rom rp2040_find_rom(void) {
     /* GCC takes a small address that it knows for a mistake. */
@@ -73,20 +72,20 @@ RP2040_IN_RAM static void written(const rp2040_rom *rom, uint32_t offset, const 
 
 /* What the chip says to a byte while it is selected. All ones where nothing comes. */
 RP2040_IN_RAM static uint32_t exchanged(uint32_t byte) {
-    RP2040_SET(RP2040_AT(SSI_DR0), byte);
+    EE_SET(EE_AT(SSI_DR0), byte);
     for (uint32_t turn = 0; turn < RP2040_BYTE_TURNS; turn++) {
-        if (RP2040_GET(RP2040_AT(SSI_SR)) & SSI_RFNE) return RP2040_GET(RP2040_AT(SSI_DR0)) & 0xff;
+        if (EE_GET(EE_AT(SSI_SR)) & SSI_RFNE) return EE_GET(EE_AT(SSI_DR0)) & 0xff;
     }
     return UINT32_MAX;
 }
 
 /* The status of the chip. */
 RP2040_IN_RAM static uint32_t status_of_chip(void) {
-    volatile uint32_t *select = RP2040_AT(SELECT);
-    uint32_t control = RP2040_GET(select) & ~OUTOVER;
-    RP2040_SET(select, control | OUTOVER_LOW);
+    volatile uint32_t *select = EE_AT(SELECT);
+    uint32_t control = EE_GET(select) & ~OUTOVER;
+    EE_SET(select, control | OUTOVER_LOW);
     uint32_t status = exchanged(READ_STATUS) == UINT32_MAX ? UINT32_MAX : exchanged(0);
-    RP2040_SET(select, control | OUTOVER); /* high; the ROM's flush_cache gives it back */
+    EE_SET(select, control | OUTOVER); /* high; the ROM's flush_cache gives it back */
     return status;
 }
 
@@ -95,7 +94,7 @@ RP2040_IN_RAM static int is_awaited(const rp2040_rom *rom) {
     uint32_t before = interrupts_off(), status = STATUS_WIP;
     rom->connect();
     rom->exit_xip();
-    for (uint32_t turn = 0; turn < RP2040_MOST_TURNS && (status & STATUS_WIP) != 0 && status != UINT32_MAX; turn++) {
+    for (uint32_t turn = 0; turn < EE_MOST_TURNS && (status & STATUS_WIP) != 0 && status != UINT32_MAX; turn++) {
         status = status_of_chip();
     }
     rom->flush_cache();
@@ -114,8 +113,8 @@ static uint32_t word(void *context, uint32_t page, uint32_t place, uint64_t *val
     rp2040 *part = context;
     if (!is_ready(part)) return EE_READ_FAILED;
     const volatile uint32_t *at = part->flash + 2 * (page * NUMBERS + place);
-    uint32_t low = RP2040_GET(&at[0]);
-    uint32_t high = RP2040_GET(&at[1]);
+    uint32_t low = EE_GET(&at[0]);
+    uint32_t high = EE_GET(&at[1]);
     *value = (uint64_t)high << 32 | low;
     return 0;
 }
@@ -133,16 +132,20 @@ static uint32_t program(void *context, uint32_t page, uint32_t place, uint64_t v
     uint8_t bytes[PROGRAM]; /* those that are all ones leave what stands there */
     uint32_t at = page * SECTOR + place * 8;
     uint64_t found;
-    memset(bytes, 0xff, sizeof bytes);
+    for (uint32_t i = 0; i < PROGRAM; i++) bytes[i] = 0xff;
     for (uint32_t i = 0; i < 8; i++) bytes[at % PROGRAM + i] = (uint8_t)(value >> 8 * i);
+    if (!EE_MAY_STEP(0)) return 1;
     written(&part->rom, part->offset + at / PROGRAM * PROGRAM, bytes);
+    EE_STEPPED(0);
     return word(context, page, place, &found) != 0 || found != value;
 }
 
 static uint32_t erase(void *context, uint32_t page) {
     const rp2040 *part = context;
     uint64_t found;
+    if (!EE_MAY_STEP(1)) return 1;
     written(&part->rom, part->offset + page * SECTOR, NULL);
+    EE_STEPPED(1);
     for (uint32_t place = 0; place < NUMBERS; place++) {
         if (word(context, page, place, &found) != 0 || found != UINT64_MAX) return 1;
     }

@@ -34,24 +34,7 @@
 #endif
 #endif
 
-/* What a test puts in place of the part. On the part these are plain reads and writes, and a barrier behind which all of them
- * are done. */
-#ifndef STM32_HAL_SET
-#define STM32_HAL_SET(address, value) (*(address) = (value))
-#define STM32_HAL_GET(address) (*(address))
-#define STM32_HAL_AT(address) ((const volatile uint32_t *)(uintptr_t)(address))
-#ifdef __arm__
-#define STM32_HAL_BARRIER() __asm__ volatile("dsb\n\tisb" : : : "memory")
-#else
-#define STM32_HAL_BARRIER() ((void)0)
-#endif
-#endif
-
-/* Yours on a WB or a WL, around each step: whether it may begin, and that it ended. stm32l4.h says what the second core asks. */
-#ifndef STM32_HAL_MAY_STEP
-#define STM32_HAL_MAY_STEP(is_erase) 1
-#define STM32_HAL_STEPPED(is_erase) ((void)0)
-#endif
+#include "ee_port.h"
 
 enum { WORD_BYTES = STM32_HAL_BITS == 64 ? 8 : 16, MOST_WORDS = 512, MOST_PAGES = 64 };
 
@@ -84,9 +67,9 @@ static uint32_t cache_off(void) {
 #ifdef HAS_NO_CACHE
     return 0;
 #else
-    uint32_t acr = STM32_HAL_GET(&FLASH->ACR);
-    STM32_HAL_SET(&FLASH->ACR, acr & ~CACHE_ON);
-    STM32_HAL_BARRIER();
+    uint32_t acr = EE_GET(&FLASH->ACR);
+    EE_SET(&FLASH->ACR, acr & ~CACHE_ON);
+    EE_BARRIER();
     return acr;
 #endif
 }
@@ -96,10 +79,10 @@ static void cache_as(uint32_t acr) {
 #ifdef HAS_NO_CACHE
     (void)acr;
 #else
-    STM32_HAL_SET(&FLASH->ACR, (acr & ~CACHE_ON) | CACHE_RESET);
-    STM32_HAL_SET(&FLASH->ACR, acr & ~CACHE_ON);
-    STM32_HAL_SET(&FLASH->ACR, acr);
-    STM32_HAL_BARRIER();
+    EE_SET(&FLASH->ACR, (acr & ~CACHE_ON) | CACHE_RESET);
+    EE_SET(&FLASH->ACR, acr & ~CACHE_ON);
+    EE_SET(&FLASH->ACR, acr);
+    EE_BARRIER();
 #endif
 }
 
@@ -107,7 +90,7 @@ static void cache_as(uint32_t acr) {
 #ifdef FLASH_SIZE
 #define FLASH_BYTES ((uint32_t)(FLASH_SIZE))
 #else
-#define FLASH_BYTES (1024 * (STM32_HAL_GET(STM32_HAL_AT(FLASHSIZE_BASE & ~3u)) >> 8 * (FLASHSIZE_BASE & 2) & 0xffff))
+#define FLASH_BYTES (1024 * (EE_GET(EE_AT(FLASHSIZE_BASE & ~3u)) >> 8 * (FLASHSIZE_BASE & 2) & 0xffff))
 #endif
 
 static uint32_t page_words(const stm32_hal *part) {
@@ -121,8 +104,8 @@ static const volatile uint32_t *at(const stm32_hal *part, uint32_t page, uint32_
 }
 
 static uint64_t bits_at(const volatile uint32_t *from) {
-    uint32_t low = STM32_HAL_GET(&from[0]);
-    uint32_t high = STM32_HAL_GET(&from[1]);
+    uint32_t low = EE_GET(&from[0]);
+    uint32_t high = EE_GET(&from[1]);
     return (uint64_t)high << 32 | low;
 }
 
@@ -158,8 +141,8 @@ static volatile uint32_t *eccr_of(const stm32_hal *part) {
 
 /* Clears those of the flags that stand. A flag is cleared by a 1, so the others are written with 0, and stay. */
 static void clear_flags(const stm32_hal *part, uint32_t eccr, uint32_t flags) {
-    STM32_HAL_SET(eccr_of(part), (eccr & ECCIE) | (eccr & flags));
-    STM32_HAL_BARRIER();
+    EE_SET(eccr_of(part), (eccr & ECCIE) | (eccr & flags));
+    EE_BARRIER();
 }
 
 /* Takes the flag of a corrected error away: while it stands the part tells no other error's address. Whether there was one. */
@@ -172,9 +155,9 @@ static int note_corrected(stm32_hal *part, uint32_t eccr) {
 
 /* Waits until the handler of the NMI has taken the error of a read. What the register says then. */
 static uint32_t settled(stm32_hal *part) {
-    uint32_t eccr = STM32_HAL_GET(eccr_of(part));
-    for (uint32_t turn = 0; turn < NMI_TURNS && (eccr & DETECTIONS) != 0; turn++) eccr = STM32_HAL_GET(eccr_of(part));
-    STM32_HAL_BARRIER();
+    uint32_t eccr = EE_GET(eccr_of(part));
+    for (uint32_t turn = 0; turn < NMI_TURNS && (eccr & DETECTIONS) != 0; turn++) eccr = EE_GET(eccr_of(part));
+    EE_BARRIER();
     return eccr;
 }
 
@@ -194,9 +177,9 @@ static int is_noted(const stm32_hal *part, uint32_t note, uint32_t flag, uint32_
 static uint32_t sensed(stm32_hal *part, uint32_t page, uint32_t place, uint64_t *value) {
     part->reading = ((part->first_page + page) * part->page_bytes + 8 * place) / ADDRESS_BYTES;
     part->is_reading = 1;
-    STM32_HAL_BARRIER(); /* the cache is off */
+    EE_BARRIER(); /* the cache is off */
     *value = bits_at(at(part, page, place));
-    STM32_HAL_BARRIER(); /* the reads are done */
+    EE_BARRIER(); /* the reads are done */
     uint32_t eccr = settled(part);
     part->is_reading = 0;
     if (note_corrected(part, eccr)) part->faint = (eccr & CORRECTIONS) | part->reading;
@@ -208,7 +191,7 @@ static uint32_t sensed(stm32_hal *part, uint32_t page, uint32_t place, uint64_t 
 /* Reads a word while the cache is off. Behind an error that others met, the part may have this word from their read, and tell
  * nothing: so it reads another one first. */
 static uint32_t look(stm32_hal *part, uint32_t page, uint32_t place, uint64_t *value) {
-    if (note_corrected(part, STM32_HAL_GET(eccr_of(part))) || part->is_stale) {
+    if (note_corrected(part, EE_GET(eccr_of(part))) || part->is_stale) {
         part->is_stale = 0;
         (void)sensed(part, page, place ^ 2, value);
     }
@@ -218,7 +201,7 @@ static uint32_t look(stm32_hal *part, uint32_t page, uint32_t place, uint64_t *v
 static uint32_t word(void *context, uint32_t page, uint32_t place, uint64_t *value) {
     uint32_t acr = cache_off();
     uint32_t status = look(context, page, place, value);
-    STM32_HAL_SET(&FLASH->ACR, acr);
+    EE_SET(&FLASH->ACR, acr);
     return status;
 }
 
@@ -227,7 +210,7 @@ static const uint64_t *words(void *context, uint32_t page, uint32_t place, uint3
     stm32_hal *part = context;
     uint32_t acr = cache_off(), read = 0;
     while (read < count && look(part, page, place + read, &part->run[read]) == 0) read++;
-    STM32_HAL_SET(&FLASH->ACR, acr);
+    EE_SET(&FLASH->ACR, acr);
     return read == count ? part->run : NULL;
 }
 
@@ -244,7 +227,7 @@ static int is_in_pages(const stm32_hal *part, uint32_t eccr) {
 }
 
 int stm32_hal_nmi(stm32_hal *part) {
-    uint32_t eccr = STM32_HAL_GET(eccr_of(part));
+    uint32_t eccr = EE_GET(eccr_of(part));
     if ((eccr & DETECTIONS) == 0) return 0;
     if (part->is_reading) {
         part->error = (eccr & ~ADDRESS) | part->reading;
@@ -283,7 +266,7 @@ int stm32_hal_nmi(stm32_hal *part) {
 /* Takes the errors of before away, and unlocks the flash. */
 static int begin(void) {
     if (HAL_FLASH_Unlock() != HAL_OK) return 0;
-    STM32_HAL_SET(&FLASH->SR, (uint32_t)SR_FLAGS);
+    EE_SET(&FLASH->SR, (uint32_t)SR_FLAGS);
     return 1;
 }
 
@@ -326,18 +309,18 @@ static int erase_page(const stm32_hal *part, uint32_t page) {
 
 static uint32_t programmed(stm32_hal *part, uint32_t page, uint32_t place, uint64_t value) {
     uint64_t found;
-    if (!STM32_HAL_MAY_STEP(0)) return 1;
+    if (!EE_MAY_STEP(0)) return 1;
     int is_well = begin() && program_parts(part->address + page * part->page_bytes + 8 * place, value);
     int is_locked = HAL_FLASH_Lock() == HAL_OK;
-    STM32_HAL_STEPPED(0);
+    EE_STEPPED(0);
     return !is_well || !is_locked || look(part, page, place, &found) != 0 || found != value;
 }
 
 static uint32_t erased(stm32_hal *part, uint32_t page) {
     uint64_t found;
-    if (!STM32_HAL_MAY_STEP(1)) return 1;
+    if (!EE_MAY_STEP(1)) return 1;
     int is_well = begin() && erase_page(part, page), is_locked = HAL_FLASH_Lock() == HAL_OK;
-    STM32_HAL_STEPPED(1);
+    EE_STEPPED(1);
     if (!is_well || !is_locked) return 1;
     part->error = part->faint = 0;
     for (uint32_t place = 0; place < page_words(part) * (STM32_HAL_BITS == 64 ? 1 : 2); place++) {
@@ -372,12 +355,12 @@ static int is_placed(stm32_hal *part, uint32_t offset, uint32_t pages) {
 #ifdef SYSCFG_MEMRMP_UFB_MODE
     int is_on = __HAL_RCC_SYSCFG_IS_CLK_ENABLED();
     __HAL_RCC_SYSCFG_CLK_ENABLE();
-    uint32_t mode = STM32_HAL_GET(&SYSCFG->MEMRMP);
+    uint32_t mode = EE_GET(&SYSCFG->MEMRMP);
     if (!is_on) __HAL_RCC_SYSCFG_CLK_DISABLE();
     if (mode & SYSCFG_MEMRMP_UFB_MODE) return 0;
 #endif
 #ifdef FLASH_OPTCR_DB1M
-    if (FLASH_BYTES <= 0x100000 && (STM32_HAL_GET(&FLASH->OPTCR) & FLASH_OPTCR_DB1M) != 0) end = end < 0x80000 ? end : 0x80000;
+    if (FLASH_BYTES <= 0x100000 && (EE_GET(&FLASH->OPTCR) & FLASH_OPTCR_DB1M) != 0) end = end < 0x80000 ? end : 0x80000;
 #endif
     if (end > FLASH_BYTES) end = FLASH_BYTES;
     return offset % part->page_bytes == 0 && offset < end && 2 * pages * part->page_bytes <= end - offset;
@@ -393,11 +376,11 @@ typedef struct banks {
 } banks;
 
 #if defined(STM32G4) && defined(FLASH_OPTR_DBANK)
-static int has_two(void) { return (STM32_HAL_GET(&FLASH->OPTR) & FLASH_OPTR_DBANK) != 0; }
+static int has_two(void) { return (EE_GET(&FLASH->OPTR) & FLASH_OPTR_DBANK) != 0; }
 #elif defined(STM32L4) && defined(FLASH_OPTR_DUALBANK)
-static int has_two(void) { return FLASH_BYTES == 0x100000 || (STM32_HAL_GET(&FLASH->OPTR) & FLASH_OPTR_DUALBANK) != 0; }
+static int has_two(void) { return FLASH_BYTES == 0x100000 || (EE_GET(&FLASH->OPTR) & FLASH_OPTR_DUALBANK) != 0; }
 #elif defined(STM32G0) && defined(FLASH_OPTR_DUAL_BANK)
-static int has_two(void) { return (STM32_HAL_GET(&FLASH->OPTR) & FLASH_OPTR_DUAL_BANK) != 0; }
+static int has_two(void) { return (EE_GET(&FLASH->OPTR) & FLASH_OPTR_DUAL_BANK) != 0; }
 #else
 static int has_two(void) { return 0; }
 #endif
@@ -405,11 +388,11 @@ static int has_two(void) { return 0; }
 /* SYSCFG reads as 0 while its clock is off. */
 static int is_swapped(void) {
 #if defined(STM32G0) && defined(FLASH_OPTR_nSWAP_BANK)
-    return (STM32_HAL_GET(&FLASH->OPTR) & FLASH_OPTR_nSWAP_BANK) == 0;
+    return (EE_GET(&FLASH->OPTR) & FLASH_OPTR_nSWAP_BANK) == 0;
 #elif defined(SYSCFG_MEMRMP_FB_MODE)
     int is_on = __HAL_RCC_SYSCFG_IS_CLK_ENABLED();
     __HAL_RCC_SYSCFG_CLK_ENABLE();
-    uint32_t mode = STM32_HAL_GET(&SYSCFG->MEMRMP);
+    uint32_t mode = EE_GET(&SYSCFG->MEMRMP);
     if (!is_on) __HAL_RCC_SYSCFG_CLK_DISABLE();
     return (mode & SYSCFG_MEMRMP_FB_MODE) != 0;
 #else
@@ -461,7 +444,7 @@ ee_flash stm32_hal_flash(stm32_hal *part, uint32_t address, uint32_t pages) {
         .kind = STM32_HAL_BITS == 64 ? EE_WORDS : EE_PAIRS_CLEARING,
         .words = words,
     };
-    part->flash = STM32_HAL_AT(address);
+    part->flash = EE_AT(address);
     part->address = address;
     part->pages = 2 * pages;
     return flash;

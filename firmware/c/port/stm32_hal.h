@@ -14,7 +14,7 @@
  * flash that the port doesn't empty. An L5, a U5 and an H5 have registers of other names.
  *
  * It supposes this of the part and of the HAL, by memory of both, which no one had at hand. Compare them; what the heads of
- * stm32g0.h, stm32g4.h, stm32l4.h, stm32f1.h and stm32f4.h suppose of errors, banks and supplies holds here too.
+ * stm32_ecc.h, stm32f1.h and stm32f4.h suppose of errors, banks and supplies holds here too.
  * - ST's files define FLASH_OPTR_DBANK, _DUALBANK, _DUAL_BANK, SYSCFG_MEMRMP_FB_MODE and _UFB_MODE for parts with two banks
  *   alone, and FLASH_SIZE, or FLASHSIZE_BASE. The bank and the page that the HAL is asked for are those as the part is
  *   built, while reads go by the address.
@@ -27,7 +27,7 @@
  * The HAL counts the time of a step by HAL_GetTick, from a loop in flash. On a part with one bank the core stands still on
  * its next read of flash until the step is done, and SysTick with it: nothing feeds a watchdog meanwhile. So its window is
  * longer than the longest step, which is an erase. No interrupt writes FLASH_ACR during a call. On a WB and a WL the second
- * core writes flash too: define STM32_HAL_MAY_STEP(is_erase) and STM32_HAL_STEPPED(is_erase) as stm32l4.h says it of its
+ * core writes flash too: define EE_MAY_STEP(is_erase) and EE_STEPPED(is_erase) as stm32_ecc.h says it of its
  * own. Where an MPU guards the flash, it lets the port write to the pages. */
 #ifndef STM32_HAL_H
 #define STM32_HAL_H

@@ -1,15 +1,21 @@
-/* An example of a port: a store in the flash of an STM32U5, which programs 128 bits at once, with error correction over
+/* An example of a port: a store in the flash of an STM32U5, H5 or WBA, which programs 128 bits at once, with error correction over
  * them. So each word of the store takes a unit of 16 bytes, with its complement in the second half; the store knows nothing
  * of it (`kind` is EE_WORDS). It was tested on a computer against a model of the registers, the cache and the NMI
- * (tests/stm32u5.c), and never on a board. Nothing of it is proved. It uses the registers of a non-secure program.
+ * (tests/stm32u5.c), and never on a board. Nothing of it is proved. It uses the registers of a non-secure program. ST's headers
+ * define the family, as STM32H5; a program without them has -DSTM32H5 or -DSTM32WBA. Without either it is of a U5.
  *
- * It supposes this of the part, by memory of the reference manual (RM0456) and of other drivers, which no one had at hand.
- * Compare them. "OpenOCD" says that its driver for these parts has the same.
- * - The size of the flash, DUALBANK, BKER and PNB, and that 2 MB of a U575 are two banks whatever DUALBANK says (OpenOCD).
- *   So without DUALBANK a part of 128 KB, 256 KB and 1 MB has one bank, and another is refused. BKER and PNB name the bank
- *   as it is built, while reads go by the address. Where SWAP_BANK stands, each bank is read at the other's address (sure),
- *   and BK_ECC names the bank as it is built (likely). Banks are not swapped while a store is open. Where the product swaps
- *   them between two starts, the pages are read at the other address then, and it gives that one.
+ * It supposes this of the part, by memory of the reference manuals (RM0456 of a U5, RM0481, RM0492 of an H5, RM0493 of a WBA) and of
+ * other drivers, which no one had at hand. Compare them. "OpenOCD" says that its driver has the same (`firmware/openocd` compares
+ * them).
+ * - The registers of a U5 and their bits (OpenOCD); that a WBA has the same (likely); those of an H5 (likely), its errors by a
+ *   register for those that are corrected and one for the others, by units of 128 bits (less sure). Where the size of the
+ *   flash stands: of a U5 OpenOCD, of an H5 and a WBA less sure; a wrong size refuses the pages.
+ * - DUALBANK, BKER and PNB of a U5, and that 2 MB of a U575 are two banks whatever DUALBANK says (OpenOCD). So without DUALBANK a
+ *   part of 128 KB, 256 KB and 1 MB has one bank, and another is refused. An H5 has two banks always, and a WBA of up to 1 MB one
+ *   (likely). The number of the bank names it as it is built, while reads go by the address. Where SWAP_BANK stands, each bank is
+ *   read at the other's address (sure), and BK_ECC names the bank as it is built (likely). Banks are not swapped while a store
+ *   is open. Where the product swaps them between two starts, the pages are read at the other address then, and it gives that one.
+ * - The pages of an H5 are no EDATA, by the options: those read at another address, by half words, and an erased one raises the NMI.
  * - With TrustZone on (TZEN) the NMI is the secure program's, unless it set BFHFNMINS of AIRCR (sure): without that the port
  *   refuses. The pages are non-secure then, in the watermark and in the blocks (SECBB): else they read as zeros, with no
  *   error.
@@ -23,11 +29,11 @@
  * - A second read of what the cache has, or of what the flash read last, raises no NMI. The NMI may come some cycles behind
  *   the read: the port waits until the handler has taken the flag.
  * - A unit that reads as all ones by a correction can't be programmed (likely). So it counts as torn until an erase.
- * - Flash is not written in voltage range 4 (VOS in PWR_VOSR; likely): the program sees to that.
+ * - A U5's flash is not written in voltage range 4 (VOS in PWR_VOSR; likely), a WBA's in range 1 alone (not sure): the program
+ *   sees to that.
  *
  * So the port programs and erases with ICACHE off, turns it on again where it was on, and empties it before a read behind an
- * error. No interrupt writes ICACHE_CR during a call. Where an MPU guards the flash, it lets the port write to the pages.
- * */
+ * error. No interrupt writes ICACHE_CR during a call. Where an MPU guards the flash, it lets the port write to the pages. */
 #ifndef STM32U5_H
 #define STM32U5_H
 
@@ -39,21 +45,8 @@
 extern "C" {
 #endif
 
-/* The registers of the flash, at 0x40022000 (RM0456, "Embedded flash memory"). */
-typedef struct stm32u5_registers {
-    volatile uint32_t acr, reserved_1, nskeyr, seckeyr, optkeyr, reserved_2, pdkey1r, pdkey2r, nssr, secsr, nscr, seccr, eccr, opsr,
-        reserved_3[2], optr;
-} stm32u5_registers;
-
-/* Those of ICACHE, at 0x40030400 (RM0456, "Instruction cache"). */
-typedef struct stm32u5_cache {
-    volatile uint32_t cr, sr, ier, fcr;
-} stm32u5_cache;
-
-/* A part of the flash for a store. All but `registers` and `cache` begins as 0, and the port writes it. */
+/* A part of the flash for a store. It begins as 0, and the port writes it. */
 typedef struct stm32u5 {
-    stm32u5_registers *registers; /* (stm32u5_registers *)0x40022000 */
-    stm32u5_cache *cache;         /* (stm32u5_cache *)0x40030400 */
     volatile uint32_t *flash;     /* where the first of the pages begins */
     uint32_t first_page;          /* the number of that page in its bank */
     uint32_t bank;                /* 0, or 1 for the second bank, as it is built */

@@ -21,14 +21,7 @@
 #endif
 #endif
 
-/* The reads before it are done, and so is an NMI that one of them raised. */
-#ifndef ZEPHYR_BARRIER
-#ifdef __arm__
-#define ZEPHYR_BARRIER() __asm volatile("dsb\n\tisb" ::: "memory")
-#else
-#define ZEPHYR_BARRIER() __asm volatile("" ::: "memory")
-#endif
-#endif
+#include "ee_port.h"
 
 enum { NUMBER_BYTES = 8, MOST_NUMBERS = 4 /* of a unit */, LEAST_WORDS = 5, MOST_WORDS = 512, MOST_PAGES = 64 };
 
@@ -95,9 +88,9 @@ static uint32_t word(void *context, uint32_t page, uint32_t place, uint64_t *val
     off_t offset = offset_of(part, page, place);
     part->is_noted = 0;
     part->is_reading = part->kind == EE_WORDS;
-    ZEPHYR_BARRIER();
+    EE_BARRIER();
     int status = flash_read(part->device, offset, numbers, part->unit_bytes);
-    ZEPHYR_BARRIER();
+    EE_BARRIER();
     part->is_reading = 0;
     if (part->kind == EE_WORDS) {
         if (is_noted(part, offset)) return EE_TORN;
@@ -125,15 +118,20 @@ static uint32_t program(void *context, uint32_t page, uint32_t place, uint64_t v
     const zephyr_part *part = context;
     uint64_t numbers[MOST_NUMBERS], found;
     spread(numbers, value);
-    if (flash_write(part->device, offset_of(part, page, place), numbers, part->unit_bytes) != 0) return 1;
-    return word(context, page, place, &found) != 0 || found != value;
+    if (!EE_MAY_STEP(0)) return 1;
+    int status = flash_write(part->device, offset_of(part, page, place), numbers, part->unit_bytes);
+    EE_STEPPED(0);
+    return status != 0 || word(context, page, place, &found) != 0 || found != value;
 }
 
 static uint32_t erase(void *context, uint32_t page) {
     zephyr_part *part = context;
     uint64_t found;
+    if (!EE_MAY_STEP(1)) return 1;
     forget_torn(part, offset_of(part, page, 0));
-    if (flash_erase(part->device, offset_of(part, page, 0), part->page_bytes) != 0) return 1;
+    int status = flash_erase(part->device, offset_of(part, page, 0), part->page_bytes);
+    EE_STEPPED(1);
+    if (status != 0) return 1;
     for (uint32_t place = 0; place < part->places; place++) {
         if (word(context, page, place, &found) != 0 || found != UINT64_MAX) return 1;
     }

@@ -4,10 +4,10 @@
 static uint32_t get(const volatile uint32_t *address);
 static void set(volatile uint32_t *address, uint32_t value);
 static uint16_t half_at(uintptr_t address);
-#define RP2040_GET(address) get(address)
-#define RP2040_SET(address, value) set(address, value)
-#define RP2040_AT(address) ((volatile uint32_t *)(uintptr_t)(address))
-#define RP2040_MOST_TURNS 100
+#define EE_GET(address) get(address)
+#define EE_SET(address, value) set(address, value)
+#define EE_AT(address) ((volatile uint32_t *)(uintptr_t)(address))
+#define EE_MOST_TURNS 100
 #define RP2040_BYTE_TURNS 10
 #define RP2040_HALF_AT(address) half_at(address)
 #include "../port/rp2040.c"
@@ -97,12 +97,12 @@ static uint32_t fetched(uint32_t i) {
 /* The SSI and the select pin. The chip answers its status to the command 5. */
 static void set(volatile uint32_t *address, uint32_t value) {
     CHECK(state == COMMANDS);
-    if (address == RP2040_AT(0x4001800c)) {
+    if (address == EE_AT(0x4001800c)) {
         CHECK(((value ^ selected) & ~(3u << 8)) == 0 && given == 0);
         selected = value, asked = 0;
         return;
     }
-    CHECK(address == RP2040_AT(0x18000060) && (selected >> 8 & 3) == 2 && given == 0);
+    CHECK(address == EE_AT(0x18000060) && (selected >> 8 & 3) == 2 && given == 0);
     CHECK(asked == 0 ? value == 5 : asked == 1);
     asked++, given = is_silent ? 0 : 1 + below(3);
 }
@@ -116,9 +116,9 @@ static uint32_t answered(void) {
 }
 
 static uint32_t get(const volatile uint32_t *address) {
-    if (address == RP2040_AT(0x4001800c)) return selected;
-    if (address == RP2040_AT(0x18000028)) return given > 1 ? given--, 6 : given == 1 ? 6 | 1u << 3 : 6;
-    if (address == RP2040_AT(0x18000060)) return answered();
+    if (address == EE_AT(0x4001800c)) return selected;
+    if (address == EE_AT(0x18000028)) return given > 1 ? given--, 6 : given == 1 ? 6 | 1u << 3 : 6;
+    if (address == EE_AT(0x18000060)) return answered();
     CHECK(address >= memory && address < memory + WORDS);
     return fetched((uint32_t)(address - memory));
 }

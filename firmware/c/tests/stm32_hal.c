@@ -8,12 +8,12 @@ static const volatile uint32_t *memory_at(uint32_t address);
 static void barrier(void);
 static int may_step(int is_erase);
 static void stepped(int is_erase);
-#define STM32_HAL_SET(address, value) set(address, value)
-#define STM32_HAL_GET(address) get(address)
-#define STM32_HAL_AT(address) memory_at(address)
-#define STM32_HAL_BARRIER() barrier()
-#define STM32_HAL_MAY_STEP(is_erase) may_step(is_erase)
-#define STM32_HAL_STEPPED(is_erase) stepped(is_erase)
+#define EE_SET(address, value) set(address, value)
+#define EE_GET(address) get(address)
+#define EE_AT(address) memory_at(address)
+#define EE_BARRIER() barrier()
+#define EE_MAY_STEP(is_erase) may_step(is_erase)
+#define EE_STEPPED(is_erase) stepped(is_erase)
 #define STM32_HAL_HEADER "tests/declared/stm32_hal/main.h"
 #include "../port/stm32_hal.c"
 

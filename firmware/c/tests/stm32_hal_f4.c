@@ -9,10 +9,10 @@ static const volatile uint32_t *memory_at(uint32_t address);
 #ifndef STM32F1
 static void barrier(void);
 #endif
-#define STM32_HAL_SET(address, value) set(address, value)
-#define STM32_HAL_GET(address) get(address)
-#define STM32_HAL_AT(address) memory_at(address)
-#define STM32_HAL_BARRIER() barrier()
+#define EE_SET(address, value) set(address, value)
+#define EE_GET(address) get(address)
+#define EE_AT(address) memory_at(address)
+#define EE_BARRIER() barrier()
 #define STM32_HAL_HEADER "tests/declared/stm32_hal/main.h"
 #ifndef STM32F1
 #define STM32F4

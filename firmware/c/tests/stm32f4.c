@@ -1,28 +1,39 @@
 /* The port for an STM32F4 against a model of its flash: registers, sectors that are programmed by 32 bits, and the data cache.
- * stm32f4_by_16.c and stm32f4_by_8.c make it again for supplies that allow fewer bits at once. */
+ * stm32f4_by_16.c and stm32f4_by_8.c make it again for supplies that allow fewer bits at once, stm32f4_f7.c for an F7, whose data
+ * cache is the core's. */
 #include "moves.h"
 
 static void set(volatile uint32_t *address, uint32_t value);
 static uint32_t get(volatile uint32_t *address);
 static void set_unit(volatile uint8_t *address, uint32_t value);
+static volatile uint32_t *part_at(uint32_t address);
 static void barrier(void);
-#define STM32F4_SET(address, value) set(address, value)
-#define STM32F4_GET(address) get(address)
-#define STM32F4_SET_UNIT(address, value) set_unit((volatile uint8_t *)(address), value)
-#define STM32F4_BARRIER() barrier()
-#define STM32F4_MOST_TURNS 1000
-#define STM32F4_WAIT() (waited++)
+static int may_step(int is_erase);
+static void stepped(int is_erase);
+#define EE_SET(address, value) set(address, value)
+#define EE_GET(address) get(address)
+#define EE_AT(address) part_at(address)
+#define STM32_SET_UNIT(address, value) set_unit((volatile uint8_t *)(address), value)
+#define EE_BARRIER() barrier()
+#define EE_MOST_TURNS 1000
+#define EE_WAIT() (waited++)
+#define EE_MAY_STEP(is_erase) may_step(is_erase)
+#define EE_STEPPED(is_erase) stepped(is_erase)
 static uint32_t waited; /* turns of the port's loop */
 #include "../port/stm32f4.c"
 
-enum { WORDS = 16, SECTOR = 4096, FIRST = 2, CACHE_LINES = 8, LINE = 4 /* halves of a line: 16 bytes */, NO_LINE = 2 * SECTOR };
-enum fault { NONE, WRITE_PROTECTED, POWER, SILENT, STAYS_BUSY, STAYS_LOCKED };
+enum { WORDS = 16, SECTOR = 4096, FIRST = 2, CACHE_LINES = 8, NO_LINE = 2 * SECTOR };
+#ifdef STM32F7
+enum { LINE = 8 /* halves of a line: 32 bytes */, IS_OF_CORE = 1 };
+#else
+enum { LINE = 4 /* halves of a line: 16 bytes */, IS_OF_CORE = 0 };
+#endif
+enum fault { NONE, WRITE_PROTECTED, POWER, SILENT, STAYS_BUSY, STAYS_LOCKED, HELD_OFF };
 static const uint32_t CACHES_ON = 0x705;
 
-static stm32f4_registers registers;
-static uint32_t memory[2 * SECTOR];
+static struct { volatile uint32_t acr, keyr, optkeyr, sr, cr, optcr; } registers;
+static _Alignas(32) uint32_t memory[2 * SECTOR];
 static stm32f4 part = {
-    .registers = &registers,
     .sectors = {{.number = FIRST, .flash = memory}, {.number = FIRST + 1, .flash = memory + SECTOR}},
     .page_words = WORDS,
 };
@@ -39,11 +50,13 @@ static void empty_cache(void) {
     for (int i = 0; i < CACHE_LINES; i++) line_of[i] = NO_LINE;
 }
 
+static int is_cached(void) { return IS_OF_CORE ? acr_after_reset != 0 : registers.acr >> 10 & 1; }
+
 /* A read of 32 bits by the cache, or past it. */
 static uint32_t fetched(uint32_t half) {
     uint32_t line = half / LINE, i;
     CHECK(is_settled); /* the cache is on or off as it was told */
-    if ((registers.acr >> 10 & 1) == 0) return memory[half];
+    if (!is_cached()) return memory[half];
     for (i = 0; i < CACHE_LINES && line_of[i] != line; i++) continue;
     if (i == CACHE_LINES) {
         i = next_line++ % CACHE_LINES;
@@ -56,10 +69,25 @@ static uint32_t fetched(uint32_t half) {
 static void barrier(void) { is_settled = 1, is_queued = 0; }
 static void lock_model(void) { registers.cr |= 1u << 31, keys = 0; }
 
+/* The program lets a step of each kind begin, which ends before the next one. */
+static int held; /* 1 of a program, 2 of an erase */
+static int may_step(int is_erase) {
+    CHECK(held == 0);
+    if (fault == HELD_OFF && ++steps >= fails_in) return 0;
+    held = 1 + is_erase;
+    return 1;
+}
+static void stepped(int is_erase) {
+    CHECK(held == 1 + is_erase);
+    held = 0;
+}
+
 /* A step begins, and takes some turns. Whether it is the one that fails: behind it power is off, and steps do nothing. */
 static int fails(uint32_t turns) {
-    int is_failing = fault != NONE && fault != STAYS_LOCKED && ++steps == fails_in;
+    CHECK(held == (turns == 7 ? 2 : 1));
+    int is_failing = fault != NONE && fault < STAYS_LOCKED && ++steps == fails_in;
     busy_for = is_failing && fault == STAYS_BUSY ? UINT32_MAX : turns;
+    if (IS_OF_CORE) (void)fetched(below(2) * SECTOR + below(4 * WORDS)); /* what the core reads before it is asked for */
     if (is_failing && fault == WRITE_PROTECTED) registers.sr |= 1u << 4;
     if (is_off || (is_failing && (fault == POWER || fault == STAYS_BUSY))) registers.sr |= 1u << 1;
     return is_failing;
@@ -84,7 +112,7 @@ static void set_unit(volatile uint8_t *address, uint32_t value) {
     size_t byte = (size_t)(address - (volatile uint8_t *)memory), i = byte / 4;
     uint32_t shift = (uint32_t)(byte % 4 * 8), ones = UINT32_MAX >> (32 - STM32F4_BITS);
     CHECK(i < 2 * SECTOR && i % SECTOR < 4 * WORDS && byte % (STM32F4_BITS / 8) == 0);
-    CHECK(registers.cr == (STM32F4_BITS / 16 << 8 | 1) && busy_for == 0 && (registers.acr >> 10 & 1) == 0);
+    CHECK(registers.cr == (STM32F4_BITS / 16 << 8 | 1) && busy_for == 0 && (IS_OF_CORE || !is_cached()));
     is_queued = 1;
     int is_failing = fails(3);
     if (is_off || (is_failing && fault == WRITE_PROTECTED)) return;
@@ -109,7 +137,18 @@ static void set_control(uint32_t value) {
     }
 }
 
+/* The line with an address of the flash is thrown away. */
+static void invalidate(uint32_t address) {
+    uint32_t line = (address - (uint32_t)(uintptr_t)memory) / 4 / LINE;
+    CHECK(IS_OF_CORE && !is_queued && (busy_for == 0 || fault == STAYS_BUSY) && line < 2 * SECTOR / LINE);
+    for (int i = 0; i < CACHE_LINES; i++) {
+        if (line_of[i] == line) line_of[i] = NO_LINE;
+    }
+    is_settled = 0;
+}
+
 static void set_access(uint32_t value) {
+    CHECK(!IS_OF_CORE);
     CHECK(((value ^ registers.acr) & ~(1u << 10 | 1u << 12)) == 0); /* nothing but the data cache */
     if (value >> 12 & 1) {
         CHECK((value >> 10 & 1) == 0 && (registers.acr >> 10 & 1) == 0); /* it is emptied while it is off */
@@ -117,6 +156,15 @@ static void set_access(uint32_t value) {
     }
     registers.acr = value;
     is_settled = 0;
+}
+
+/* Where a register is. */
+static volatile uint32_t *part_at(uint32_t address) {
+    static uint32_t dcimvac;
+    uint32_t place = address - 0x40023c00;
+    if (address == 0xe000ef5c) return &dcimvac;
+    CHECK(place < sizeof registers);
+    return (volatile uint32_t *)&registers + place / 4;
 }
 
 static void set(volatile uint32_t *address, uint32_t value) {
@@ -127,6 +175,8 @@ static void set(volatile uint32_t *address, uint32_t value) {
         registers.sr &= ~value;
     } else if (address == &registers.cr) {
         set_control(value);
+    } else if (address == part_at(0xe000ef5c)) {
+        invalidate(value);
     } else {
         CHECK(address == &registers.acr);
         set_access(value);
@@ -163,7 +213,8 @@ static void cut(uint32_t in) {
 static int is_cut(void) { return is_off; }
 
 static void power(void) {
-    memset(&registers, 0, sizeof registers);
+    memset((void *)&registers, 0, sizeof registers);
+    held = 0;
     registers.acr = acr_after_reset; /* the program turned the caches on */
     lock_model();
     empty_cache();
@@ -228,7 +279,7 @@ int main(void) {
         }
     }
     for (updates = 0; updates < 2; updates++) read_back();
-    for (enum fault kind = WRITE_PROTECTED; kind <= STAYS_LOCKED; kind++) failing(kind);
+    for (enum fault kind = WRITE_PROTECTED; kind <= HELD_OFF; kind++) failing(kind);
     CHECK(waited > 0 && cleared > 50);
     return 0;
 }

@@ -1,43 +1,66 @@
 /* The port for an STM32U5 against a model of its flash: registers, pages of units of 128 bits, ICACHE, addresses of errors, and
- * the NMI. */
+ * the NMI. stm32u5_h5.c and stm32u5_wba.c make it again for an H5 and a WBA. */
 #include "moves.h"
 
 static void set(volatile uint32_t *address, uint32_t value);
 static uint32_t get(volatile uint32_t *address);
-static volatile uint32_t *at(uint32_t address);
+static volatile uint32_t *part_at(uint32_t address);
 static void barrier(void);
 static uint32_t interrupts_off(void);
 static void interrupts_as(uint32_t before);
-#define STM32U5_SET(address, value) set(address, value)
-#define STM32U5_GET(address) get(address)
-#define STM32U5_AT(address) at(address)
-#define STM32U5_BARRIER() barrier()
-#define STM32U5_MOST_TURNS 1000
-#define STM32U5_WAIT() (waited++)
+static int may_step(int is_erase);
+static void stepped(int is_erase);
+#define EE_SET(address, value) set(address, value)
+#define EE_GET(address) get(address)
+#define EE_AT(address) part_at(address)
+#define EE_BARRIER() barrier()
+#define STM32_INTERRUPTS_OFF
+#define EE_MOST_TURNS 1000
+#define EE_WAIT() (waited++)
+#define EE_MAY_STEP(is_erase) may_step(is_erase)
+#define EE_STEPPED(is_erase) stepped(is_erase)
 static uint32_t waited; /* turns of the port's loop */
 #include "../port/stm32u5.c"
 
 enum { PAGES = 4, WORDS = 512, FIRST = 20, UNITS = PAGES * WORDS, NO_UNIT = UNITS, LATEST = 6 };
-enum fault { NONE, WRITE_PROTECTED, POWER, SILENT, STAYS_BUSY, STAYS_LOCKED, CACHE_STAYS_BUSY };
+enum fault { NONE, WRITE_PROTECTED, POWER, SILENT, STAYS_BUSY, STAYS_LOCKED, CACHE_STAYS_BUSY, HELD_OFF };
 enum state { FINE, CORRECTED, TORN }; /* of a unit */
-static const uint32_t FLAGS = 3u << 30, CORRECTION = 1u << 30, DETECTION = 1u << 31, CACHE_ON = 0x30005;
-static const uint32_t PROGERR = 1u << 3, PGSERR = 1u << 7;
+static const uint32_t CORRECTION = 1u << 30, DETECTION = 1u << 31, CACHE_ON = 0x30005;
 
-static stm32u5_registers registers;
-static stm32u5_cache cache;
+/* What a family has: where its registers, flags and bits are, how its errors count, and how large its flash is. */
+#if defined(STM32H5)
+enum { KEYS = 0x04, STATUS = 0x20, CLEARS = 0x30, CONTROL = 0x28, CORR = 0x100, DET = 0x104, OPTIONS = 0x50, SIZE = 0x08fff80c };
+enum { STARTS = 5, ERASES = 2, PROGRAMS = 1, NUMBER = 6, SECOND = 31, LOCKS = 0, BUSY = 0, WAITS = 1, BY = 1, IE = 25, SYS = 23 };
+static const uint32_t PROGERR = 1u << 20, PGSERR = 1u << 18, WRPERR = 1u << 17, OPERR = 1u << 19, IN = 1u << 22;
+enum { HAS_BANKS = 1, KB = 2048 };
+#else
+enum { KEYS = 0x08, STATUS = 0x20, CLEARS = 0x20, CONTROL = 0x28, CORR = 0x30, DET = 0x30, OPTIONS = 0x40 };
+enum { STARTS = 16, ERASES = 1, PROGRAMS = 0, NUMBER = 3, SECOND = 11, LOCKS = 31, BUSY = 16, WAITS = 17, BY = 16, IE = 24, SYS = 22 };
+static const uint32_t PROGERR = 1u << 3, PGSERR = 1u << 7, WRPERR = 1u << 4, OPERR = 1u << 1, IN = 1u << 21;
+#ifdef STM32WBA
+enum { HAS_BANKS = 0, KB = 1024, SIZE = 0x0bf907a0 };
+#else
+enum { HAS_BANKS = 1, KB = 2048, SIZE = 0x0bfa07a0 };
+#endif
+#endif
+
+static uint32_t registers[0x110 / 4];
+#define R(offset) registers[(offset) / 4]
+static struct { volatile uint32_t cr, sr, ier, fcr; } cache;
 static uint32_t memory[4 * UNITS];
 static uint8_t states[UNITS];
-static stm32u5 part = {.registers = &registers, .cache = &cache};
+static stm32u5 part;
 /* What the part is: the size of its flash, its options, where the model's pages begin, and the bank that they are built in. */
-static uint32_t flash_kb, options, aircr, base, bank;
+static uint32_t flash_kb, options, trust, aircr, base, bank;
 static uint32_t keys, asked[3], filled, steps, fails_in, busy_for, cache_busy_for, cache_rests_for, off_for;
-static uint32_t others, lies, faints, late; /* counts */
+static uint32_t others, lies, faints, late, untold; /* counts */
 static int is_queued; /* a write to the flash isn't there yet */
-static int is_off, is_settled, is_in_nmi, is_masked;
+static int is_off, is_settled, is_in_nmi, is_masked, held;
 static uint32_t raised_for; /* an NMI comes so many accesses later, or at a barrier; 0 where none is raised */
 static int is_late;  /* it doesn't come at a barrier; and the cache tells late that it is off, and that it is busy */
 static int is_lying; /* the address of an error may be any other one */
 static int empties; /* the cache is emptied as it is turned off */
+static int is_virgin; /* two cells of an erased unit that a cut program cleared are not told, and three may be taken for one */
 static int hides;   /* while a flag stands no other error is told; else its flag is, with the address of before */
 static enum fault fault;
 
@@ -51,23 +74,27 @@ static void empty(void) {
     cache_rests_for = is_late ? below(4) : 0;
 }
 
+/* The register that tells errors of a kind. */
+static uint32_t *ecc(uint32_t flag) { return flag == CORRECTION ? &R(CORR) : &R(DET); }
+
 /* An error with its flag, and where no flag stands its address, or another one. */
 static void tell(uint32_t address, uint32_t flag) {
-    if ((registers.eccr & FLAGS) != 0 && hides) return;
-    if ((registers.eccr & FLAGS) == 0) {
-        uint32_t told = is_lying && below(4) == 0 ? 16 * below(ECCR_ADDR / 16) : address;
+    uint32_t *eccr = ecc(flag);
+    if ((*eccr & (CORRECTION | DETECTION)) != 0 && hides) return;
+    if ((*eccr & (CORRECTION | DETECTION)) == 0) {
+        uint32_t told = is_lying && below(4) == 0 ? BY * below(1 << 16) : address;
         lies += told != address;
-        registers.eccr = (registers.eccr & 1u << 24) | bank << 21 | told;
+        *eccr = (*eccr & 1u << IE) | bank * IN | told;
     }
-    registers.eccr |= flag;
+    *eccr |= flag;
     if (flag == DETECTION && raised_for == 0) raised_for = 1 + (is_late ? below(LATEST) : 0);
 }
 
 /* The flash reads a unit, and tells what is wrong, but for what it has from the last read. */
 static void sense(uint32_t unit) {
     if (buffer_of == unit) return;
-    if (states[unit] == CORRECTED) tell(16 * (FIRST * WORDS + unit), CORRECTION);
-    if (states[unit] == TORN) tell(16 * (FIRST * WORDS + unit), DETECTION);
+    if (states[unit] == CORRECTED) tell(BY * (FIRST * WORDS + unit), CORRECTION);
+    if (states[unit] == TORN) tell(BY * (FIRST * WORDS + unit), DETECTION);
     buffer_of = unit;
     memcpy(buffer, memory + 4 * unit, sizeof buffer);
 }
@@ -112,18 +139,42 @@ static void interrupts_as(uint32_t before) {
     is_masked = 0;
 }
 
-static void lock(void) { registers.nscr |= 1u << 31, keys = 0; }
+static void lock_model(void) { R(CONTROL) |= 1u << LOCKS, keys = 0; }
+
+/* The program lets a step of each kind begin, which ends before the next one. */
+static int may_step(int is_erase) {
+    CHECK(held == 0);
+    if (fault == HELD_OFF && ++steps >= fails_in) return 0;
+    held = 1 + is_erase;
+    return 1;
+}
+static void stepped(int is_erase) {
+    CHECK(held == 1 + is_erase);
+    held = 0;
+}
 
 /* A step begins, which no error of before may stand against. Whether it is the one that fails: behind it power is off, and steps
  * do nothing. */
 static int fails(uint32_t turns) {
-    CHECK(is_off || (registers.nssr & SR_ERRORS) == 0);
+    CHECK((is_off || (R(STATUS) & SR_ERRORS) == 0) && held == (turns == 7 ? 2 : 1));
     int is_failing = fault >= WRITE_PROTECTED && fault <= STAYS_BUSY && ++steps == fails_in;
     buffer_of = NO_UNIT;
     busy_for = is_failing && fault == STAYS_BUSY ? UINT32_MAX : turns;
-    if (is_failing && fault == WRITE_PROTECTED) registers.nssr |= 1u << 4;
-    if (is_off || (is_failing && (fault == POWER || fault == STAYS_BUSY))) registers.nssr |= 1u << 1;
+    if (is_failing && fault == WRITE_PROTECTED) R(STATUS) |= WRPERR;
+    if (is_off || (is_failing && (fault == POWER || fault == STAYS_BUSY))) R(STATUS) |= OPERR;
     return is_failing;
+}
+
+/* Some of the cells of an erased unit that a program clears, so few that no flag tells it: as they are, or beside one that the part
+ * takes for wrong and sets right. */
+static void leave_virgin(uint32_t *unit, const uint32_t *new) {
+    for (uint32_t n = 2 + below(2); n > 0; n--) {
+        uint32_t i = below(4), cells = ~new[i], bit = below(32);
+        while ((cells >> bit & 1) == 0) i = below(4), cells = ~new[i], bit = below(32);
+        unit[i] &= ~(1u << bit);
+    }
+    if (below(2)) unit[below(4)] ^= 1u << below(32);
+    untold++;
 }
 
 /* What a step that fails leaves of a unit: nothing done, done, done and read with a correction, all ones by a correction, or
@@ -131,6 +182,10 @@ static int fails(uint32_t turns) {
 static void leave(uint32_t unit, const uint32_t *new, int is_failing) {
     uint32_t kind = !is_failing ? 1 : fault == SILENT ? 4 : below(7), all = UINT32_MAX;
     if (kind == 0) return;
+    if (kind > 3 && is_virgin && (new[0] & new[1] & new[2] & new[3]) != UINT32_MAX) {
+        leave_virgin(memory + 4 * unit, new);
+        return;
+    }
     for (int i = 0; i < 4; i++) {
         memory[4 * unit + i] = kind == 3 ? UINT32_MAX : kind < 5 ? new[i] : new[i] | any_bits();
         all &= memory[4 * unit + i];
@@ -153,7 +208,7 @@ static void program_unit(uint32_t i, uint32_t last) {
     int is_failing = fails(3);
     if (is_off || (is_failing && fault == WRITE_PROTECTED)) return;
     if (states[i] == CORRECTED) { /* no cell is programmed, but the unit was */
-        registers.nssr |= PROGERR;
+        R(STATUS) |= PROGERR;
         return;
     }
     CHECK((unit[0] & unit[1] & unit[2] & unit[3]) == UINT32_MAX && states[i] != TORN);
@@ -162,15 +217,15 @@ static void program_unit(uint32_t i, uint32_t last) {
 }
 
 static void set_control(uint32_t value) {
-    if (registers.nscr >> 31) {
-        CHECK(value == 1u << 31 || value == 0); /* the port writes to it only when it is unlocked, but for locking it */
+    if (R(CONTROL) >> LOCKS & 1) {
+        CHECK(value == 1u << LOCKS || value == 0); /* the port writes to it only when it is unlocked, but for locking it */
         return;
     }
-    registers.nscr = value & ~(1u << 16);
-    if (value >> 31) lock();
-    if (value >> 16 & 1) {
-        CHECK((value & 2) != 0 && (value >> 11 & 1) == bank);
-        erase_page_of_model((value >> 3 & 0xff) - FIRST);
+    R(CONTROL) = value & ~(1u << STARTS);
+    if (value >> LOCKS & 1) lock_model();
+    if (value >> STARTS & 1) {
+        CHECK((value >> ERASES & 1) != 0 && (value >> SECOND & 1) == bank);
+        erase_page_of_model((value >> NUMBER & 0x7f) - FIRST);
     }
 }
 
@@ -185,31 +240,33 @@ static void set_cache(uint32_t value) {
 }
 
 /* Where an address of the part is: the pages are memory, and registers beside those of the flash stay numbers. */
-static volatile uint32_t *at(uint32_t address) {
-    uint32_t offset = address - base;
+static volatile uint32_t *part_at(uint32_t address) {
+    uint32_t offset = address - base, place = address - 0x40022000, of_cache = address - 0x40030400;
+    if (place < sizeof registers) return registers + place / 4;
+    if (of_cache < sizeof cache) return (volatile uint32_t *)&cache + of_cache / 4;
     return offset < sizeof memory ? memory + offset / 4 : (volatile uint32_t *)(uintptr_t)address;
 }
 
 static void set(volatile uint32_t *address, uint32_t value) {
     is_settled = 0;
     pass(0);
-    if (address == &registers.nskeyr) {
+    if (address == &R(KEYS)) {
         keys = value == 0x45670123 ? 1 : keys == 1 && value == 0xcdef89ab ? 2 : 3;
-        if (keys == 2 && fault != STAYS_LOCKED) registers.nscr &= ~(1u << 31);
-    } else if (address == &registers.nssr) {
-        registers.nssr &= ~value;
-    } else if (address == &registers.eccr) {
+        if (keys == 2 && fault != STAYS_LOCKED) R(CONTROL) &= ~(1u << LOCKS);
+    } else if (address == &R(CLEARS)) {
+        R(STATUS) &= ~value;
+    } else if (address == ecc(CORRECTION) || address == ecc(DETECTION)) {
         CHECK(!is_in_nmi || (value & CORRECTION) == 0); /* the handler leaves the flag of a corrected error */
-        registers.eccr = (registers.eccr & ~(value & FLAGS) & ~(1u << 24)) | (value & 1u << 24);
+        *address = (*address & ~(value & (CORRECTION | DETECTION)) & ~(1u << IE)) | (value & 1u << IE);
     } else if (address == &cache.cr) {
         set_cache(value);
     } else if (address == &cache.fcr) {
         cache.sr &= ~value;
-    } else if (address == &registers.nscr) {
+    } else if (address == &R(CONTROL)) {
         set_control(value);
     } else {
         size_t i = (size_t)(address - memory);
-        CHECK(address >= memory && is_masked && i < 4 * part.pages * WORDS && registers.nscr == 1 && i % 4 == filled);
+        CHECK(address >= memory && is_masked && i < 4 * part.pages * WORDS && R(CONTROL) == 1u << PROGRAMS && i % 4 == filled);
         CHECK(busy_for == 0 && (cache.cr & 1) == 0 && off_for == 0); /* a write while the cache is on is an error of the cache */
         is_queued = 1;
         if (filled < 3) {
@@ -230,8 +287,8 @@ static uint32_t turn(uint32_t *left) {
 
 static uint32_t get(volatile uint32_t *address) {
     pass(0);
-    if (address == at(0x0bfa07a0)) return 0xffff0000 | flash_kb;
-    if (address == at(0xe000ed0c)) return 0xfa050000 | aircr;
+    if (address == part_at(SIZE)) return 0xffff0000 | flash_kb;
+    if (address == part_at(0xe000ed0c)) return 0xfa050000 | aircr;
     if (address == &cache.cr) return cache.cr | turn(&off_for);
     if (address >= memory && address < memory + 4 * UNITS) {
         CHECK(address < memory + 4 * part.pages * WORDS);
@@ -246,9 +303,9 @@ static uint32_t get(volatile uint32_t *address) {
         if (is_busy && cache_busy_for == 0) cache.sr |= 2;
         return (cache.sr & ~1u) | is_busy;
     }
-    if (address != &registers.nssr) return *address;
+    if (address != &R(STATUS)) return *address;
     CHECK(!is_queued);
-    return registers.nssr | turn(&busy_for) << 16 | (filled > 0 ? 1u << 17 : 0);
+    return R(STATUS) | turn(&busy_for) << BUSY | (filled > 0 ? 1u << WAITS : 0);
 }
 
 /* The product reads the first units of the pages too, by the cache, which holds nothing old. */
@@ -260,14 +317,14 @@ static void read_by_others(uint32_t most) {
         CHECK(fetched(quarter) == memory[quarter]);
         do barrier();
         while (raised_for > 0);
-        if (others) registers.eccr &= ~FLAGS, others = 0; /* beside one that was corrected: the product's own handler */
+        if (others) *ecc(CORRECTION) &= ~CORRECTION, *ecc(DETECTION) &= ~DETECTION, others = 0; /* beside one that was corrected: the product's own handler */
     }
 }
 
 /* The model for moves. */
 static void cut(uint32_t in) {
     read_by_others(part.pages * WORDS);
-    if (below(4) == 0) registers.nssr |= PGSERR; /* the product's own write went wrong */
+    if (below(4) == 0) R(STATUS) |= PGSERR; /* the product's own write went wrong */
     steps = 0, fails_in = in, fault = in ? POWER : NONE;
 }
 
@@ -275,25 +332,28 @@ static int is_cut(void) { return is_off; }
 static uint32_t cache_after_reset = CACHE_EN;
 
 static void power(void) {
-    memset(&registers, 0, sizeof registers);
-    memset(&cache, 0, sizeof cache);
+    memset(registers, 0, sizeof registers);
+    memset((void *)&cache, 0, sizeof cache);
     memset(is_cached, 0, sizeof is_cached);
-    registers.eccr = 1u << 24;
-    registers.optr = options;
+    R(CORR) = 1u << IE;
+    R(OPTIONS) = options;
+    if (CORR != DET) R(0x70) = trust;
     cache.cr = cache_after_reset; /* the program turned it on */
-    lock();
+    lock_model();
     buffer_of = NO_UNIT;
     busy_for = 0, cache_busy_for = 0, cache_rests_for = 0, off_for = 0, filled = 0, others = 0, fault = NONE;
-    is_off = 0, raised_for = 0, is_queued = 0, is_settled = 0;
+    is_off = 0, raised_for = 0, is_queued = 0, is_settled = 0, held = 0;
     part.error = part.faint = part.corrected = part.is_stale = 0;
 }
 
-/* A part of 2 MB with two banks, exchanged or not, whose pages 20 on of a bank are the store's. */
+/* A part with two banks, exchanged or not, or with one, whose pages 20 on of a bank are the store's. */
 static ee_flash new_part(uint32_t cache_register, uint32_t exchanged, uint32_t is_second, uint32_t pages) {
     memset(memory, 0xff, sizeof memory);
     memset(states, FINE, sizeof states);
     cache_after_reset = cache_register;
-    flash_kb = 2048, options = 0x1fcff8aa | 1u << 21 | exchanged << 20, aircr = 0, bank = is_second ^ exchanged;
+    if (!HAS_BANKS) exchanged = is_second = 0;
+    flash_kb = KB, aircr = 0, bank = is_second ^ exchanged, trust = 0xc3000000;
+    options = CORR == DET ? 0x1fcff8aa | 1u << 21 | exchanged << 20 : 0x2030edf8 | exchanged << 31;
     base = 0x08000000 + is_second * 0x100000 + FIRST * 8192;
     power();
     ee_flash flash = stm32u5_flash(&part, base, pages);
@@ -304,7 +364,7 @@ static ee_flash new_part(uint32_t cache_register, uint32_t exchanged, uint32_t i
 /* All that the team has is as it was: the cache, the interrupt of a corrected error, and no other NMI. */
 static int is_as_before(void) {
     int is_cache = cache.cr == cache_after_reset && (cache.sr & ~2u) == 0 && !is_masked;
-    return is_cache && registers.nscr == 1u << 31 && (registers.eccr & 1u << 24) != 0 && others == 0;
+    return is_cache && R(CONTROL) == 1u << LOCKS && (R(CORR) & 1u << IE) != 0 && others == 0 && held == 0;
 }
 
 /* Writes go wrong in each of their steps; what was stored before is there. */
@@ -320,7 +380,7 @@ static void failing(enum fault kind) {
         for (n = 0; n < 1200 && status == EE_OK; n++) status = ee_write(&store, 1, n);
         CHECK(status == EE_DRIVER && ee_write(&store, 1, 0) == EE_NOT_OPEN);
         fault = NONE, busy_for = 0, is_off = 0;
-        registers.nssr |= PGSERR;
+        R(STATUS) |= PGSERR;
         if (kind == CACHE_STAYS_BUSY) {
             CHECK(cache.cr == CACHE_ON && ee_open(&store, &flash) == EE_DRIVER); /* it is on, and nobody knows what it holds */
             cache_busy_for = 0;
@@ -334,36 +394,40 @@ static void failing(enum fault kind) {
     }
 }
 
-/* An error that ECCR tells, and what the handler answers; the flags that stand afterwards. */
+/* An error that the part tells, and what the handler answers; the flags that stand afterwards. A flag of a correction has a
+ * register of its own on an H5. */
 static void raised(uint32_t eccr, int is_claimed, uint32_t flags) {
-    registers.eccr = 1u << 24 | eccr;
+    R(CORR) = 0, R(DET) = 0;
+    *ecc(CORRECTION) |= 1u << IE | (CORR == DET ? 0 : eccr & CORRECTION);
+    *ecc(DETECTION) |= CORR == DET ? eccr : eccr & ~CORRECTION;
     is_in_nmi = 1;
     CHECK(stm32u5_nmi(&part) == is_claimed);
     is_in_nmi = 0;
-    CHECK((registers.eccr & FLAGS) == flags && (registers.eccr & 1u << 24) != 0);
-    registers.eccr = 1u << 24;
+    CHECK(((R(CORR) | R(DET)) & (CORRECTION | DETECTION)) == flags && (R(CORR) & 1u << IE) != 0);
+    R(DET) = 0, R(CORR) = 1u << IE;
 }
 
 /* The handler takes the errors in the store's pages alone. */
 static void addresses(void) {
-    uint32_t page = WORDS * 16, begin = FIRST * page, end = begin + 4 * page, in = 1u << 21;
+    uint32_t page = WORDS * BY, begin = FIRST * page, end = begin + 4 * page, both = CORRECTION | DETECTION;
     memset(&part, 0, sizeof part);
-    part.registers = &registers, part.cache = &cache;
     raised(DETECTION, 0, DETECTION); /* before there is a store */
     new_part(CACHE_ON, 0, 1, 2);
+    uint32_t in = bank * IN;
     raised(DETECTION | in | begin, 1, 0);
-    raised(DETECTION | in | (end - 16), 1, 0);
-    raised(FLAGS | in | begin, 0, FLAGS); /* the address may be that of the corrected one, and the error anywhere */
+    raised(DETECTION | in | (end - BY), 1, 0);
+    if (CORR == DET) raised(both | in | begin, 0, both); /* the address may be that of the corrected one, and the error anywhere */
+    else raised(both | in | begin, 1, CORRECTION);
     part.is_reading = 1;
-    raised(FLAGS | in | begin, 1, CORRECTION);
+    raised(both | in | begin, 1, CORRECTION);
     raised(DETECTION, 1, 0);
     part.is_reading = 0;
     raised(CORRECTION | in | begin, 0, CORRECTION); /* another cause */
     raised(in | begin, 0, 0);
-    uint32_t far[] = {0, begin - 16, end, 0x1ffff0};
+    uint32_t far[] = {0, begin - BY, end, 0xfff0};
     for (int i = 0; i < 4; i++) raised(DETECTION | in | far[i], 0, DETECTION);
-    raised(DETECTION | begin, 0, DETECTION);                   /* the other bank */
-    raised(DETECTION | 1u << 22 | in | begin, 0, DETECTION); /* the system's flash */
+    raised(DETECTION | (in ^ IN) | begin, 0, DETECTION);        /* the other bank */
+    raised(DETECTION | 1u << SYS | in | begin, 0, DETECTION); /* the system's flash */
 }
 
 /* An address and so many pages of a set; whether they fit, and then the bank and the number of the first page. */
@@ -375,42 +439,56 @@ static void placed(uint32_t address, uint32_t pages, int fits, uint32_t in_bank,
     else CHECK(ee_start(&store, &flash) == EE_WRONG_SHAPE && ee_format(&store, &flash) == EE_WRONG_SHAPE);
 }
 
+/* Places in a part of 2 MB with two banks. */
+static void two_banks(uint32_t swaps) {
+    placed(0x081fc000, 1, 1, 1 ^ swaps, 126);
+    placed(0x080fc000, 1, 1, swaps, 126);
+    placed(0x080fe000, 1, 0, 0, 0); /* over two banks */
+    placed(0x081fe000, 1, 0, 0, 0); /* over the end */
+    placed(0x081fd000, 1, 0, 0, 0); /* no page begins there */
+    placed(0x08200000, 1, 0, 0, 0);
+    placed(0x07ffc000, 1, 0, 0, 0);
+    placed(0x0c1fc000, 1, 0, 0, 0); /* the secure program's */
+    placed(0x08100000, 64, 1, 1 ^ swaps, 0);
+    placed(0x08100000, 65, 0, 0, 0);
+    placed(0x081fc000, UINT32_MAX, 0, 0, 0);
+}
+
+/* Places by the size of the flash, with two banks and with one. */
+static void sizes(uint32_t swaps) {
+    uint32_t all[] = {128, 256, 512, 1024, 2048, 4096}, unknown[] = {0, 8192, 0xffff};
+    for (int i = 0; i < 6; i++) {
+        uint32_t kb = flash_kb = all[i], last = 0x08000000 + 1024 * kb - 0x4000, half = 0x08000000 + 512 * kb - 0x4000;
+        int has_size = CORR == DET ? HAS_BANKS || kb <= 1024 : kb <= 2048, has_one = kb <= 256 || kb == 1024 || !HAS_BANKS;
+        options |= CORR == DET ? 1u << 21 : 0;
+        power();
+        placed(last, 1, has_size, 1 ^ swaps, kb / 16 - 2);
+        if (HAS_BANKS) placed(half, 1, has_size, swaps, kb / 16 - 2), placed(half + 0x2000, 1, 0, 0, 0);
+        if (CORR != DET) continue;
+        options &= ~(1u << 21);
+        power();
+        placed(last, 1, has_size && has_one, 0, kb / 8 - 2);
+        placed(half + 0x2000, 1, has_size && has_one, 0, kb / 16 - 1);
+    }
+    for (int i = 0; i < 3; i++) flash_kb = unknown[i], options |= 1u << 21, power(), placed(0x08080000, 1, 0, 0, 0);
+}
+
 /* Where pages are, by the size of the flash and the options. */
 static void places(void) {
-    for (uint32_t swaps = 0; swaps < 2; swaps++) {
+    for (uint32_t swaps = 0; swaps <= HAS_BANKS; swaps++) {
         new_part(CACHE_ON, swaps, 0, 1);
-        placed(0x081fc000, 1, 1, 1 ^ swaps, 126);
-        placed(0x080fc000, 1, 1, swaps, 126);
-        placed(0x080fe000, 1, 0, 0, 0); /* over two banks */
-        placed(0x081fe000, 1, 0, 0, 0); /* over the end */
-        placed(0x081fd000, 1, 0, 0, 0); /* no page begins there */
-        placed(0x08200000, 1, 0, 0, 0);
-        placed(0x07ffc000, 1, 0, 0, 0);
-        placed(0x0c1fc000, 1, 0, 0, 0); /* the secure program's */
-        placed(0x08100000, 64, 1, 1 ^ swaps, 0);
-        placed(0x08100000, 65, 0, 0, 0);
-        placed(0x081fc000, UINT32_MAX, 0, 0, 0);
-        options |= 1u << 31; /* with TrustZone the NMI is the secure program's, unless that gave it away */
+        if (HAS_BANKS) two_banks(swaps);
+        if (CORR == DET) options |= 1u << 31; /* with TrustZone the NMI is the secure program's, unless that gave it away */
+        else trust = 0xb4000000;
         power();
-        placed(0x081fc000, 1, 0, 0, 0);
+        placed(0x080fc000, 1, 0, 0, 0);
         aircr = 1u << 13;
-        placed(0x081fc000, 1, 1, 1 ^ swaps, 126);
-        uint32_t sizes[] = {128, 256, 512, 1024, 2048, 4096};
-        for (int i = 0; i < 6; i++) {
-            uint32_t last = 0x08000000 + 1024 * sizes[i] - 0x4000, half = 0x08000000 + 512 * sizes[i] - 0x4000;
-            flash_kb = sizes[i], options |= 1u << 21;
-            power();
-            placed(last, 1, 1, 1 ^ swaps, sizes[i] / 16 - 2);
-            placed(half, 1, 1, swaps, sizes[i] / 16 - 2);
-            placed(half + 0x2000, 1, 0, 0, 0);
-            options &= ~(1u << 21);
-            power();
-            placed(last, 1, sizes[i] <= 256 || sizes[i] == 1024, 0, sizes[i] / 8 - 2);
-            placed(half + 0x2000, 1, sizes[i] <= 256 || sizes[i] == 1024, 0, sizes[i] / 16 - 1);
-        }
-        uint32_t unknown[] = {0, 8192, 0xffff};
-        for (int i = 0; i < 3; i++) flash_kb = unknown[i], options |= 1u << 21, power(), placed(0x08080000, 1, 0, 0, 0);
+        placed(0x080fc000, 1, 1, swaps, 126);
+        if (HAS_BANKS) sizes(swaps);
     }
+    if (HAS_BANKS) return;
+    flash_kb = 512, placed(0x0807c000, 1, 1, 0, 62), placed(0x0807e000, 1, 0, 0, 0);
+    flash_kb = 2048, placed(0x080fc000, 1, 0, 0, 0); /* a WBA6 with two banks */
 }
 
 /* Each read of a torn word tells it, and reads of its neighbours do not; so it is behind a corrected error in the program. */
@@ -420,19 +498,19 @@ static void torn(uint32_t cache_register) {
     for (uint32_t i = 0; i < 8; i++) CHECK(flash.program(&part, 0, i, 7 + i) == 0);
     states[3] = states[4] = states[5] = TORN;
     states[6] = states[9] = states[11] = CORRECTED; /* 9 and 11 are all ones */
-    for (uint32_t n = 0; n < 4000; n++) {
+    for (uint32_t n = 0; n < 1500; n++) {
         uint32_t place = below(12), is_torn = (place >= 3 && place <= 5) || place == 9 || place == 11;
-        if (below(4) == 0) tell(below(100) * 16, CORRECTION);
+        if (below(4) == 0) tell(below(100) * BY, CORRECTION);
         if (below(4) == 0) read_by_others(12);
         for (uint32_t again = below(3); again < 3; again++) {
             uint32_t status = flash.word(&part, 0, place, &value);
             CHECK(status == (is_torn ? EE_TORN : 0));
             CHECK(status != 0 || value == (place < 8 ? 7 + place : UINT64_MAX));
-            CHECK((registers.eccr & DETECTION) == 0);
+            CHECK((R(DET) & DETECTION) == 0);
         }
     }
-    tell(96, CORRECTION);
-    uint32_t stood = registers.eccr;
+    tell(6 * BY, CORRECTION);
+    uint32_t stood = R(CORR);
     CHECK(flash.word(&part, 0, 0, &value) == 0 && part.corrected == stood);
     CHECK(is_as_before());
     steps = 0, fails_in = 1, fault = SILENT;
@@ -475,6 +553,23 @@ static void halves(void) {
     CHECK(ee_open(&store, &flash) == EE_OK && ee_counts(&store, &numbers) == EE_OK && numbers.torn == 2);
 }
 
+/* Cuts that leave a unit which no flag tells: its halves do, so each start is well, and nothing is lost. */
+static void virgin(void) {
+    is_virgin = 1;
+    for (uint32_t n = 0; n < 1000; n++) {
+        ee_flash flash = new_part(CACHE_ON, 0, 1, 1);
+        ee_store store;
+        uint32_t value, wanted = any_bits();
+        CHECK(ee_start(&store, &flash) == EE_OK && ee_write(&store, 9, 90) == EE_OK && ee_write(&store, 1, ~wanted) == EE_OK);
+        steps = 0, fails_in = 1, fault = POWER;
+        CHECK(ee_write(&store, 1, wanted) != EE_NOTHING);
+        power();
+        CHECK(ee_start(&store, &flash) == EE_OK && ee_read(&store, 9, &value) == EE_OK && value == 90);
+        CHECK(ee_read(&store, 1, &value) == EE_OK && (value == wanted || value == ~wanted));
+    }
+    is_virgin = 0;
+}
+
 int main(void) {
     static const model here = {cut, is_cut, power};
     for (int with_cuts = 0; with_cuts < 2; with_cuts++) {
@@ -490,8 +585,9 @@ int main(void) {
     halves();
     addresses();
     places();
-    for (enum fault kind = WRITE_PROTECTED; kind <= CACHE_STAYS_BUSY; kind++) failing(kind);
+    for (enum fault kind = WRITE_PROTECTED; kind <= HELD_OFF; kind++) failing(kind);
     untaken();
-    CHECK(waited > 0 && lies > 1000 && faints > 1000 && late > 1000);
+    virgin();
+    CHECK(untold > 100 && waited > 0 && lies > 1000 && faints > 1000 && late > 1000);
     return 0;
 }

@@ -5,16 +5,18 @@ pub enum Job {
     Run,
     BrownOuts,
     Crowded,
+    Refused,
     Certify,
     Settings,
     Parts,
 }
 
 /// Each of them.
-pub const JOBS: [Job; 6] = [
+pub const JOBS: [Job; 7] = [
     Job::Run,
     Job::BrownOuts,
     Job::Crowded,
+    Job::Refused,
     Job::Certify,
     Job::Settings,
     Job::Parts,
@@ -28,6 +30,8 @@ impl Job {
             Job::Run => ("run", 8, 512, 1000),
             Job::BrownOuts => ("brown-outs", 2, 256, 100),
             Job::Crowded => ("crowded", 64, 512, 30000),
+            // As many as there are slots.
+            Job::Refused => ("refused", 16, 512, 8128),
             Job::Certify => ("certify", 4, 512, 500),
             Job::Settings => ("settings", 4, 512, 300),
             Job::Parts => ("parts", 32, 512, 2000),

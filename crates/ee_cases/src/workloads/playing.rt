@@ -1,5 +1,6 @@
 //! Jobs that answer scripts.
 use super::part::Part;
+use ee_shell::format_image;
 
 /// A firmware's day: some of a thousand variables are written often.
 pub fn run(part: &mut Part) {
@@ -22,6 +23,15 @@ pub fn brown_outs(part: &mut Part) {
         part.end("p\nc\n");
     }
     answer(part);
+}
+
+/// A new part is filled, so that each further variable is refused.
+pub fn refused(part: &mut Part) {
+    part.put(format_image(part.alloc, part.shape));
+    part.text.clear();
+    part.write_filling();
+    part.write_new(2000);
+    part.answer(true);
 }
 
 /// Answers the script four times, each time on the image that the time before left.

@@ -61,6 +61,17 @@ impl Part {
         }
     }
 
+    /// Writes so many lines that write variables beside those of the part.
+    pub fn write_new(&mut self, lines: u32) {
+        for _ in 0..lines {
+            let address = 1 + self.any(0) % 65534;
+            self.push("w ", address);
+            let value = self.dice.below(u32::MAX);
+            self.push(" ", u64::from(value));
+            self.end("\n");
+        }
+    }
+
     /// Writes a line that cuts power within so many steps, with any of the four outcomes.
     pub fn write_cut(&mut self, within: u32) {
         let steps = self.dice.below(within);

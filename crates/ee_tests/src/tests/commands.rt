@@ -34,7 +34,7 @@ wear IMAGE [BEFORE]
 states IMAGE
 clean IMAGE
 rescue IMAGE
-clear IMAGE";
+forget-all --force IMAGE";
 
 /// A line of each row of the help, and where words may be left out one with them and one without.
 const LINES: &str = "\
@@ -68,7 +68,8 @@ ee wear a.image b.image
 ee states a.image
 ee clean a.image
 ee rescue a.image
-ee clear a.image
+ee forget-all a.image
+ee forget-all --force a.image
 ee --help
 ee -h
 ee help
@@ -296,7 +297,10 @@ fn told_of_parts(job: &Job<'_>, found: &ArgMatches<'_>) -> (&'static str, bool) 
         Job::States { image } => ("states", has(found, "IMAGE", Some(image))),
         Job::Clean { image } => ("clean", has(found, "IMAGE", Some(image))),
         Job::Rescue { image } => ("rescue", has(found, "IMAGE", Some(image))),
-        Job::Clear { image } => ("clear", has(found, "IMAGE", Some(image))),
+        Job::ForgetAll { force, image } => (
+            "forget-all",
+            (found.get_flag("--force") == force) & has(found, "IMAGE", Some(image)),
+        ),
         Job::Inspect { image } => ("inspect", has(found, "IMAGE", Some(image))),
         _ => ("", false),
     }

@@ -86,7 +86,7 @@ const CALLS: &[(Call, u64)] = &[
     (Call::Text(Text::Header, HEADER), 2),
     (Call::Change(Change::Clean), 4),
     (Call::Change(Change::Rescue), 4),
-    (Call::Change(Change::Clear), 4),
+    (Call::Change(Change::ForgetAll), 4),
     (Call::Change(Change::Set), 5),
     (Call::Change(Change::Tidy), 6),
     (Call::Change(Change::Apply), 5),

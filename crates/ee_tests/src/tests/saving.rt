@@ -9,13 +9,13 @@ use std::fs;
 
 /// The calls by which a plain file is replaced.
 const REPLACING: &str =
-    "find resolve open lock examine find read read create examine mode write sync rename";
+    "find resolve open lock examine find read read create lock examine mode write sync rename";
 
 /// The calls by which it is written in place, where none can be made beside it.
 const IN_PLACE: &str = "find resolve open lock examine find read read seek write length";
 
 /// How many calls these are.
-const WAYS: [(bool, &'static str, u64); 2] = [(false, REPLACING, 14), (true, IN_PLACE, 11)];
+const WAYS: [(bool, &'static str, u64); 2] = [(false, REPLACING, 15), (true, IN_PLACE, 11)];
 
 /// What saving answers.
 type Answer = Result<(), SaveFault>;
@@ -66,7 +66,7 @@ fn saves(rt: &HostRuntime, trail: &Trail<'_>, wanted: Answer) -> bool {
 fn goes_on(is_bare: bool, call: u64) -> bool {
     match call {
         2 | 4 => true,
-        9..=11 => !is_bare,
+        9..=12 => !is_bare,
         _ => false,
     }
 }

@@ -1,4 +1,4 @@
-/* The library twice: as ee_*, and made of ee.c as made_*. And a flash of which every step is noted. */
+/* The store twice: the Rust package as ee_*, and ee.c as made_*. */
 #ifndef BOTH_H
 #define BOTH_H
 
@@ -40,7 +40,7 @@ struct answer {
     ee_numbers numbers;
 };
 
-/* Makes a call by ee.c, or by the library. */
+/* Makes a call by ee.c, or by the package. */
 static inline struct answer make(bool by_made, ee_store *store, const ee_flash *flash,
                                  const struct made_call *it) {
     struct answer out = {0, it->address, it->value, {9, 9, 9, 9, 9, 9}};

@@ -1,5 +1,5 @@
-/* Every image of sets of one slot that calls and cuts reach, up to a generation: ee.c and the library
- * do the same from each.
+/* Every image of sets of one slot that calls and cuts reach, up to a generation: ee.c and the
+ * Rust package do the same from each.
  *
  *     images PAIRS GENERATION
  *
@@ -34,7 +34,7 @@ struct started {
     struct answer answer;
 };
 
-/* By ee.c and by the library: the part, its driver and the store, and what a call goes on from. */
+/* By ee.c and by the package: the part, its driver and the store, and what a call goes on from. */
 static struct part parts[2];
 static ee_flash flashes[2];
 static ee_store stores[2];

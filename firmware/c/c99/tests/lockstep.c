@@ -1,7 +1,8 @@
-/* Lockstep: ee.c and the library make the same calls of their drivers, in the same order, leave the
- * same flash, and answer the same; over random flashes and calls, with cuts and failing reads.
+/* Lockstep: ee.c and the Rust package make the same calls of their drivers, in the same order, leave
+ * the same flash, and answer the same; over random flashes and calls, with cuts and failing reads.
+ * With an index, in ee.c alone, other words are read, so reads are neither noted nor do they fail.
  *
- *     lockstep PAIRS SEED CALLS
+ *     lockstep PAIRS SEED CALLS [index]
  */
 #include <stdio.h>
 #include <stdlib.h>
@@ -16,13 +17,14 @@ struct part {
     uint64_t numbers[MOST_PLACES];
     uint8_t torn[MOST_PLACES];
     uint32_t pages, places;
-    uint64_t seed, trace;
+    uint64_t seed, seed_of_reads, trace;
     int64_t steps_left;
     bool is_of_pairs, is_cut;
 };
 
-static uint64_t seed, calls, cuts;
+static uint64_t seed, calls, cuts, calls_by_index;
 static uint32_t pairs, clears_first;
+static bool by_index;
 
 static uint64_t below(uint64_t bound) { return next_number(&seed) % bound; }
 
@@ -38,7 +40,7 @@ static uint32_t place_of(const struct part *part, uint32_t page, uint32_t at) {
 
 static uint32_t word(void *context, uint32_t page, uint32_t at, uint64_t *value) {
     struct part *part = context;
-    note(&part->trace, 1 + 4 * ((uint64_t)page << 16 | at));
+    if (!by_index) note(&part->trace, 1 + 4 * ((uint64_t)page << 16 | at));
     uint32_t place = place_of(part, page, at);
     *value = part->numbers[place];
     if (part->torn[place] == READ_FAULT) return EE_READ_FAILED;
@@ -48,11 +50,11 @@ static uint32_t word(void *context, uint32_t page, uint32_t at, uint64_t *value)
 /* The numbers where they stand, but every third time or so, and where one of them can't be read. */
 static const uint64_t *words(void *context, uint32_t page, uint32_t at, uint32_t count) {
     struct part *part = context;
-    note(&part->trace, 4 + 4 * ((uint64_t)page << 32 | (uint64_t)at << 8 | count));
+    if (!by_index) note(&part->trace, 4 + 4 * ((uint64_t)page << 32 | (uint64_t)at << 8 | count));
     if (count == 0 || count > (uint32_t)EE_RUN << pairs) fail("another count of words");
     uint32_t first = place_of(part, page, at);
     place_of(part, page, at + count - 1);
-    bool is_well = next_number(&part->seed) % 3 != 0;
+    bool is_well = next_number(&part->seed_of_reads) % 3 != 0;
     for (uint32_t i = 0; i < count; i++) is_well = is_well && !part->torn[first + i];
     return is_well ? part->numbers + first : NULL;
 }
@@ -107,6 +109,8 @@ static uint32_t erase(void *context, uint32_t page) {
 
 static struct part ours, theirs;
 static ee_flash our_flash, their_flash;
+static ee_entry entries[96];
+static ee_index our_index;
 static ee_store our_store, their_store;
 
 /* Makes a call on both, and holds them against each other. */
@@ -115,8 +119,10 @@ static ee_result both(const struct made_call *it) {
     struct answer a = make(true, &our_store, &our_flash, it);
     struct answer b = make(false, &their_store, &their_flash, it);
     calls++;
+    calls_by_index += by_index && !our_index.is_given_up;
     if (!is_same(&a, &b)) fail("another answer");
     if (ours.trace != theirs.trace || ours.seed != theirs.seed) fail("other calls of the driver");
+    if (!by_index && ours.seed_of_reads != theirs.seed_of_reads) fail("other reads");
     if (memcmp(ours.numbers, theirs.numbers, sizeof ours.numbers) != 0) fail("another flash");
     if (memcmp(ours.torn, theirs.torn, sizeof ours.torn) != 0) fail("another flash");
     return a.status;
@@ -165,6 +171,7 @@ static void begin(uint32_t addresses) {
     ours.pages = 2 * pages;
     ours.places = page_words << pairs;
     ours.seed = next_number(&seed) | 1;
+    ours.seed_of_reads = next_number(&seed) | 1;
     ours.steps_left = -1;
     ours.is_of_pairs = pairs != 0;
     fill(addresses, page_words);
@@ -174,6 +181,10 @@ static void begin(uint32_t addresses) {
                            .words = below(2) == 0 ? words : NULL};
     their_flash = our_flash;
     their_flash.context = &theirs;
+    /* With room for all, or for some. */
+    our_index = (ee_index)EE_INDEX_IN(entries);
+    if (below(2) == 0) our_index.list.room.len = (uint32_t)below(addresses);
+    if (by_index) our_flash.index = &our_index;
 }
 
 /* Any call, on one of so many addresses. */
@@ -235,8 +246,8 @@ static void run(void) {
     for (uint64_t left = 30 + below(300); left > 0; left--) {
         int64_t steps = (int64_t)below(below(2) == 0 ? 4 : 40);
         ours.steps_left = theirs.steps_left = below(6) == 0 ? steps : -1;
-        if (below(20) == 0) read_damaged(addresses);
-        if (below(50) == 0) {
+        if (!by_index && below(20) == 0) read_damaged(addresses);
+        if (!by_index && below(50) == 0) {
             call_with_a_fault(addresses);
         } else {
             any_call(addresses);
@@ -255,13 +266,15 @@ static void run(void) {
 }
 
 int main(int argc, char **argv) {
-    if (argc != 4) return 2;
+    if (argc != 4 && argc != 5) return 2;
+    by_index = argc == 5;
     clears_first = atoi(argv[1]) == 2;
     pairs = atoi(argv[1]) != 0;
     seed = strtoull(argv[2], NULL, 10) * 2 + 1;
     uint64_t wanted = strtoull(argv[3], NULL, 10);
     while (calls < wanted) run();
-    printf("lockstep, pairs %u: %llu calls, %llu cuts, the same\n", (unsigned)(pairs << clears_first),
+    if (by_index && calls_by_index < calls / 4) fail("an index that is in use too seldom");
+    printf("lockstep%s, pairs %u: %llu calls, %llu cuts, the same\n", by_index ? " by an index" : "", (unsigned)(pairs << clears_first),
            (unsigned long long)calls, (unsigned long long)cuts);
     return 0;
 }

@@ -217,7 +217,7 @@ pub struct Noted<const RUNS: bool>;
 impl<const RUNS: bool, const W: usize, const R: usize, const S: usize> Ecc<Memory<W, R, S>>
     for Noted<RUNS>
 {
-    fn read(
+    fn read_bytes(
         &self,
         flash: &mut Memory<W, R, S>,
         byte: u32,

@@ -1,48 +1,45 @@
 //! The kinds of flash that are tried: what each writes, reads and erases at a time, and its driver.
 
 use crate::flash::{Cells, Cut, Memory, Noted};
-use ee_store::nor::{Clearing, Ecc, Misfit, NorDriver, NorFault, Plain};
-use ee_store::{Driver, Shape, Word};
+use ee_store::nor::{Ecc, NorDriver, Plain};
+use ee_store::Kind::{Pairs, PairsClearing, Words};
+use ee_store::{Driver, NorError, Shape, Unfit, Word};
 use std::cell::RefCell;
 use std::rc::Rc;
 
 /// A driver of one of the kinds.
-pub struct Part(Box<dyn Driver<Error = NorFault<Cut>>>);
+pub struct Part(Box<dyn Driver<Error = NorError<Cut>>>);
 
 impl Driver for Part {
-    type Error = NorFault<Cut>;
+    type Error = NorError<Cut>;
 
     fn shape(&self) -> Shape {
         self.0.shape()
     }
 
-    fn word(&self, page: usize, at: usize) -> Result<Word, NorFault<Cut>> {
+    fn kind(&self) -> ee_store::Kind {
+        self.0.kind()
+    }
+
+    fn word(&self, page: usize, at: usize) -> Result<Word, NorError<Cut>> {
         self.0.word(page, at)
     }
 
-    fn read_run(&self, page: usize, at: usize, room: &mut [u64]) -> Result<(), NorFault<Cut>> {
+    fn read_run(&self, page: usize, at: usize, room: &mut [u64]) -> Result<(), NorError<Cut>> {
         self.0.read_run(page, at, room)
     }
 
-    fn program(&mut self, page: usize, at: usize, value: u64) -> Result<(), NorFault<Cut>> {
+    fn program(&mut self, page: usize, at: usize, value: u64) -> Result<(), NorError<Cut>> {
         self.0.program(page, at, value)
     }
 
-    fn erase(&mut self, page: usize) -> Result<(), NorFault<Cut>> {
+    fn erase(&mut self, page: usize) -> Result<(), NorError<Cut>> {
         self.0.erase(page)
-    }
-
-    fn keeps_erased(&self) -> bool {
-        self.0.keeps_erased()
-    }
-
-    fn clears_first(&self) -> bool {
-        self.0.clears_first()
     }
 }
 
 /// Makes a driver of a flash with a store of this shape, which begins at the second sector.
-type Make = fn(Rc<RefCell<Cells>>, Shape) -> Result<Part, Misfit<Cut>>;
+type Make = fn(Rc<RefCell<Cells>>, Shape) -> Result<Part, Unfit>;
 
 #[derive(Clone, Copy, Debug)]
 pub struct Kind {
@@ -50,87 +47,60 @@ pub struct Kind {
     pub unit: usize,
     pub sector: usize,
     pub has_ecc: bool,
-    /// Whether an erase clears the cells of its sector first.
-    pub clears_first: bool,
+    /// What a word is made of.
+    pub words: ee_store::Kind,
     /// The bytes of a word of the store.
     pub word_bytes: usize,
     pub new: Make,
-    pub wipe: Make,
 }
 
 impl Kind {
-    const fn of<E, const W: usize, const R: usize, const S: usize>(has_ecc: bool) -> Kind
+    const fn of<E, const W: usize, const R: usize, const S: usize>(
+        has_ecc: bool,
+        words: ee_store::Kind,
+        new: Make,
+    ) -> Kind
     where
-        E: Ecc<Memory<W, R, S>> + Reader + 'static,
+        E: Ecc<Memory<W, R, S>>,
     {
         Kind {
             unit: W,
             sector: S,
             has_ecc,
-            clears_first: E::CLEARS_FIRST,
+            words,
             word_bytes: NorDriver::<Memory<W, R, S>, E>::WORD_BYTES,
-            new: |cells, shape| {
-                let made = NorDriver::new(Memory::<W, R, S>(cells), S as u32, shape, E::READER);
-                made.map(|it| Part(Box::new(it)))
-                    .map_err(|(_, misfit)| misfit)
-            },
-            wipe: |cells, shape| {
-                let made = NorDriver::wipe(Memory::<W, R, S>(cells), S as u32, shape, E::READER);
-                made.map(|it| Part(Box::new(it)))
-                    .map_err(|(_, misfit)| misfit)
-            },
+            new,
         }
     }
-
-    const fn sectors<E, const W: usize, const R: usize>(has_ecc: bool) -> [Kind; 8]
-    where
-        E: Ecc<Memory<W, R, 128>> + Ecc<Memory<W, R, 256>> + Ecc<Memory<W, R, 512>>,
-        E: Ecc<Memory<W, R, 1024>> + Ecc<Memory<W, R, 2048>> + Ecc<Memory<W, R, 4096>>,
-        E: Ecc<Memory<W, R, 8192>> + Ecc<Memory<W, R, 16384>> + Reader + 'static,
-    {
-        [
-            Kind::of::<E, W, R, 128>(has_ecc),
-            Kind::of::<E, W, R, 256>(has_ecc),
-            Kind::of::<E, W, R, 512>(has_ecc),
-            Kind::of::<E, W, R, 1024>(has_ecc),
-            Kind::of::<E, W, R, 2048>(has_ecc),
-            Kind::of::<E, W, R, 4096>(has_ecc),
-            Kind::of::<E, W, R, 8192>(has_ecc),
-            Kind::of::<E, W, R, 16384>(has_ecc),
-        ]
-    }
 }
 
-/// What reads a flash, as a constant.
-trait Reader {
-    const READER: Self;
-    const CLEARS_FIRST: bool = false;
+/// The kinds of flash that write and read so many bytes at a time, by each size of sectors.
+macro_rules! sectors {
+    ($ecc:ident, $reader:expr, $write:literal, $read:literal, $has_ecc:literal, $words:ident) => {
+        sectors!($ecc, $reader, $write, $read, $has_ecc, $words, 128 256 512 1024 2048 4096 8192 16384)
+    };
+    ($ecc:ident, $reader:expr, $write:literal, $read:literal, $has_ecc:literal, $words:ident, $($sector:literal)*) => {
+        [$(Kind::of::<$ecc, $write, $read, $sector>($has_ecc, $words, |cells, shape| {
+            let flash = Memory::<$write, $read, $sector>(cells);
+            Ok(Part(Box::new(NorDriver::new(flash, $sector, shape, $words, $reader)?)))
+        })),*]
+    };
 }
 
-impl Reader for Plain {
-    const READER: Plain = Plain;
-}
-
-impl Reader for Clearing {
-    const READER: Clearing = Clearing;
-    const CLEARS_FIRST: bool = true;
-}
-
-impl<const RUNS: bool> Reader for Noted<RUNS> {
-    const READER: Noted<RUNS> = Noted;
-}
+type Single = Noted<false>;
+type Several = Noted<true>;
 
 /// Each size of writes with each size of sectors.
 pub fn all() -> impl Iterator<Item = Kind> {
     [
-        Kind::sectors::<Plain, 1, 1>(false),
-        Kind::sectors::<Plain, 2, 8>(false),
-        Kind::sectors::<Plain, 4, 4>(false),
-        Kind::sectors::<Clearing, 1, 1>(false),
-        Kind::sectors::<Noted<true>, 8, 8>(true),
-        Kind::sectors::<Noted<false>, 16, 1>(true),
-        Kind::sectors::<Plain, 16, 16>(false),
-        Kind::sectors::<Noted<true>, 32, 32>(true),
+        sectors!(Plain, Plain, 1, 1, false, Pairs),
+        sectors!(Plain, Plain, 2, 8, false, Pairs),
+        sectors!(Plain, Plain, 4, 4, false, Pairs),
+        sectors!(Plain, Plain, 1, 1, false, PairsClearing),
+        sectors!(Several, Noted::<true>, 8, 8, true, Words),
+        sectors!(Single, Noted::<false>, 16, 1, true, Words),
+        sectors!(Plain, Plain, 16, 16, false, Words),
+        sectors!(Several, Noted::<true>, 32, 32, true, Words),
     ]
     .into_iter()
     .flatten()

@@ -7,9 +7,7 @@
 mod flash;
 mod kinds;
 
-use ee_store::nor::Misfit;
-use ee_store::{format, start, Address, ForgetFault, Put, Shape, Store};
-use ee_store::{WriteAllFault, WriteFault};
+use ee_store::{Address, Error, OpenError, Put, Shape, Store};
 use flash::{Cells, Chance};
 use kinds::{Kind, Part};
 use std::cell::RefCell;
@@ -66,17 +64,17 @@ impl Call {
         match self {
             Call::Write(number, value) => match store.write(address(*number), *value) {
                 Ok(_) => Some(true),
-                Err(WriteFault::Full) => Some(false),
+                Err(Error::Full) => Some(false),
                 Err(_) => None,
             },
             Call::Forget(number) => match store.forget(address(*number)) {
                 Ok(_) => Some(true),
-                Err(ForgetFault::Absent) => Some(false),
+                Err(Error::Absent) => Some(false),
                 Err(_) => None,
             },
             Call::WriteAll(values) => match store.write_all(&puts(values)) {
                 Ok(_) => Some(true),
-                Err(WriteAllFault::Full) => Some(false),
+                Err(Error::Full) => Some(false),
                 Err(_) => None,
             },
             Call::CleanStep => store.clean_step().ok().map(|_| true),
@@ -105,10 +103,10 @@ type Flash = Rc<RefCell<Cells>>;
 impl Trial {
     fn blank(&self) -> Cells {
         let page = self.shape.words() * self.kind.word_bytes;
-        let sectors = (page + self.kind.sector - 1) / self.kind.sector;
+        let sectors = page.div_ceil(self.kind.sector);
         let all = 2 + 2 * self.shape.pages() * sectors;
         let cells = Cells::blank(self.kind.unit, self.kind.sector, all, self.kind.has_ecc);
-        match self.kind.clears_first {
+        match self.kind.words == ee_store::Kind::PairsClearing {
             true => cells.clearing(),
             false => cells,
         }
@@ -116,8 +114,7 @@ impl Trial {
 
     /// The store of a flash. `None` where power was cut in its opening.
     fn open(&self, flash: &Flash) -> Option<Store<Part>> {
-        let driver = (self.kind.new)(flash.clone(), self.shape);
-        start(driver.unwrap_or_else(|misfit| panic!("{misfit}"))).ok()
+        Store::open_or_format((self.kind.new)(flash.clone(), self.shape).expect("it fits")).ok()
     }
 
     /// The map of a store that no cut disturbs any more, and its flash.
@@ -169,23 +166,21 @@ impl Trial {
         }
     }
 
-    /// A flash of a program's bytes is refused where a word is a value beside its complement. Wiped and formatted it has a
-    /// store, and nothing was touched before and behind it.
+    /// A flash of a program's bytes is refused. Formatted it has a store, and nothing was touched before and behind it.
     fn refuse_foreign(&self) {
         let flash = Rc::new(RefCell::new(self.blank()));
         flash.borrow_mut().bytes.fill(0x2a);
         let bytes = flash.borrow().bytes.clone();
-        if self.kind.clears_first {
-            assert!(self.open(&flash).is_none());
-            assert_eq!(flash.borrow().bytes, bytes);
-        } else if self.kind.unit != 8 {
-            let refused = (self.kind.new)(flash.clone(), self.shape);
-            assert!(matches!(refused, Err(Misfit::Low(low)) if (low.page, low.word) == (0, 0)));
-            assert_eq!(flash.borrow().bytes, bytes);
+        let driver = || (self.kind.new)(flash.clone(), self.shape).expect("it fits");
+        let refused = Store::open_or_format(driver()).err();
+        match self.kind.words {
+            ee_store::Kind::Pairs => {
+                assert_eq!(refused, Some(OpenError::Foreign { page: 0, at: 0 }));
+            }
+            _ => assert_eq!(refused, Some(OpenError::NoLiveSet)),
         }
-        let wiped = (self.kind.wipe)(flash.clone(), self.shape);
-        let driver = wiped.unwrap_or_else(|misfit| panic!("{misfit}"));
-        assert!(format(driver).is_ok());
+        assert_eq!(flash.borrow().bytes, bytes);
+        assert!(Store::format(driver()).is_ok());
         let cells = flash.borrow().clone();
         let (sector, end) = (self.kind.sector, bytes.len());
         assert_eq!(cells.bytes[..sector], bytes[..sector]);

@@ -3,8 +3,8 @@
 
 pub mod image;
 
-use ee_store::{Driver, NumberDriver, Pairs};
-pub use ee_store::{Shape, Word};
+use ee_store::Driver;
+pub use ee_store::{Kind, Shape, Word};
 use std::cell::RefCell;
 use std::fmt;
 use std::rc::Rc;
@@ -225,53 +225,9 @@ impl Part {
 pub struct Shared(pub Rc<RefCell<Part>>);
 
 impl Shared {
-    /// A part to be shared. If it has numbers, they are those of a store.
+    /// A part to be shared.
     pub fn new(part: Part) -> Shared {
-        let has_numbers = part.has_numbers();
-        let shared = Shared(Rc::new(RefCell::new(part)));
-        if has_numbers {
-            let found = Pairs::of(Numbers(shared.clone()));
-            assert_eq!(
-                found.err().map(|(_, fault)| fault),
-                None,
-                "no two numbers are low"
-            );
-        }
-        shared
-    }
-
-    // The words of its numbers, None if it has words.
-    fn pairs(&self) -> Option<Pairs<Numbers>> {
-        let has_numbers = self.0.borrow().has_numbers();
-        has_numbers.then(|| Pairs::known(Numbers(self.clone())))
-    }
-}
-
-/// The numbers of a part that is shared.
-#[derive(Clone)]
-pub struct Numbers(pub Shared);
-
-impl NumberDriver for Numbers {
-    type Error = PowerCut;
-
-    fn shape(&self) -> Shape {
-        self.0 .0.borrow().shape
-    }
-
-    fn clears_first(&self) -> bool {
-        self.0 .0.borrow().clears_first
-    }
-
-    fn read(&self, page: usize, at: usize) -> Result<u64, PowerCut> {
-        Ok(self.0 .0.borrow().numbers[page][at])
-    }
-
-    fn program(&mut self, page: usize, at: usize, number: u64) -> Result<(), PowerCut> {
-        self.0 .0.borrow_mut().program_number(page, at, number)
-    }
-
-    fn erase(&mut self, page: usize) -> Result<(), PowerCut> {
-        self.0 .0.borrow_mut().erase_numbers(page)
+        Shared(Rc::new(RefCell::new(part)))
     }
 }
 
@@ -282,32 +238,36 @@ impl Driver for Shared {
         self.0.borrow().shape
     }
 
-    fn word(&self, page: usize, at: usize) -> Result<Word, PowerCut> {
-        match self.pairs() {
-            Some(pairs) => pairs.word(page, at),
-            None => Ok(self.0.borrow().pages[page][at]),
+    fn kind(&self) -> Kind {
+        let part = self.0.borrow();
+        match (part.has_numbers(), part.clears_first) {
+            (false, _) => Kind::Words,
+            (true, false) => Kind::Pairs,
+            (true, true) => Kind::PairsClearing,
         }
     }
 
+    fn word(&self, page: usize, at: usize) -> Result<Word, PowerCut> {
+        let part = self.0.borrow();
+        Ok(match part.has_numbers() {
+            true => Word::from(part.numbers[page][at]),
+            false => part.pages[page][at],
+        })
+    }
+
     fn program(&mut self, page: usize, at: usize, value: u64) -> Result<(), PowerCut> {
-        match self.pairs() {
-            Some(mut pairs) => pairs.program(page, at, value),
-            None => self.0.borrow_mut().program(page, at, value),
+        let mut part = self.0.borrow_mut();
+        match part.has_numbers() {
+            true => part.program_number(page, at, value),
+            false => part.program(page, at, value),
         }
     }
 
     fn erase(&mut self, page: usize) -> Result<(), PowerCut> {
-        match self.pairs() {
-            Some(mut pairs) => pairs.erase(page),
-            None => self.0.borrow_mut().erase(page),
+        let mut part = self.0.borrow_mut();
+        match part.has_numbers() {
+            true => part.erase_numbers(page),
+            false => part.erase(page),
         }
-    }
-
-    fn keeps_erased(&self) -> bool {
-        self.0.borrow().has_numbers() && !self.0.borrow().clears_first
-    }
-
-    fn clears_first(&self) -> bool {
-        self.0.borrow().clears_first
     }
 }

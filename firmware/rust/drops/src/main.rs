@@ -10,9 +10,9 @@
 
 mod part;
 
-use ee_store_async::{format, start, Address, Driver, Error, Put, Store};
-use ee_store_differ::{image, Part, PowerCut};
-use part::{Kind, Numbers, Shared, Words};
+use ee_store::asynch::{Address, Error, Put, Store};
+use ee_store_differ::{image, Part, PowerCut, Shape};
+use part::Shared;
 use std::collections::BTreeMap;
 use std::future::Future;
 use std::io::{self, BufRead};
@@ -58,7 +58,7 @@ impl Call {
         }
     }
 
-    async fn made<D: Driver<Error = PowerCut>>(&self, store: &mut Store<D>) -> Answer {
+    async fn made(&self, store: &mut Store<Shared>) -> Answer {
         match self {
             Call::Write(number, value) => drop(store.write(named(*number), *value).await?),
             Call::WriteAll(values) => {
@@ -103,50 +103,52 @@ fn whole<T>(future: impl Future<Output = T>) -> T {
     polled(future, u64::MAX).unwrap()
 }
 
-fn held<D: Driver<Error = PowerCut>>(store: &Store<D>) -> Map {
-    let found = store.iter().map(|found| found.unwrap());
-    found
-        .map(|(address, value)| (address.get(), value))
-        .collect()
+async fn held(store: &Store<Shared>) -> Map {
+    let (mut map, mut found) = (Map::new(), store.iter());
+    while let Some(found) = found.next().await {
+        let (address, value) = found.unwrap();
+        map.insert(address.get(), value);
+    }
+    map
 }
 
 /// What a part holds once it is opened as a whole.
-fn held_in<K: Kind>(part: &Part) -> Map {
-    let Ok(store) = whole(start(K::words(Shared::new(part)))) else {
-        panic!("{part:?} is not opened");
-    };
-    held(&store)
+fn held_in(part: &Part) -> Map {
+    let store = whole(Store::open_or_format(Shared::new(part)));
+    whole(held(
+        &store.unwrap_or_else(|error| panic!("{part:?}: {error}")),
+    ))
 }
 
 /// Opens a part, dropped at each poll and each time opened again. How many drops that were.
-fn drop_the_opening<K: Kind>(part: &Part) -> u64 {
-    let map = held_in::<K>(part);
+fn drop_the_opening(part: &Part) -> u64 {
+    let map = held_in(part);
     for polls in 0.. {
         let shared = Shared::new(part);
         shared.draw(polls);
-        let mut store = Store::off(K::words(shared.clone()));
+        let mut store = Store::off(shared.clone());
         if polled(store.reopen(), polls).is_some() {
             return polls;
         }
         assert!(!store.is_on());
-        assert_eq!(held_in::<K>(&shared.left()), map);
+        assert_eq!(held_in(&shared.left()), map);
         assert_eq!(whole(store.reopen()), Ok(()));
-        assert_eq!(held(&store), map);
+        assert_eq!(whole(held(&store)), map);
     }
     unreachable!("an opening ends")
 }
 
 /// Makes a call, dropped at each poll, and then as a whole. The part behind the whole call, and how many drops there were.
-fn drop_everywhere<K: Kind>(part: &Part, call: &Call) -> (Part, u64) {
-    let old = held_in::<K>(part);
+fn drop_everywhere(part: &Part, call: &Call) -> (Part, u64) {
+    let old = held_in(part);
     let shared = Shared::new(part);
-    let mut store = whole(start(K::words(shared.clone()))).ok().unwrap();
+    let mut store = whole(Store::open_or_format(shared.clone())).unwrap();
     let answer = whole(call.made(&mut store));
     assert!(store.is_on(), "{call:?} answers {answer:?}");
-    let (new, after) = (held(&store), shared.left());
+    let (new, after) = (whole(held(&store)), shared.left());
     for polls in 0.. {
         let shared = Shared::new(part);
-        let mut store = whole(start(K::words(shared.clone()))).ok().unwrap();
+        let mut store = whole(Store::open_or_format(shared.clone())).unwrap();
         shared.draw(polls + old.len() as u64);
         if let Some(again) = polled(call.made(&mut store), polls) {
             assert_eq!(again, answer);
@@ -155,12 +157,12 @@ fn drop_everywhere<K: Kind>(part: &Part, call: &Call) -> (Part, u64) {
         if polls > 0 {
             // Were the store on, this could program a word that the dropped step has programmed, which the part would tell.
             let off = whole(Call::Write(1, 1).made(&mut store));
-            assert_eq!(off, Err(Error::Off), "{call:?} dropped at {polls}");
-            drop_the_opening::<K>(&shared.left());
+            assert_eq!(off, Err(Error::NotOpen), "{call:?} dropped at {polls}");
+            drop_the_opening(&shared.left());
             assert_eq!(whole(store.reopen()), Ok(()));
         }
         assert!(store.is_on());
-        let map = held(&store);
+        let map = whole(held(&store));
         assert!(
             map == old || map == new,
             "{call:?} dropped at {polls}: {map:?}"
@@ -175,17 +177,17 @@ fn drop_everywhere<K: Kind>(part: &Part, call: &Call) -> (Part, u64) {
 }
 
 /// Makes so many random calls on stores of several sizes. How many drops there were.
-fn random<K: Kind>(count: u64, seed: u64) -> u64 {
+fn random(count: u64, seed: u64, blank: fn(Shape) -> Part) -> u64 {
     let (mut drops, mut dice) = (0, seed);
     let shapes = [(1, 6), (2, 5), (1, 12), (3, 7)];
     for (pages, words) in shapes {
-        let shape = ee_store_differ::Shape::new(pages, words).unwrap();
-        let shared = Shared::new(&K::of(Part::blank(shape)));
-        assert!(whole(format(K::words(shared.clone()))).is_ok());
+        let shape = Shape::new(pages, words).unwrap();
+        let shared = Shared::new(&blank(shape));
+        assert!(whole(Store::format(shared.clone())).is_ok());
         let mut part = shared.left();
         for _ in 0..count / shapes.len() as u64 {
             let call = Call::drawn(&mut dice, shape.slots() as u64 + 1);
-            let (after, more) = drop_everywhere::<K>(&part, &call);
+            let (after, more) = drop_everywhere(&part, &call);
             part = after;
             drops += more;
         }
@@ -194,14 +196,13 @@ fn random<K: Kind>(count: u64, seed: u64) -> u64 {
 }
 
 /// Plays a script on an image that holds a store.
-fn worked<K: Kind>(part: Part, script: &str) -> u64 {
-    let mut part = K::of(part);
-    if whole(ee_store_async::open(K::words(Shared::new(&part)))).is_err() {
+fn worked(mut part: Part, script: &str) -> u64 {
+    if whole(Store::open(Shared::new(&part))).is_err() {
         return 0;
     }
-    let mut drops = drop_the_opening::<K>(&part);
+    let mut drops = drop_the_opening(&part);
     for call in script.lines().filter_map(Call::of) {
-        let (after, more) = drop_everywhere::<K>(&part, &call);
+        let (after, more) = drop_everywhere(&part, &call);
         part = after;
         drops += more;
     }
@@ -212,14 +213,14 @@ fn main() -> io::Result<()> {
     let numbers: Vec<u64> = env::args().filter_map(|word| word.parse().ok()).collect();
     let mut drops = 0;
     if let [count, seed] = numbers[..] {
-        drops += random::<Words>(count, seed) + random::<Numbers>(count, seed);
+        drops += random(count, seed, Part::blank) + random(count, seed, Part::blank_numbers);
     } else {
         for line in io::stdin().lock().lines() {
             let line = line?;
             let (image, script) = line.split_once('\t').unwrap_or((&line, ""));
             let script = fs::read_to_string(script)?;
             if let Some(part) = image::read(&fs::read_to_string(image)?) {
-                drops += worked::<Words>(part.clone(), &script) + worked::<Numbers>(part, &script);
+                drops += worked(part.doubled(), &script) + worked(part, &script);
             }
         }
     }

@@ -1,9 +1,9 @@
 //! A part in memory whose steps take several polls. A step whose future is dropped leaves what a cut leaves.
 
-use ee_store_async::{Driver, NumberDriver, Pairs, Shape, Word};
-use ee_store_differ::{Part, PowerCut, Tear, TEARS};
+use ee_store::asynch::Driver;
+use ee_store_differ::{Kind, Part, PowerCut, Shape, Tear, Word, TEARS};
 use std::cell::{Cell, RefCell};
-use std::future::Future;
+use std::future::{poll_fn, Future};
 use std::pin::Pin;
 use std::rc::Rc;
 use std::task::{Context, Poll};
@@ -32,11 +32,6 @@ impl Shared {
 
     pub fn left(&self) -> Part {
         self.part.borrow().clone()
-    }
-
-    pub fn shape(&self) -> Shape {
-        let shape = self.part.borrow().shape;
-        Shape::new(shape.pages(), shape.words()).unwrap()
     }
 
     /// Sets what the next step that is dropped leaves.
@@ -87,89 +82,58 @@ impl<F: Fn(&mut Part) -> Result<(), PowerCut>> Drop for Step<'_, F> {
     }
 }
 
-/// A way to see a part as words.
-pub trait Kind {
-    type Words: Driver<Error = PowerCut>;
-
-    /// The part that a store of words, or of pairs of numbers, begins with.
-    fn of(part: Part) -> Part;
-
-    fn words(shared: Shared) -> Self::Words;
-}
-
-/// A part of words.
-pub struct Words(Shared);
-
-impl Kind for Words {
-    type Words = Words;
-
-    fn of(part: Part) -> Part {
-        part
-    }
-
-    fn words(shared: Shared) -> Words {
-        Words(shared)
-    }
-}
-
-impl Driver for Words {
+impl Driver for Shared {
     type Error = PowerCut;
 
     fn shape(&self) -> Shape {
-        self.0.shape()
+        self.part.borrow().shape
     }
 
-    fn word(&self, page: usize, at: usize) -> Result<Word, PowerCut> {
-        Ok(match self.0.part.borrow().pages[page][at] {
-            ee_store_differ::Word::Erased => Word::Erased,
-            ee_store_differ::Word::Held(number) => Word::Held(number),
-            ee_store_differ::Word::Torn => Word::Torn,
+    fn kind(&self) -> Kind {
+        match self.part.borrow().has_numbers() {
+            true => Kind::Pairs,
+            false => Kind::Words,
+        }
+    }
+
+    async fn word(&self, page: usize, at: usize) -> Result<Word, PowerCut> {
+        a_look().await;
+        let part = self.part.borrow();
+        Ok(match part.has_numbers() {
+            true => Word::from(part.numbers[page][at]),
+            false => part.pages[page][at],
         })
     }
 
     async fn program(&mut self, page: usize, at: usize, value: u64) -> Result<(), PowerCut> {
-        self.0.step(|part| part.program(page, at, value)).await
+        self.step(|part| match part.has_numbers() {
+            true => part.program_number(page, at, value),
+            false => part.program(page, at, value),
+        })
+        .await
     }
 
     async fn erase(&mut self, page: usize) -> Result<(), PowerCut> {
-        self.0.step(|part| part.erase(page)).await
+        self.step(|part| match part.has_numbers() {
+            true => part.erase_numbers(page),
+            false => part.erase(page),
+        })
+        .await
     }
 }
 
-/// A part of numbers.
-pub struct Numbers(Shared);
-
-impl Kind for Numbers {
-    type Words = Pairs<Numbers>;
-
-    fn of(part: Part) -> Part {
-        part.doubled()
-    }
-
-    fn words(shared: Shared) -> Pairs<Numbers> {
-        let of = Pairs::of(Numbers(shared));
-        of.unwrap_or_else(|(_, fault)| panic!("{fault:?}"))
-    }
+thread_local! {
+    static LOOKS: Cell<u64> = const { Cell::new(0) };
 }
 
-impl NumberDriver for Numbers {
-    type Error = PowerCut;
-
-    fn shape(&self) -> Shape {
-        self.0.shape()
-    }
-
-    fn read(&self, page: usize, at: usize) -> Result<u64, PowerCut> {
-        Ok(self.0.part.borrow().numbers[page][at])
-    }
-
-    async fn program(&mut self, page: usize, at: usize, number: u64) -> Result<(), PowerCut> {
-        self.0
-            .step(|part| part.program_number(page, at, number))
-            .await
-    }
-
-    async fn erase(&mut self, page: usize) -> Result<(), PowerCut> {
-        self.0.step(|part| part.erase_numbers(page)).await
-    }
+/// A look at a word takes a second poll, now and then.
+async fn a_look() {
+    let look = LOOKS.get() + 1;
+    LOOKS.set(look);
+    let mut is_over = look % 16 != 0;
+    poll_fn(|_| match std::mem::replace(&mut is_over, true) {
+        true => Poll::Ready(()),
+        false => Poll::Pending,
+    })
+    .await;
 }

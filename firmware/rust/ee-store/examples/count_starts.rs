@@ -2,10 +2,10 @@
 //!
 //!     cargo run --example count_starts --features embedded-storage
 //!
-//! The flash is memory here. On a part it is the one that the HAL gives, and `count_starts` stays as it is.
+//! The flash is memory here, and its erase clears no cell. On a part it is the one that the HAL gives: change the range, and the
+//! kind by the table of the readme.
 
-use ee_store::nor::{NorDriver, NorFault, Plain};
-use ee_store::{start, Address, Error};
+use ee_store::{Address, Error, Kind, NorError, Store};
 use embedded_storage::nor_flash::{
     ErrorType, NorFlash, NorFlashError, NorFlashErrorKind, ReadNorFlash,
 };
@@ -13,15 +13,14 @@ use embedded_storage::nor_flash::{
 const STARTS: Address = Address::at(1);
 
 /// Counts a start in the last two sectors of a flash of 64 KiB, and gives the flash back.
-fn count_starts<F: NorFlash>(flash: F) -> Result<(u32, F), Error<NorFault<F::Error>>> {
-    let driver = NorDriver::over(flash, 0xe000..0x10000, Plain)?;
-    let mut store = start(driver)?; // opens the store, or makes it on a new part
+fn count_starts<F: NorFlash>(flash: F) -> Result<(u32, F), Error<NorError<F::Error>>> {
+    let mut store = Store::over(flash, 0xe000..0x10000, Kind::Pairs)?; // opens it, or makes it on a new part
     let starts = store.read_or(STARTS, 0)? + 1;
     store.write(STARTS, starts)?;
     Ok((starts, store.into_driver().into_flash()))
 }
 
-fn main() -> Result<(), Error<NorFault<Failed>>> {
+fn main() -> Result<(), Box<dyn std::error::Error>> {
     let mut flash = Memory {
         bytes: vec![0xff; 0x10000],
     };

@@ -3,7 +3,7 @@
 //! The part is memory here. Where a part has registers, comments say what stands in their place. Power is cut in a write, and
 //! the next start finds what was stored.
 
-use ee_store::{start, Address, Driver, Error, Shape, Word};
+use ee_store::{Address, Driver, Kind, Shape, Store, Word};
 
 /// Two sets of one page of 256 words: 252 slots.
 const SHAPE: Shape = match Shape::new(1, 256) {
@@ -51,6 +51,10 @@ impl Driver for Part {
         SHAPE
     }
 
+    fn kind(&self) -> Kind {
+        Kind::Words
+    }
+
     fn word(&self, page: usize, at: usize) -> Result<Word, Fault> {
         // A part waits until the flash is ready. If it doesn't get ready, that is a failed read: never `Word::Torn`.
         if self.is_busy {
@@ -84,30 +88,30 @@ impl Driver for Part {
     }
 }
 
-fn main() -> Result<(), Error<Fault>> {
+fn main() -> Result<(), Box<dyn std::error::Error>> {
     let part = Part {
         words: [[u64::MAX; 256]; 2],
         torn: None,
         steps_left: None,
         is_busy: false,
     };
-    let mut store = start(part)?;
+    let mut store = Store::open_or_format(part)?;
     store.write(VOLUME, 7)?;
     store.driver_mut().steps_left = Some(0);
     let cut = store.write(VOLUME, 8);
-    assert!(cut.is_err() && !store.is_on());
-    println!("power failed in a write: {cut:?}");
+    assert!(!store.is_on());
+    println!("power failed in a write: {}", cut.expect_err("it was cut"));
 
-    // The core starts again before the flash is ready. `start` refuses, and writes nothing: it is called again, with pauses.
+    // The core starts again before the flash is ready. The opening refuses, and writes nothing: it is made again, with pauses.
+    // The driver is lent to it, and so is there still.
     let mut part = store.into_driver();
     part.steps_left = None;
     part.is_busy = true;
-    let refused = start(part).expect_err("the flash is busy");
-    println!("{:?}", refused.fault);
-    let mut part = refused.driver;
+    let refused = Store::open_or_format(&mut part).expect_err("the flash is busy");
+    println!("{refused}");
     part.is_busy = false;
 
-    let store = start(part)?;
+    let store = Store::open_or_format(part)?;
     assert_eq!(store.read(VOLUME)?, Some(7));
     println!(
         "address {VOLUME} has {:?}, torn slots: {}",

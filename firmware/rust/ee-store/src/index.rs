@@ -1,16 +1,16 @@
 use crate::driver::Driver;
 use crate::ee_codec::Address;
-use crate::ee_core as proved;
+use crate::ee_core::OpenFault;
 use crate::ee_flash::Flash;
 use crate::ee_index::{Entry, LentIndex};
 use crate::ee_pages::Layout;
-use crate::error::Failed;
-use crate::store::{open_fault, Finds, Store};
+use crate::error::OpenError;
+use crate::store::{open_error, Finds, Store};
 use core::fmt;
 
 /// Memory for an index, with room for `N` addresses of four bytes each.
 pub struct IndexMemory<const N: usize> {
-    entries: [Entry; N],
+    pub(crate) entries: [Entry; N],
 }
 
 impl<const N: usize> IndexMemory<N> {
@@ -54,25 +54,17 @@ impl<D: Driver> Store<D> {
     ///
     /// # Errors
     ///
-    /// The driver, which failed in a read, and why; or the store was off.
+    /// The driver failed in a read. Of a store that is off the answer is one that is off.
     pub fn with_index<const N: usize>(
         self,
         memory: &mut IndexMemory<N>,
-    ) -> Result<Store<D, LentIndex<'_>>, Failed<D>> {
-        let part = if self.is_on() {
-            let store = self.store.with_lookup(LentIndex::new(&mut memory.entries));
-            if store.flash.is_on() {
-                return Ok(Store { store });
-            }
-            store.into_flash()
-        } else {
-            self.store.into_flash()
-        };
-        let fault = open_fault(&part, proved::OpenFault::Cut);
-        Err(Failed {
-            driver: part.into_driver(),
-            fault,
-        })
+    ) -> Result<Store<D, LentIndex<'_>>, OpenError<D::Error>> {
+        let was_on = self.is_on();
+        let store = self.store.with_lookup(LentIndex::new(&mut memory.entries));
+        match store.flash.is_on() || !was_on {
+            true => Ok(Store { store }),
+            false => Err(open_error(&store.flash, OpenFault::Cut)),
+        }
     }
 }
 

@@ -1,10 +1,9 @@
 use crate::driver::Driver;
 use crate::ee_codec::Address;
 use crate::ee_core::{LiveBatch, Slots};
-use crate::error::ReadFault;
+use crate::error::Error;
 use crate::store::{Finds, Store};
 use core::fmt;
-use core::iter::FusedIterator;
 
 /// The addresses of a store that have a value, by rising address, with their values: what [`Store::iter`] gives.
 pub struct Iter<'a, D: Driver, L: Finds = Slots> {
@@ -27,10 +26,11 @@ impl<'a, D: Driver, L: Finds> Iter<'a, D, L> {
     }
 }
 
-impl<D: Driver, L: Finds> Iterator for Iter<'_, D, L> {
-    type Item = Result<(Address, u32), ReadFault<D::Error>>;
-
-    fn next(&mut self) -> Option<Self::Item> {
+impl<D: Driver, L: Finds> Iter<'_, D, L> {
+    /// The next address that has a value, with the value. `None` behind the last one, and behind an error.
+    // It implements the trait where no call waits.
+    #[allow(clippy::should_implement_trait, clippy::type_complexity)]
+    pub fn next(&mut self) -> Option<Result<(Address, u32), Error<D::Error>>> {
         loop {
             if let Some(found) = self.batch.found.get(self.given) {
                 self.given += 1;
@@ -39,15 +39,13 @@ impl<D: Driver, L: Finds> Iterator for Iter<'_, D, L> {
             let after = self.next.take()?;
             match self.store.next_batch(after) {
                 Ok(batch) => self.batch = batch,
-                Err(fault) => return Some(Err(fault)),
+                Err(error) => return Some(Err(error)),
             }
             self.given = 0;
             self.next = self.batch.through.map(Some);
         }
     }
 }
-
-impl<D: Driver, L: Finds> FusedIterator for Iter<'_, D, L> {}
 
 impl<D: Driver, L: Finds> fmt::Debug for Iter<'_, D, L> {
     fn fmt(&self, f: &mut fmt::Formatter<'_>) -> fmt::Result {

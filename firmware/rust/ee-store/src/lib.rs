@@ -1,13 +1,20 @@
 // The page has programs over each feature.
-#![cfg_attr(all(feature = "defmt", feature = "embedded-storage"), doc = include_str!("../README.md"))]
 #![cfg_attr(
-    not(all(feature = "defmt", feature = "embedded-storage")),
+    all(feature = "defmt", feature = "embedded-storage", feature = "embedded-storage-async"),
+    doc = include_str!("../README.md")
+)]
+#![cfg_attr(
+    not(all(
+        feature = "defmt",
+        feature = "embedded-storage",
+        feature = "embedded-storage-async"
+    )),
     doc = "Variables of 32 bits in flash, through power cuts: the README of this package says all."
 )]
 #![no_std]
 #![forbid(unsafe_code)]
 
-// These six are the proved sources with their contracts left out (`strip`). Some of their parameters
+// These seven are the proved sources with their contracts left out (`strip`). Some of their parameters
 // are named by contracts alone, some items serve other programs, and loops are written as their proofs want them.
 #[allow(dead_code, unused_imports, unused_variables)]
 #[allow(clippy::complexity, clippy::style)]
@@ -34,8 +41,15 @@ mod ee_pages;
 #[allow(clippy::complexity, clippy::style)]
 #[rustfmt::skip]
 mod ee_pairs;
+#[allow(dead_code, unused_imports, unused_variables)]
+#[allow(clippy::complexity, clippy::must_use_candidate, clippy::style)]
+#[rustfmt::skip]
+mod ee_records;
 
+#[cfg(feature = "async")]
+pub mod asynch;
 mod driver;
+mod each;
 mod error;
 mod index;
 mod iter;
@@ -43,9 +57,8 @@ mod iter;
 mod logged;
 #[cfg(feature = "embedded-storage")]
 pub mod nor;
-mod numbers;
-mod pairs;
-mod steps;
+mod part;
+mod records;
 #[cfg(feature = "embedded-storage")]
 mod storage;
 mod store;
@@ -64,21 +77,17 @@ pub use crate::ee_codec::Address;
 pub use crate::ee_core::{Put, Rescued, Written};
 pub use crate::ee_flash::{Shape, Word};
 pub use crate::ee_index::LentIndex;
-pub use crate::ee_pages::ScanFault;
-pub use crate::ee_pairs::LowPair;
-pub use driver::Driver;
-pub use error::{
-    CleanFault, Error, Failed, ForgetAllFault, ForgetFault, NotRescued, Off, OpenFault, PairsFault,
-    ReadFault, RescueFault, Unfit, WriteAllFault, WriteFault,
-};
+pub use crate::ee_records::Record;
+pub use driver::{Driver, Kind};
+pub use error::{DriverError, Error, NorError, OpenError, Step, Unfit};
 pub use index::IndexMemory;
 pub use iter::Iter;
-pub use numbers::NumberDriver;
-pub use pairs::Pairs;
-pub use store::{format, open, rescue, start, Finds, Store};
+pub use store::{Finds, Store};
 pub use value::{NoAddress, Value};
 
-/// What the C library is made over: the proved store on a device of its own, which has to keep the contract of `Flash`.
+/// What `firmware/c` of the repository is made over, and no part of this package's interface: the proved store, on a device that
+/// has to keep the contract of `Flash`.
+#[cfg(feature = "proved")]
 #[doc(hidden)]
 pub mod proved {
     pub use crate::ee_core::inner::{open_on, start_on, store_of, write_format, Known};
@@ -88,6 +97,7 @@ pub mod proved {
     };
     pub use crate::ee_flash::{Cut, Flash};
     pub use crate::ee_index::{Entry, LentIndex};
+    pub use crate::ee_pages::ScanFault;
     pub use crate::ee_pairs::{Nor, Pairs};
-    pub use crate::store::holds_more;
+    pub use crate::part::holds_more;
 }

@@ -1,32 +1,10 @@
-//! Answers and faults in the log of `defmt` 1, by the feature `defmt`: the texts are those of their `Display`.
+//! Answers and errors in the log of `defmt` 1, by the feature `defmt`: the texts are those of their `Display`.
 
-use crate::driver::Driver;
 use crate::ee_codec::Address;
-use crate::ee_core::{Put, Written};
-use crate::ee_pages::ScanFault;
-use crate::ee_pairs::LowPair;
-use crate::error::{
-    CleanFault, Error, Failed, ForgetAllFault, ForgetFault, NotRescued, Off, OpenFault, PairsFault,
-    ReadFault, RescueFault, Unfit, WriteAllFault, WriteFault,
-};
-use defmt::{Format, Formatter};
-
-// What several answers say.
-fn off(f: Formatter<'_>) {
-    defmt::write!(f, "the store is off, since its driver failed");
-}
-
-fn spent(f: Formatter<'_>) {
-    defmt::write!(f, "every slot is used, and no generation is left");
-}
-
-fn unsteady(f: Formatter<'_>) {
-    defmt::write!(f, "words of the flash changed between two looks");
-}
-
-fn driver<E: Format>(f: Formatter<'_>, error: &E) {
-    defmt::write!(f, "the driver failed: {}", error);
-}
+use crate::ee_core::{Put, Rescued, Written};
+use crate::error::{DriverError, Error, NorError, OpenError, Step, Unfit, READ_BACK};
+use core::fmt::Debug;
+use defmt::{Debug2Format, Format, Formatter};
 
 impl Format for Address {
     fn format(&self, f: Formatter<'_>) {
@@ -36,11 +14,17 @@ impl Format for Address {
 
 impl Format for Put {
     fn format(&self, f: Formatter<'_>) {
+        defmt::write!(f, "address {} value {=u32}", self.address, self.value);
+    }
+}
+
+impl Format for Rescued {
+    fn format(&self, f: Formatter<'_>) {
         defmt::write!(
             f,
-            "address {=u16} value {=u32}",
-            self.address.get(),
-            self.value
+            "{=usize} bad words, {=usize} values",
+            self.bad_words,
+            self.live
         );
     }
 }
@@ -54,164 +38,52 @@ impl Format for Written {
     }
 }
 
-impl Format for Off {
-    fn format(&self, f: Formatter<'_>) {
-        off(f);
-    }
-}
-
 impl Format for Unfit {
     fn format(&self, f: Formatter<'_>) {
         defmt::write!(f, "{=str}", self.text());
     }
 }
 
-impl Format for ScanFault {
+impl<E: Format> Format for DriverError<E> {
     fn format(&self, f: Formatter<'_>) {
-        match *self {
-            ScanFault::Unformatted => defmt::write!(f, "the flash is not formatted"),
-            ScanFault::NoLiveSet => defmt::write!(f, "no set of the flash is live"),
-            ScanFault::TwoLive => defmt::write!(f, "both sets of the flash are live"),
-            ScanFault::Foreign { page, at } => defmt::write!(
+        let DriverError {
+            step,
+            page,
+            at,
+            error,
+        } = self;
+        match step {
+            Step::Erase => defmt::write!(
                 f,
-                "word {=usize} of page {=usize} is not the store's",
-                at,
-                page
+                "the driver failed to erase page {=usize}: {}",
+                *page,
+                error
+            ),
+            _ => defmt::write!(
+                f,
+                "the driver failed to {=str} word {=usize} of page {=usize}: {}",
+                step.text(),
+                *at,
+                *page,
+                error
             ),
         }
     }
 }
 
-impl Format for LowPair {
-    fn format(&self, f: Formatter<'_>) {
-        let LowPair { page, word } = *self;
-        defmt::write!(
-            f,
-            "word {=usize} of page {=usize} is not the store's",
-            word,
-            page
-        );
-    }
-}
-
-impl<E: Format> Format for PairsFault<E> {
+impl<E: Format> Format for OpenError<E> {
     fn format(&self, f: Formatter<'_>) {
         match self {
-            PairsFault::Low(low) => defmt::write!(f, "{}", low),
-            PairsFault::Driver(error) => driver(f, error),
-        }
-    }
-}
-
-impl<E: Format> Format for ReadFault<E> {
-    fn format(&self, f: Formatter<'_>) {
-        match self {
-            ReadFault::Off => off(f),
-            ReadFault::Driver(error) => driver(f, error),
-            ReadFault::Unsteady => unsteady(f),
-        }
-    }
-}
-
-impl<E: Format> Format for OpenFault<E> {
-    fn format(&self, f: Formatter<'_>) {
-        match self {
-            OpenFault::Scan(fault) => defmt::write!(f, "{}", fault),
-            OpenFault::Driver(error) => driver(f, error),
-            OpenFault::Unsteady => unsteady(f),
-        }
-    }
-}
-
-impl<D: Driver> Format for Failed<D>
-where
-    D::Error: Format,
-{
-    fn format(&self, f: Formatter<'_>) {
-        defmt::write!(f, "{}", self.fault);
-    }
-}
-
-impl<E: Format> Format for RescueFault<E> {
-    fn format(&self, f: Formatter<'_>) {
-        match self {
-            RescueFault::NothingBegun => defmt::write!(f, "no set of the flash is begun"),
-            RescueFault::Spent => spent(f),
-            RescueFault::Driver(error) => driver(f, error),
-            RescueFault::Unsteady => unsteady(f),
-        }
-    }
-}
-
-impl<D: Driver> Format for NotRescued<D>
-where
-    D::Error: Format,
-{
-    fn format(&self, f: Formatter<'_>) {
-        defmt::write!(f, "{}", self.fault);
-    }
-}
-
-impl<E: Format> Format for WriteFault<E> {
-    fn format(&self, f: Formatter<'_>) {
-        match self {
-            WriteFault::Off => off(f),
-            WriteFault::Full => {
-                defmt::write!(f, "as many addresses have a value as there are slots")
+            OpenError::Foreign { page, at } => {
+                defmt::write!(
+                    f,
+                    "word {=usize} of page {=usize} is not the store's",
+                    *at,
+                    *page
+                )
             }
-            WriteFault::Spent => spent(f),
-            WriteFault::Driver(error) => driver(f, error),
-            WriteFault::Unsteady => unsteady(f),
-        }
-    }
-}
-
-impl<E: Format> Format for WriteAllFault<E> {
-    fn format(&self, f: Formatter<'_>) {
-        match self {
-            WriteAllFault::Off => off(f),
-            WriteAllFault::Twice(place) => {
-                defmt::write!(f, "value {=usize} has an address of an earlier one", *place)
-            }
-            WriteAllFault::Full => {
-                defmt::write!(f, "more addresses would have a value than there are slots")
-            }
-            WriteAllFault::Spent => defmt::write!(f, "no generation is left for a move"),
-            WriteAllFault::Driver(error) => driver(f, error),
-            WriteAllFault::Unsteady => unsteady(f),
-        }
-    }
-}
-
-impl<E: Format> Format for ForgetFault<E> {
-    fn format(&self, f: Formatter<'_>) {
-        match self {
-            ForgetFault::Off => off(f),
-            ForgetFault::Absent => defmt::write!(f, "the address has no value"),
-            ForgetFault::Spent => spent(f),
-            ForgetFault::Driver(error) => driver(f, error),
-            ForgetFault::Unsteady => unsteady(f),
-        }
-    }
-}
-
-impl<E: Format> Format for ForgetAllFault<E> {
-    fn format(&self, f: Formatter<'_>) {
-        match self {
-            ForgetAllFault::Off => off(f),
-            ForgetAllFault::Spent => defmt::write!(f, "no generation is left for a move"),
-            ForgetAllFault::Driver(error) => driver(f, error),
-            ForgetAllFault::Unsteady => unsteady(f),
-        }
-    }
-}
-
-impl<E: Format> Format for CleanFault<E> {
-    fn format(&self, f: Formatter<'_>) {
-        match self {
-            CleanFault::Off => off(f),
-            CleanFault::Driver(error) => driver(f, error),
-            CleanFault::Unsteady => unsteady(f),
+            OpenError::Driver(error) => error.format(f),
+            _ => defmt::write!(f, "{=str}", self.text()),
         }
     }
 }
@@ -219,21 +91,26 @@ impl<E: Format> Format for CleanFault<E> {
 impl<E: Format> Format for Error<E> {
     fn format(&self, f: Formatter<'_>) {
         match self {
-            Error::Off => off(f),
-            Error::Unfit(unfit) => unfit.format(f),
-            Error::Scan(fault) => fault.format(f),
-            Error::Low(low) => low.format(f),
-            Error::NothingBegun => defmt::write!(f, "no set of the flash is begun"),
-            Error::Full => {
-                defmt::write!(f, "more addresses would have a value than there are slots")
-            }
-            Error::Spent => defmt::write!(f, "no generation is left for a move"),
-            Error::Twice(place) => {
+            Error::Duplicate(place) => {
                 defmt::write!(f, "value {=usize} has an address of an earlier one", *place)
             }
-            Error::Absent => defmt::write!(f, "the address has no value"),
-            Error::Driver(error) => driver(f, error),
-            Error::Unsteady => unsteady(f),
+            Error::TooShort(length) => defmt::write!(
+                f,
+                "the record has {=usize} bytes, and there is less space",
+                *length
+            ),
+            Error::Driver(error) => error.format(f),
+            Error::Open(error) => error.format(f),
+            _ => defmt::write!(f, "{=str}", self.text()),
+        }
+    }
+}
+
+impl<E: Debug> Format for NorError<E> {
+    fn format(&self, f: Formatter<'_>) {
+        match self {
+            NorError::Flash(error) => defmt::write!(f, "the flash failed: {}", Debug2Format(error)),
+            NorError::ReadBack => defmt::write!(f, "{=str}", READ_BACK),
         }
     }
 }

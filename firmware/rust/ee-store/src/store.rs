@@ -1,13 +1,14 @@
-use crate::driver::{Driver, Part};
+use crate::driver::Driver;
 use crate::ee_codec::Address;
-use crate::ee_core::{self as proved, LiveBatch, Lookup, Put, Rescued, Slots, Variables, Written};
-use crate::ee_flash::{Flash, Shape};
-use crate::ee_pages::{blank_to, is_blank, Layout, Side};
-use crate::error::{
-    Broken, CleanFault, Failed, ForgetAllFault, ForgetFault, NotRescued, Off, OpenFault, ReadFault,
-    RescueFault, WriteAllFault, WriteFault,
+use crate::ee_core::inner::{open_on, start_on, write_format};
+use crate::ee_core::{
+    self as proved, LiveBatch, Lookup, OpenFault, Put, Rescued, Slots, Variables, Written,
 };
+use crate::ee_flash::{Cut, Flash, Shape};
+use crate::ee_pages::{Layout, Side};
+use crate::error::{Error, OpenError};
 use crate::iter::Iter;
+use crate::part::Part;
 use crate::value::Value;
 use core::fmt;
 
@@ -17,8 +18,8 @@ use core::fmt;
 /// again, a change that was answered is there, one that was not is there as a whole or not at all, and nothing else
 /// changed.
 ///
-/// When its driver fails, in a step or in a read, the store is off: each call answers so, until the driver is taken and
-/// opened again.
+/// When its driver fails, in a step or in a read, the store is off: each call answers [`Error::NotOpen`] from there on, until
+/// [`reopen`](Store::reopen).
 ///
 /// It may go to another thread, but no two share it: a call that only reads notes where its driver failed.
 ///
@@ -37,175 +38,174 @@ impl Finds for Slots {
     fn find_anew<F: Flash>(&mut self, _flash: &F, _layout: &Layout) {}
 }
 
-/// Opens the store that the flash holds. If power failed in a transfer, or just behind it, the marks are set that were
-/// left to set; otherwise nothing is written.
-///
-/// # Errors
-///
-/// The driver, and why: a flash that holds no store, or a driver that failed.
-#[doc(alias = "mount")]
-pub fn open<D: Driver>(driver: D) -> Result<Store<D>, Failed<D>> {
-    opened(proved::open(Part::new(driver)))
-}
-
-/// Opens the store that the flash holds, as [`open`] does, or makes the first one: where no set is live and each word
-/// behind a page's header is erased or torn. It is the call to make at each start: a first start in which power failed is
-/// made again, and no stored value is erased.
-///
-/// Over [`Pairs`](crate::Pairs), whose numbers a cut leaves with every bit that they had, it makes the first store only
-/// where all numbers are all ones but those of the first two words of page 0. A first start that was cut leaves no others.
-/// Where an erase [clears first](crate::NumberDriver::clears_first), page 0 may hold any numbers but a value.
-///
-/// # Errors
-///
-/// The driver, and why: a flash that holds something else than a store, or a driver that failed.
-#[doc(alias = "init")]
-#[doc(alias = "mount")]
-pub fn start<D: Driver>(driver: D) -> Result<Store<D>, Failed<D>> {
-    let part = Part::new(driver);
-    let clears_first = part.driver().clears_first();
-    let is_strict = clears_first || part.driver().keeps_erased();
-    if is_strict && holds_more(&part, clears_first) {
-        return opened(proved::open(part));
-    }
-    opened(proved::start(part))
-}
-
-// Whether a word is written that a first start which was cut doesn't leave. It programs the first two of page 0, and erases
-// that page where it was cut before: such an erase leaves anything there if it clears the cells first, and else no others.
-pub fn holds_more<F: Flash>(flash: &F, clears_first: bool) -> bool {
-    let shape = flash.shape();
-    let from = if clears_first { shape.words() } else { 2 };
-    if blank_to(flash, 0, from) != shape.words() {
-        return true;
-    }
-    // It never begins past its end, which a range would test again: that costs firmware code.
-    let mut page = 1;
-    while page != 2 * shape.pages() {
-        if !is_blank(flash, page) {
-            return true;
-        }
-        page += 1;
-    }
-    false
-}
-
-/// Makes a store with nothing in it, whatever the flash held: each page that is not blank is erased.
-///
-/// Where power fails in it on a flash that held values, [`start`] and [`open`] may refuse what is left, or open a store with
-/// a part of those values, or with older ones. Format again.
-///
-/// # Errors
-///
-/// The driver, which failed. Format again.
-#[doc(alias = "erase_all")]
-pub fn format<D: Driver>(driver: D) -> Result<Store<D>, Failed<D>> {
-    let answer = proved::format(Part::new(driver));
-    opened(answer.map_err(|(part, _)| (part, proved::OpenFault::Cut)))
-}
-
-/// Makes a store of what the slots of the flash say, whatever stands in it: the call behind an opening that refused with
-/// [`ScanFault`](crate::ScanFault), since a word went bad. One word that went bad costs its own value, and no more: its
-/// address has an older one or none. `docs/PROMISES.md` in the repository has the premises. The values move to the other
-/// set, as in a write that finds no free slot.
-///
-/// It comes last. Under another shape than that of the firmware which wrote the store it destroys values, and so it does on
-/// a flash that isn't ready to be read. So look at the shape, and call [`start`] again with pauses, before it.
-///
-/// # Errors
-///
-/// The driver, and why.
-#[doc(alias = "repair")]
-pub fn rescue<D: Driver>(driver: D) -> Result<(Store<D>, Rescued), NotRescued<D>> {
-    let (part, fault) = match proved::rescue(Part::new(driver)) {
-        Ok((store, rescued)) if store.flash().is_on() => return Ok((Store { store }, rescued)),
-        Ok((store, _)) => (store.into_flash(), proved::RescueFault::Cut),
-        Err(failed) => failed,
-    };
-    let fault = match (part.broken(), fault) {
-        (Some(broken), _) => broken.into(),
-        (None, proved::RescueFault::NothingBegun) => RescueFault::NothingBegun,
-        (None, proved::RescueFault::Spent) => RescueFault::Spent,
-        (None, proved::RescueFault::Cut) => RescueFault::Unsteady,
-    };
-    Err(NotRescued {
-        driver: part.into_driver(),
-        fault,
-    })
-}
-
-type Opened<D> = Result<proved::Store<Part<D>>, (Part<D>, proved::OpenFault)>;
-
-fn opened<D: Driver>(answer: Opened<D>) -> Result<Store<D>, Failed<D>> {
-    let (part, fault) = match answer {
-        Ok(store) if store.flash().is_on() => return Ok(Store { store }),
-        Ok(store) => (store.into_flash(), proved::OpenFault::Cut),
-        Err(failed) => failed,
-    };
-    let fault = open_fault(&part, fault);
-    Err(Failed {
-        driver: part.into_driver(),
-        fault,
-    })
-}
+// What the layout of a store that is off says: nothing looks at it.
+const NOWHERE: Layout = Layout {
+    side: Side::First,
+    generation: 0,
+    fill: 0,
+    current: 0,
+};
 
 // Why a part couldn't be opened of which the proved code says this.
-pub(crate) fn open_fault<D: Driver>(
-    part: &Part<D>,
-    fault: proved::OpenFault,
-) -> OpenFault<D::Error> {
-    match (part.broken(), fault) {
-        (Some(broken), _) => broken.into(),
-        (None, proved::OpenFault::Scan(fault)) => OpenFault::Scan(fault),
-        (None, proved::OpenFault::Cut) => OpenFault::Unsteady,
+pub(crate) fn open_error<D: Driver>(part: &Part<D>, fault: OpenFault) -> OpenError<D::Error> {
+    let is_on = part.is_on();
+    part.turn_off();
+    match (is_on, part.why_off(), fault) {
+        (true, _, OpenFault::Scan(fault)) => fault.into(),
+        (false, Some(error), _) => OpenError::Driver(error),
+        _ => OpenError::Unsteady,
     }
 }
 
 impl<D: Driver> Store<D> {
-    /// Opens the store that the flash holds, or makes the first one on a blank part: another name of [`start`]. It formats
-    /// over no value, and refuses a flash that holds something else.
+    /// Opens the store that the flash holds, as [`open`](Store::open) does, or makes the first one on a new part: where no set is
+    /// live and each word behind a page's header is erased or torn. It is the call to make at each start: a first start in which
+    /// power failed is made again, and no stored value is erased.
+    ///
+    /// Of [pairs](crate::Kind::Pairs), whose numbers a cut leaves with every bit that they had, it makes the first store only
+    /// where all numbers are all ones but those of the first two words of page 0. A first start that was cut leaves no others.
+    /// Where an erase clears first, page 0 may hold any numbers but a value.
     ///
     /// # Errors
     ///
-    /// As of `start`.
+    /// The first [`OpenError`] that applies.
     #[doc(alias = "mount")]
-    pub fn open_or_format(driver: D) -> Result<Store<D>, Failed<D>> {
-        start(driver)
+    #[doc(alias = "init")]
+    #[doc(alias = "start")]
+    pub fn open_or_format(driver: D) -> Result<Store<D>, OpenError<D::Error>> {
+        let mut store = Store::off(driver);
+        store.begin()?;
+        let opened = match store.store.flash.may_be_new() {
+            true => start_on(&mut store.store.flash),
+            false => open_on(&mut store.store.flash),
+        };
+        store.opened(opened)?;
+        Ok(store)
+    }
+
+    /// Opens the store that the flash holds. If power failed in a move, or just behind it, the marks are set that were
+    /// left to set; otherwise nothing is written.
+    ///
+    /// # Errors
+    ///
+    /// The first [`OpenError`] that applies.
+    pub fn open(driver: D) -> Result<Store<D>, OpenError<D::Error>> {
+        let mut store = Store::off(driver);
+        store.begin()?;
+        let opened = open_on(&mut store.store.flash);
+        store.opened(opened)?;
+        Ok(store)
+    }
+
+    /// Makes a store with nothing in it, whatever the flash held: each page that is not blank is erased.
+    ///
+    /// Where power fails in it on a flash that held values, the openings may refuse what is left, or open a store with a part of
+    /// those values, or with older ones. Format again.
+    ///
+    /// # Errors
+    ///
+    /// The driver failed. Format again.
+    #[doc(alias = "erase_all")]
+    pub fn format(driver: D) -> Result<Store<D>, OpenError<D::Error>> {
+        let mut store = Store::off(driver);
+        store.store.flash.begin_anew();
+        let made = write_format(&mut store.store.flash);
+        store.opened(made.map_err(|Cut| OpenFault::Cut))?;
+        Ok(store)
+    }
+
+    /// Makes a store of what the slots of the flash say, whatever stands in it: the call behind an opening that refused since a
+    /// word went bad. One word that went bad costs its own value, and no more: its address has an older one or none.
+    /// `docs/PROMISES.md` in the repository has the premises. The values move to the other set, as in a write that finds no free
+    /// slot. Of [pairs](crate::Kind::Pairs), a word that no store wrote is torn.
+    ///
+    /// It comes last. Under another shape than that of the firmware which wrote the store it destroys values, and so it does on
+    /// a flash that isn't ready to be read. So look at the shape, and open again with pauses, before it.
+    ///
+    /// Where pairs had such a word, its page waits to be erased, and the openings refuse the flash until it is. So call
+    /// [`clean_step`](Store::clean_step) behind it until that answers `false`. If power fails while that page is erased, nothing
+    /// is promised.
+    ///
+    /// # Errors
+    ///
+    /// The first [`OpenError`] that applies: `NothingBegun`, `Spent`, `Driver` or `Unsteady`.
+    #[doc(alias = "repair")]
+    pub fn rescue(driver: D) -> Result<(Store<D>, Rescued), OpenError<D::Error>> {
+        let mut part = Part::new(driver);
+        part.begin_anew();
+        let (part, fault) = match proved::rescue(part) {
+            Ok((store, rescued)) if store.flash().is_on() => return Ok((Store { store }, rescued)),
+            Ok((store, _)) => (store.into_flash(), proved::RescueFault::Cut),
+            Err(failed) => failed,
+        };
+        match (part.is_on(), fault) {
+            (true, proved::RescueFault::NothingBegun) => Err(OpenError::NothingBegun),
+            (true, proved::RescueFault::Spent) => Err(OpenError::Spent),
+            _ => Err(open_error(&part, OpenFault::Cut)),
+        }
     }
 
     /// A store that is off, as one is whose driver failed.
     #[must_use]
     pub fn off(driver: D) -> Store<D> {
-        // Nothing looks at the layout of a store that is off.
-        let layout = Layout {
-            side: Side::First,
-            generation: 0,
-            fill: 0,
-            current: 0,
-        };
         Store {
-            store: proved::Store::of(Part::off(driver), layout),
+            store: proved::Store::of(Part::new(driver), NOWHERE),
+        }
+    }
+
+    // Turns the part on, and refuses pairs that no store wrote.
+    fn begin(&mut self) -> Result<(), OpenError<D::Error>> {
+        let part = &mut self.store.flash;
+        part.begin_anew();
+        let low = part.low_pair();
+        match (low, part.is_on()) {
+            (_, false) => Err(open_error(part, OpenFault::Cut)),
+            (Some(low), true) => {
+                part.turn_off();
+                Err(OpenError::Foreign {
+                    page: low.page,
+                    at: low.word,
+                })
+            }
+            (None, true) => Ok(()),
         }
     }
 }
 
 impl<D: Driver, L: Finds> Store<D, L> {
+    // Takes what an opening found, of a part that didn't fail in it.
+    fn opened(&mut self, opened: Result<Layout, OpenFault>) -> Result<(), OpenError<D::Error>> {
+        let part = &self.store.flash;
+        match opened {
+            Ok(layout) if part.is_on() => {
+                self.store.known.layout = layout;
+                self.store.known.lookup.find_anew(part, &layout);
+            }
+            Ok(_) => {}
+            Err(fault) => return Err(open_error(part, fault)),
+        }
+        match part.is_on() {
+            true => Ok(()),
+            false => Err(open_error(part, OpenFault::Cut)),
+        }
+    }
+
     /// The driver, as it is.
     #[must_use]
     pub fn into_driver(self) -> D {
-        self.store.into_flash().into_driver()
+        self.store.into_flash().driver
     }
 
     /// The driver.
     #[must_use]
     pub fn driver(&self) -> &D {
-        self.store.flash.driver()
+        &self.store.flash.driver
     }
 
     /// The driver, to be used for what isn't the store's. Its shape and the store's pages stay as they are.
     #[must_use]
     pub fn driver_mut(&mut self) -> &mut D {
-        self.store.flash.driver_mut()
+        &mut self.store.flash.driver
     }
 
     /// The size of the flash, as the driver said when the store was opened.
@@ -214,90 +214,75 @@ impl<D: Driver, L: Finds> Store<D, L> {
         self.store.flash.shape()
     }
 
-    /// Whether the store answers calls: it does until its driver fails.
+    /// Whether the store answers calls: it does until its driver fails, or a future that was to change it is dropped.
     #[must_use]
     pub fn is_on(&self) -> bool {
-        self.store.flash.is_on()
+        self.store.flash.is_on() && !self.store.flash.is_busy.get()
     }
 
-    /// Opens the store again in its place, as [`open`] does, on or off: the way on after a call in which the driver failed.
-    /// It reads all anew.
+    /// Opens the store again in its place, as [`open`](Store::open) does, on or off: the way on after a call in which the driver
+    /// failed. It reads all anew.
     ///
     /// # Errors
     ///
     /// Why the flash can't be opened. The store is off then.
     #[doc(alias = "power_on")]
     #[doc(alias = "recover")]
-    pub fn reopen(&mut self) -> Result<(), OpenFault<D::Error>> {
-        let part = &mut self.store.flash;
-        part.begin_anew();
-        let answer = match proved::open(&mut *part) {
-            Ok(store) => Ok(store.known.layout),
-            Err((_, fault)) => Err(fault),
-        };
-        match answer {
-            Ok(layout) if part.is_on() => {
-                self.store.known.lookup.find_anew(part, &layout);
-                self.store.known.layout = layout;
-            }
-            Ok(_) => {}
-            Err(fault) => {
-                let fault = open_fault(part, fault);
-                part.turn_off();
-                return Err(fault);
-            }
-        }
-        match part.is_on() {
-            true => Ok(()),
-            false => Err(open_fault(part, proved::OpenFault::Cut)),
-        }
+    pub fn reopen(&mut self) -> Result<(), OpenError<D::Error>> {
+        self.store.flash.begin_anew();
+        self.store.flash.is_busy.set(true);
+        let opened = open_on(&mut self.store.flash);
+        let answer = self.opened(opened);
+        self.store.flash.is_busy.set(false);
+        answer
     }
 
     // The store, while it is on.
-    fn running(&self) -> Result<&proved::Store<Part<D>, L>, Off> {
-        match self.store.is_on() {
+    pub(crate) fn running(&self) -> Result<&proved::Store<Part<D>, L>, Error<D::Error>> {
+        match self.is_on() {
             true => Ok(&self.store),
-            false => Err(Off),
+            false => Err(Error::NotOpen),
         }
     }
 
-    // The answer of a call that began on a store that is on: the driver's error where that failed in it, since nothing that
-    // the proved code says then counts.
-    fn whole<T, F: From<Broken<D::Error>>>(&self, answer: Result<T, F>) -> Result<T, F> {
-        match self.store.flash().broken() {
-            None => answer,
-            Some(broken) => Err(broken.into()),
-        }
+    // A change begins on a store that is on. Where it never ends, since its future is dropped, the store stays off.
+    pub(crate) fn change(&mut self) -> Result<&mut proved::Store<Part<D>, L>, Error<D::Error>> {
+        self.running()?;
+        self.store.flash.is_busy.set(true);
+        Ok(&mut self.store)
     }
 
-    // What a look at the store, while it is on, says.
-    fn looked<T>(
+    // The answer of a call that began on a store that is on: why its part went off where it did, since nothing that the proved
+    // code says then counts.
+    pub(crate) fn whole<T>(
         &self,
-        look: impl FnOnce(&proved::Store<Part<D>, L>) -> T,
-    ) -> Result<T, ReadFault<D::Error>> {
-        let store = self.running()?;
-        self.whole(Ok(look(store)))
+        answer: Result<T, Error<D::Error>>,
+    ) -> Result<T, Error<D::Error>> {
+        let part = &self.store.flash;
+        part.is_busy.set(false);
+        if part.is_on() {
+            return answer;
+        }
+        Err(part.why_off().map_or(Error::Unsteady, Error::Driver))
     }
 
     /// The value of an address, `None` if it has none.
     ///
     /// # Errors
     ///
-    /// The first [`ReadFault`] that applies.
+    /// The first [`Error`] that applies.
     #[doc(alias = "fetch_item")]
-    pub fn read(&self, address: Address) -> Result<Option<u32>, ReadFault<D::Error>> {
-        match self.store.read(address) {
-            Ok(value) => self.whole(Ok(value)),
-            Err(proved::Off) => Err(ReadFault::Off),
-        }
+    pub fn read(&self, address: Address) -> Result<Option<u32>, Error<D::Error>> {
+        let found = self.running()?.read(address);
+        self.whole(Ok(found.unwrap_or(None)))
     }
 
     /// The value of an address, or this one if it has none.
     ///
     /// # Errors
     ///
-    /// The first [`ReadFault`] that applies.
-    pub fn read_or(&self, address: Address, value: u32) -> Result<u32, ReadFault<D::Error>> {
+    /// The first [`Error`] that applies.
+    pub fn read_or(&self, address: Address, value: u32) -> Result<u32, Error<D::Error>> {
         Ok(self.read(address)?.unwrap_or(value))
     }
 
@@ -306,9 +291,9 @@ impl<D: Driver, L: Finds> Store<D, L> {
     ///
     /// # Errors
     ///
-    /// The first [`ReadFault`] that applies.
+    /// The first [`Error`] that applies.
     #[doc(alias = "get")]
-    pub fn read_as<V: Value>(&self, address: Address) -> Result<Option<V>, ReadFault<D::Error>> {
+    pub fn read_as<V: Value>(&self, address: Address) -> Result<Option<V>, Error<D::Error>> {
         Ok(self.read(address)?.map(V::from_bits))
     }
 
@@ -316,13 +301,13 @@ impl<D: Driver, L: Finds> Store<D, L> {
     ///
     /// # Errors
     ///
-    /// The first [`WriteFault`] that applies.
+    /// The first [`Error`] that applies.
     #[doc(alias = "set")]
     pub fn write_as<V: Value>(
         &mut self,
         address: Address,
         value: V,
-    ) -> Result<Written, WriteFault<D::Error>> {
+    ) -> Result<Written, Error<D::Error>> {
         self.write(address, value.to_bits())
     }
 
@@ -331,13 +316,13 @@ impl<D: Driver, L: Finds> Store<D, L> {
     ///
     /// # Errors
     ///
-    /// The first [`WriteFault`] that applies. Where the driver failed in the read, nothing was written.
+    /// The first [`Error`] that applies. Where the driver failed in the read, nothing was written.
     #[doc(alias = "modify")]
     pub fn update(
         &mut self,
         address: Address,
         change: impl FnOnce(Option<u32>) -> u32,
-    ) -> Result<Option<Written>, WriteFault<D::Error>> {
+    ) -> Result<Option<Written>, Error<D::Error>> {
         let old = self.read(address)?;
         let value = change(old);
         if old == Some(value) {
@@ -351,19 +336,17 @@ impl<D: Driver, L: Finds> Store<D, L> {
     ///
     /// # Errors
     ///
-    /// The first [`WriteFault`] that applies.
+    /// The first [`Error`] that applies.
     #[doc(alias = "store_item")]
     #[doc(alias = "insert")]
-    pub fn write(&mut self, address: Address, value: u32) -> Result<Written, WriteFault<D::Error>> {
-        let answer = match self.store.write(address, value) {
-            Ok(written) => Ok(written),
-            Err(proved::WriteFault::Off) => return Err(WriteFault::Off),
-            // It takes no memory, and never says `Memory`.
-            Err(proved::WriteFault::Full | proved::WriteFault::Memory) => Err(WriteFault::Full),
-            Err(proved::WriteFault::Spent) => Err(WriteFault::Spent),
-            Err(proved::WriteFault::Cut) => Err(WriteFault::Unsteady),
-        };
-        self.whole(answer)
+    pub fn write(&mut self, address: Address, value: u32) -> Result<Written, Error<D::Error>> {
+        let answer = self.change()?.write(address, value);
+        self.whole(answer.map_err(|fault| match fault {
+            // It takes no memory, and never says `Memory`. Where it was cut the part is off.
+            proved::WriteFault::Full | proved::WriteFault::Memory => Error::Full,
+            proved::WriteFault::Spent => Error::Spent,
+            proved::WriteFault::Off | proved::WriteFault::Cut => Error::Unsteady,
+        }))
     }
 
     /// Writes these values at once: if power fails in this call too, all of them are there afterwards or none. A list of
@@ -372,40 +355,33 @@ impl<D: Driver, L: Finds> Store<D, L> {
     ///
     /// # Errors
     ///
-    /// The first [`WriteAllFault`] that applies.
+    /// The first [`Error`] that applies.
     #[doc(alias = "transaction")]
     #[doc(alias = "commit")]
-    pub fn write_all(&mut self, values: &[Put]) -> Result<Written, WriteAllFault<D::Error>> {
-        let answer = match self.store.write_all(values) {
-            Ok(written) => Ok(written),
-            Err(proved::WriteAllFault::Off) => return Err(WriteAllFault::Off),
-            Err(proved::WriteAllFault::Twice(place)) => Err(WriteAllFault::Twice(place)),
-            // It takes no memory, and never says `Memory`.
-            Err(proved::WriteAllFault::Full | proved::WriteAllFault::Memory) => {
-                Err(WriteAllFault::Full)
-            }
-            Err(proved::WriteAllFault::Spent) => Err(WriteAllFault::Spent),
-            Err(proved::WriteAllFault::Cut) => Err(WriteAllFault::Unsteady),
-        };
-        self.whole(answer)
+    pub fn write_all(&mut self, values: &[Put]) -> Result<Written, Error<D::Error>> {
+        let answer = self.change()?.write_all(values);
+        self.whole(answer.map_err(|fault| match fault {
+            proved::WriteAllFault::Twice(place) => Error::Duplicate(place),
+            proved::WriteAllFault::Full | proved::WriteAllFault::Memory => Error::Full,
+            proved::WriteAllFault::Spent => Error::Spent,
+            proved::WriteAllFault::Off | proved::WriteAllFault::Cut => Error::Unsteady,
+        }))
     }
 
     /// Takes the value of an address away, as a write does.
     ///
     /// # Errors
     ///
-    /// The first [`ForgetFault`] that applies.
+    /// The first [`Error`] that applies.
     #[doc(alias = "remove_item")]
     #[doc(alias = "delete")]
-    pub fn forget(&mut self, address: Address) -> Result<Written, ForgetFault<D::Error>> {
-        let answer = match self.store.forget(address) {
-            Ok(written) => Ok(written),
-            Err(proved::ForgetFault::Off) => return Err(ForgetFault::Off),
-            Err(proved::ForgetFault::Absent) => Err(ForgetFault::Absent),
-            Err(proved::ForgetFault::Spent) => Err(ForgetFault::Spent),
-            Err(proved::ForgetFault::Cut) => Err(ForgetFault::Unsteady),
-        };
-        self.whole(answer)
+    pub fn forget(&mut self, address: Address) -> Result<Written, Error<D::Error>> {
+        let answer = self.change()?.forget(address);
+        self.whole(answer.map_err(|fault| match fault {
+            proved::ForgetFault::Absent => Error::Absent,
+            proved::ForgetFault::Spent => Error::Spent,
+            proved::ForgetFault::Off | proved::ForgetFault::Cut => Error::Unsteady,
+        }))
     }
 
     /// Takes the values of all addresses away at once, with one move that copies nothing: if power fails in this call too,
@@ -414,19 +390,17 @@ impl<D: Driver, L: Finds> Store<D, L> {
     ///
     /// # Errors
     ///
-    /// The first [`ForgetAllFault`] that applies.
+    /// The first [`Error`] that applies.
     #[doc(alias = "clear")]
     #[doc(alias = "erase_all")]
     #[doc(alias = "factory_reset")]
     #[doc(alias = "remove_all")]
-    pub fn forget_all(&mut self) -> Result<bool, ForgetAllFault<D::Error>> {
-        let answer = match self.store.clear() {
-            Ok(some) => Ok(some),
-            Err(proved::ClearFault::Off) => return Err(ForgetAllFault::Off),
-            Err(proved::ClearFault::Spent) => Err(ForgetAllFault::Spent),
-            Err(proved::ClearFault::Cut) => Err(ForgetAllFault::Unsteady),
-        };
-        self.whole(answer)
+    pub fn forget_all(&mut self) -> Result<bool, Error<D::Error>> {
+        let answer = self.change()?.clear();
+        self.whole(answer.map_err(|fault| match fault {
+            proved::ClearFault::Spent => Error::Spent,
+            proved::ClearFault::Off | proved::ClearFault::Cut => Error::Unsteady,
+        }))
     }
 
     /// Erases one page that waits to be erased, `false` if there is none. Called when there is time for it, it keeps
@@ -434,25 +408,22 @@ impl<D: Driver, L: Finds> Store<D, L> {
     ///
     /// # Errors
     ///
-    /// The store is off, or the driver failed.
+    /// The first [`Error`] that applies.
     #[doc(alias = "garbage_collect")]
     #[doc(alias = "compact")]
-    pub fn clean_step(&mut self) -> Result<bool, CleanFault<D::Error>> {
-        let answer = match self.store.clean_step() {
-            Ok(erased) => Ok(erased),
-            Err(proved::WriteFault::Off) => return Err(CleanFault::Off),
-            Err(_) => Err(CleanFault::Unsteady),
-        };
-        self.whole(answer)
+    pub fn clean_step(&mut self) -> Result<bool, Error<D::Error>> {
+        let answer = self.change()?.clean_step();
+        self.whole(answer.map_err(|_| Error::Unsteady))
     }
 
     /// How many pages wait to be erased, 0 to 64.
     ///
     /// # Errors
     ///
-    /// The first [`ReadFault`] that applies.
-    pub fn pending(&self) -> Result<usize, ReadFault<D::Error>> {
-        self.looked(|store| store.pending())
+    /// The first [`Error`] that applies.
+    pub fn pending(&self) -> Result<usize, Error<D::Error>> {
+        let count = self.running()?.pending();
+        self.whole(Ok(count))
     }
 
     /// The slots of a set, 1 to 32512: as many changes as it takes, and as many addresses can have a value.
@@ -460,7 +431,7 @@ impl<D: Driver, L: Finds> Store<D, L> {
     /// # Errors
     ///
     /// The store is off.
-    pub fn slots(&self) -> Result<usize, Off> {
+    pub fn slots(&self) -> Result<usize, Error<D::Error>> {
         Ok(self.running()?.slots())
     }
 
@@ -469,7 +440,7 @@ impl<D: Driver, L: Finds> Store<D, L> {
     /// # Errors
     ///
     /// The store is off.
-    pub fn fill(&self) -> Result<usize, Off> {
+    pub fn fill(&self) -> Result<usize, Error<D::Error>> {
         Ok(self.running()?.fill())
     }
 
@@ -477,9 +448,10 @@ impl<D: Driver, L: Finds> Store<D, L> {
     ///
     /// # Errors
     ///
-    /// The first [`ReadFault`] that applies.
-    pub fn torn_slots(&self) -> Result<usize, ReadFault<D::Error>> {
-        self.looked(|store| store.torn_slots())
+    /// The first [`Error`] that applies.
+    pub fn torn_slots(&self) -> Result<usize, Error<D::Error>> {
+        let count = self.running()?.torn_slots();
+        self.whole(Ok(count))
     }
 
     /// The generation of the live set, 1 to 4294967294: one more with each transfer.
@@ -487,7 +459,7 @@ impl<D: Driver, L: Finds> Store<D, L> {
     /// # Errors
     ///
     /// The store is off.
-    pub fn generation(&self) -> Result<u32, Off> {
+    pub fn generation(&self) -> Result<u32, Error<D::Error>> {
         Ok(self.running()?.generation())
     }
 
@@ -495,10 +467,11 @@ impl<D: Driver, L: Finds> Store<D, L> {
     ///
     /// # Errors
     ///
-    /// The first [`ReadFault`] that applies.
+    /// The first [`Error`] that applies.
     #[doc(alias = "len")]
-    pub fn live_count(&self) -> Result<usize, ReadFault<D::Error>> {
-        self.looked(|store| store.live_count())
+    pub fn live_count(&self) -> Result<usize, Error<D::Error>> {
+        let count = self.running()?.live_count();
+        self.whole(Ok(count))
     }
 
     /// The next address above `after`, or of all if `after` is `None`, that has a value, with the value. `None` if there
@@ -506,12 +479,13 @@ impl<D: Driver, L: Finds> Store<D, L> {
     ///
     /// # Errors
     ///
-    /// The first [`ReadFault`] that applies.
+    /// The first [`Error`] that applies.
     pub fn next_live(
         &self,
         after: Option<Address>,
-    ) -> Result<Option<(Address, u32)>, ReadFault<D::Error>> {
-        self.looked(|store| store.next_live(after))
+    ) -> Result<Option<(Address, u32)>, Error<D::Error>> {
+        let found = self.running()?.next_live(after);
+        self.whole(Ok(found))
     }
 
     /// All addresses that have a value, by rising address, with their values. It looks through the slots once for each
@@ -524,11 +498,9 @@ impl<D: Driver, L: Finds> Store<D, L> {
     }
 
     // The next addresses above this one.
-    pub(crate) fn next_batch(
-        &self,
-        after: Option<Address>,
-    ) -> Result<LiveBatch, ReadFault<D::Error>> {
-        self.looked(|store| store.next_batch(after))
+    pub(crate) fn next_batch(&self, after: Option<Address>) -> Result<LiveBatch, Error<D::Error>> {
+        let batch = self.running()?.next_batch(after);
+        self.whole(Ok(batch))
     }
 }
 
@@ -539,14 +511,5 @@ impl<D: Driver, L: Finds> fmt::Debug for Store<D, L> {
             .field("shape", &self.shape())
             .field("layout", &self.store.known.layout)
             .finish_non_exhaustive()
-    }
-}
-
-impl<'a, D: Driver, L: Finds> IntoIterator for &'a Store<D, L> {
-    type Item = Result<(Address, u32), ReadFault<D::Error>>;
-    type IntoIter = Iter<'a, D, L>;
-
-    fn into_iter(self) -> Iter<'a, D, L> {
-        self.iter()
     }
 }

@@ -95,3 +95,5 @@ impl fmt::Display for Address {
         self.get().fmt(f)
     }
 }
+
+impl core::error::Error for NoAddress {}

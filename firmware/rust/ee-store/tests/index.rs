@@ -2,8 +2,7 @@
 //! the index has room for all variables or not.
 
 use ee_store::{
-    start, Address, Driver, Failed, IndexMemory, LentIndex, OpenFault, Put, ReadFault, Shape,
-    Store, Word,
+    Address, Driver, Error, IndexMemory, Kind, LentIndex, OpenError, Put, Shape, Store, Word,
 };
 use std::cell::Cell;
 
@@ -65,6 +64,10 @@ impl Driver for &mut Part {
         Shape::new(2, 8).unwrap()
     }
 
+    fn kind(&self) -> Kind {
+        Kind::Words
+    }
+
     fn word(&self, page: usize, at: usize) -> Result<Word, Down> {
         self.reads.set(self.reads.get() + 1);
         match self.reads_left.get() {
@@ -95,7 +98,7 @@ fn address(number: u32) -> Address {
 }
 
 fn started(part: &mut Part) -> Store<&mut Part> {
-    start(part).map_err(|failed| failed.fault).unwrap()
+    Store::open_or_format(part).unwrap()
 }
 
 /// A call by chance, and what it answers.
@@ -149,7 +152,6 @@ fn it_answers_and_leaves_the_same() {
                 true => store.with_index(&mut large),
                 false => store.with_index(&mut small),
             }
-            .map_err(|failed| failed.fault)
             .unwrap();
             let before = store.has_index();
             store.driver_mut().steps_left = cut;
@@ -203,17 +205,16 @@ fn it_comes_back_where_all_just_have_room() {
 }
 
 #[test]
-fn a_read_that_fails_while_it_is_made_gives_the_driver_back() {
+fn a_read_that_fails_while_it_is_made_is_told() {
     let mut part = Part::blank();
     let mut store = started(&mut part);
     store.write(address(0), 1).unwrap();
     store.driver_mut().reads_left.set(Some(0));
     let mut memory = IndexMemory::<8>::new();
-    let failed: Failed<&mut Part> = store.with_index(&mut memory).err().unwrap();
-    assert_eq!(failed.fault, OpenFault::Driver(Down));
-    failed.driver.reads_left.set(None);
-    let store = start(failed.driver).map_err(|failed| failed.fault).unwrap();
-    let store = store.with_index(&mut memory).unwrap();
+    let refused = store.with_index(&mut memory).err();
+    assert!(matches!(refused, Some(OpenError::Driver(_))));
+    part.reads_left.set(None);
+    let store = started(&mut part).with_index(&mut memory).unwrap();
     assert_eq!(store.read(address(0)), Ok(Some(1)));
 }
 
@@ -225,7 +226,7 @@ fn it_is_opened_again_in_its_place() {
         started(&mut part).with_index(&mut memory).unwrap();
     store.write(address(0), 1).unwrap();
     store.driver_mut().reads_left.set(Some(0));
-    assert_eq!(store.read(address(0)), Err(ReadFault::Driver(Down)));
+    assert!(matches!(store.read(address(0)), Err(Error::Driver(_))));
     store.driver_mut().reads_left.set(None);
     assert_eq!(store.reopen(), Ok(()));
     assert!(store.has_index());

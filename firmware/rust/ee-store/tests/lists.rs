@@ -1,9 +1,7 @@
 //! Lists of values that are written at once, on a part in memory whose power is cut in a step: each list is there whole
 //! or not at all.
 
-use ee_store::{
-    format, open, Address, Driver, Put, ReadFault, Shape, Store, Word, WriteAllFault, Written,
-};
+use ee_store::{Address, Driver, Error, Kind, Put, Shape, Store, Word, Written};
 use std::collections::BTreeMap;
 
 const PAGE_WORDS: usize = 6;
@@ -68,6 +66,10 @@ impl Driver for Part {
         Shape::new(self.pages.len() / 2, PAGE_WORDS).unwrap()
     }
 
+    fn kind(&self) -> Kind {
+        Kind::Words
+    }
+
     fn word(&self, page: usize, at: usize) -> Result<Word, PowerCut> {
         Ok(self.pages[page][at])
     }
@@ -110,7 +112,7 @@ fn list(addresses: impl IntoIterator<Item = u16>) -> Vec<Put> {
 }
 
 fn opened(part: Part) -> Store<Part> {
-    open(part).unwrap_or_else(|failed| panic!("{:?}", failed.fault))
+    Store::open(part).unwrap_or_else(|failed| panic!("{:?}", failed))
 }
 
 fn held(store: &Store<Part>) -> Map {
@@ -128,7 +130,7 @@ fn held(store: &Store<Part>) -> Map {
 /// before it.
 fn after(pages: usize, addresses: &[u16]) -> Part {
     let part = Part::blank(pages);
-    let mut store = format(part).unwrap_or_else(|failed| panic!("{:?}", failed.fault));
+    let mut store = Store::format(part).unwrap_or_else(|failed| panic!("{:?}", failed));
     let mut last = 1;
     for (value, number) in addresses.iter().enumerate() {
         if *number == 0 {
@@ -148,7 +150,7 @@ fn write_everywhere(part: &Part, values: &[Put]) {
     new.extend(values.iter().map(|put| (put.address.get(), put.value)));
     if new.len() > part.shape().slots() {
         let mut store = opened(part.clone());
-        assert_eq!(store.write_all(values), Err(WriteAllFault::Full));
+        assert_eq!(store.write_all(values), Err(Error::Full));
         assert_eq!(store.into_driver(), *part);
         return;
     }
@@ -167,9 +169,9 @@ fn write_everywhere(part: &Part, values: &[Put]) {
                     assert!(kept > 0 && made > 0);
                     return;
                 }
-                Err(fault) => assert_eq!(fault, WriteAllFault::Driver(PowerCut)),
+                Err(error) => assert!(matches!(error, Error::Driver(_)), "{error}"),
             }
-            assert_eq!(store.write_all(values), Err(WriteAllFault::Off));
+            assert_eq!(store.write_all(values), Err(Error::NotOpen));
             let found = held(&opened(Part {
                 cut: None,
                 ..store.into_driver()
@@ -234,14 +236,11 @@ fn short_lists() {
     assert_eq!(store.write_all(&[put(1, 5)]), Ok(Written::Appended));
     assert_eq!(store.write_all(&[put(2, 6)]), Ok(Written::Moved));
     assert_eq!(held(&store), Map::from([(1, 5), (2, 6)]));
-    assert_eq!(store.write_all(&[put(3, 7)]), Err(WriteAllFault::Full));
+    assert_eq!(store.write_all(&[put(3, 7)]), Err(Error::Full));
     let mut off = Store::off(part);
-    assert_eq!(off.write_all(&[]), Err(WriteAllFault::Off));
-    assert_eq!(
-        off.write_all(&[put(1, 5), put(1, 6)]),
-        Err(WriteAllFault::Off)
-    );
-    assert_eq!(off.read(address(1)), Err(ReadFault::Off));
+    assert_eq!(off.write_all(&[]), Err(Error::NotOpen));
+    assert_eq!(off.write_all(&[put(1, 5), put(1, 6)]), Err(Error::NotOpen));
+    assert_eq!(off.read(address(1)), Err(Error::NotOpen));
 }
 
 #[test]
@@ -249,11 +248,11 @@ fn an_address_stands_in_a_list_once() {
     let part = after(1, &[1]);
     let mut store = opened(part.clone());
     let many = [put(5, 1), put(1, 2), put(7, 3), put(1, 4), put(5, 5)];
-    assert_eq!(store.write_all(&many), Err(WriteAllFault::Twice(3)));
-    assert_eq!(store.write_all(&many[..3]), Err(WriteAllFault::Full));
+    assert_eq!(store.write_all(&many), Err(Error::Duplicate(3)));
+    assert_eq!(store.write_all(&many[..3]), Err(Error::Full));
     assert_eq!(store.into_driver(), part);
     assert_eq!(
-        WriteAllFault::<u32>::Twice(3).to_string(),
+        Error::<u32>::Duplicate(3).to_string(),
         "value 3 has an address of an earlier one"
     );
 }
@@ -264,9 +263,9 @@ fn no_move_follows_the_greatest_generation() {
     part.pages[0][0] = Word::Held(0xaaaa_aaaa_ffff_fffe);
     part.pages[0][1] = Word::Held(0xaaaa_aaaa_aaaa_aaaa);
     let mut store = opened(part.clone());
-    assert_eq!(store.write_all(&list([1, 2])), Err(WriteAllFault::Spent));
-    assert_eq!(store.write_all(&list([1, 2, 3])), Err(WriteAllFault::Full));
+    assert_eq!(store.write_all(&list([1, 2])), Err(Error::Spent));
+    assert_eq!(store.write_all(&list([1, 2, 3])), Err(Error::Full));
     assert_eq!(store.write_all(&list([1])), Ok(Written::Appended));
     assert_eq!(store.write_all(&list([1])), Ok(Written::Appended));
-    assert_eq!(store.write_all(&list([1])), Err(WriteAllFault::Spent));
+    assert_eq!(store.write_all(&list([1])), Err(Error::Spent));
 }

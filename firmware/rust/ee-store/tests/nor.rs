@@ -1,9 +1,8 @@
 //! The driver over a flash in memory that writes 8 bytes at a time. `firmware/rust/application` tries all other sizes.
 
-use ee_store::nor::{Ecc, Misfit, NorDriver, NorFault, Plain, Reading};
+use ee_store::nor::{Ecc, NorDriver, Plain, Reading};
 use ee_store::{
-    format, open, start, Address, Error, OpenFault, ScanFault, Shape, Store, Unfit, WriteFault,
-    Written,
+    Address, DriverError, Error, Kind, NorError, OpenError, Shape, Step, Store, Unfit, Written,
 };
 use embedded_storage::nor_flash::{
     ErrorType, NorFlash, NorFlashError, NorFlashErrorKind, ReadNorFlash,
@@ -92,33 +91,27 @@ const SHAPE: Shape = match Shape::new(1, 6) {
 };
 
 fn driver(memory: Memory) -> NorDriver<Memory> {
-    NorDriver::new(memory, 0, SHAPE, Plain).ok().unwrap()
+    NorDriver::new(memory, 0, SHAPE, Kind::Words, Plain).unwrap()
 }
 
 /// Why a flash is refused for a store of one page of six words a set.
-fn misfit<F: NorFlash>(flash: F, offset: u32) -> Option<Misfit<F::Error>> {
-    let answer = NorDriver::new(flash, offset, SHAPE, Plain);
-    answer.err().map(|(_, misfit)| misfit)
-}
-
 fn unfit<F: NorFlash>(flash: F, offset: u32) -> Option<Unfit> {
-    match misfit(flash, offset) {
-        Some(Misfit::Unfit(unfit)) => Some(unfit),
-        _ => None,
-    }
+    NorDriver::new(flash, offset, SHAPE, Kind::Words, Plain).err()
 }
 
 #[test]
 fn values_are_kept() {
     let address = Address::new(7).unwrap();
-    let mut store = format(NorDriver::new(memory(), 48, SHAPE, Plain).ok().unwrap()).unwrap();
+    let mut store =
+        Store::format(NorDriver::new(memory(), 48, SHAPE, Kind::Words, Plain).unwrap()).unwrap();
     for value in 0..9 {
         assert!(store.write(address, value).is_ok());
     }
     let memory = store.into_driver().into_flash();
     assert!(memory.bytes[..48].iter().all(|byte| *byte == 0xff));
     assert!(memory.bytes[144..].iter().all(|byte| *byte == 0xff));
-    let store = open(NorDriver::new(memory, 48, SHAPE, Plain).ok().unwrap()).unwrap();
+    let store =
+        Store::open(NorDriver::new(memory, 48, SHAPE, Kind::Words, Plain).unwrap()).unwrap();
     assert_eq!(store.read(address), Ok(Some(8)));
 }
 
@@ -126,13 +119,14 @@ fn values_are_kept() {
 fn what_does_not_fit_is_refused() {
     assert_eq!(unfit(memory(), 8), Some(Unfit::Offset));
     assert_eq!(unfit(memory(), 144), Some(Unfit::Capacity));
-    assert_eq!(misfit(memory(), 96), None);
+    assert_eq!(unfit(memory(), 96), None);
     let two = Shape::new(2, 6).unwrap();
-    assert!(NorDriver::new(memory(), 0, two, Plain).is_ok());
+    assert!(NorDriver::new(memory(), 0, two, Kind::Words, Plain).is_ok());
     // A page of seven words takes two sectors.
     for (pages, is_well) in [(1, true), (2, false)] {
         let shape = Shape::new(pages, 7).unwrap();
-        assert_eq!(NorDriver::new(memory(), 0, shape, Plain).is_ok(), is_well);
+        let driver = NorDriver::new(memory(), 0, shape, Kind::Words, Plain);
+        assert_eq!(driver.is_ok(), is_well);
     }
     assert_eq!(
         unfit(Sizes::<8, 8, 64>, u32::MAX - 63),
@@ -182,14 +176,14 @@ fn sizes_that_do_not_fit_are_refused() {
     assert_eq!(unfit(Sizes::<8, 8, 60>, 0), Some(Unfit::EraseSize));
     assert_eq!(unfit(Sizes::<4, 8, 60>, 0), Some(Unfit::EraseSize));
     assert_eq!(unfit(Sizes::<8, 8, 0>, 0), Some(Unfit::EraseSize));
-    assert_eq!(misfit(Sizes::<1, 1, 64>, 0), Some(Misfit::Flash(Broken)));
-    assert_eq!(misfit(Sizes::<32, 32, 64>, 0), Some(Misfit::Flash(Broken)));
-    assert_eq!(misfit(Sizes::<8, 8, 64>, 64), None);
-    let said = Misfit::<Broken>::Unfit(Unfit::Offset).to_string();
-    assert_eq!(
-        said,
-        "the store doesn't begin where a sector of the flash does"
-    );
+    assert_eq!(unfit(Sizes::<4, 4, 64>, 0), Some(Unfit::Kind));
+    assert_eq!(unfit(Sizes::<32, 32, 64>, 0), None);
+    assert_eq!(unfit(Sizes::<8, 8, 64>, 64), None);
+    for kind in [Kind::Pairs, Kind::PairsClearing] {
+        let refused = NorDriver::new(Sizes::<8, 8, 64>, 0, SHAPE, kind, Plain).err();
+        assert_eq!(refused, Some(Unfit::Kind));
+        assert!(NorDriver::new(Sizes::<1, 1, 64>, 0, SHAPE, kind, Plain).is_ok());
+    }
 }
 
 /// The shape that a range of a flash of these sizes has.
@@ -216,46 +210,81 @@ fn a_range_has_a_shape() {
 
 #[test]
 fn a_store_over_a_range() {
-    let mut store = start(NorDriver::over(memory(), 48..144, Plain).ok().unwrap()).unwrap();
+    let mut store = Store::over(memory(), 48..144, Kind::Words).unwrap();
     assert_eq!(store.shape(), SHAPE);
     assert_eq!(store.write(Address::at(7), 1), Ok(Written::Appended));
     let part = store.into_driver().into_flash();
-    let store = start(NorDriver::new(part, 48, SHAPE, Plain).ok().unwrap()).unwrap();
+    let driver = NorDriver::new(part, 48, SHAPE, Kind::Words, Plain).unwrap();
+    let store = Store::open_or_format(driver).unwrap();
     assert_eq!(store.read(Address::at(7)), Ok(Some(1)));
-    let range = |start, end| {
-        NorDriver::over(memory(), start..end, Plain)
-            .err()
-            .unwrap()
-            .1
-    };
-    assert_eq!(range(8, 96), Misfit::Unfit(Unfit::Offset));
-    assert_eq!(range(0, 144), Misfit::Unfit(Unfit::Length));
-    assert_eq!(range(144, 240), Misfit::Unfit(Unfit::Capacity));
+    let refused = |start, end, kind| Store::over(memory(), start..end, kind).err().unwrap();
+    let rows = [
+        (8, 96, Kind::Words, Unfit::Offset),
+        (0, 144, Kind::Words, Unfit::Length),
+        (144, 240, Kind::Words, Unfit::Capacity),
+        (0, 96, Kind::Pairs, Unfit::Kind),
+    ];
+    for (start, end, kind, unfit) in rows {
+        assert_eq!(refused(start, end, kind), OpenError::Unfit(unfit));
+    }
 }
 
-/// Each refusal becomes the one error by `?`.
+/// A flash that another program wrote is refused, and nothing is written, whatever it writes at a time.
 #[test]
-fn a_misfit_becomes_an_error() {
-    fn started(start_byte: u32) -> Result<(), Error<NorFault<Broken>>> {
-        start(NorDriver::new(memory(), start_byte, SHAPE, Plain)?)?;
-        start(NorDriver::over(memory(), 0..start_byte, Plain)?)?;
+fn foreign_units_are_refused() {
+    for fill in [0x00, 0x2a, 0x7f] {
+        let flash = Units(vec![fill; 160]);
+        let refused = Store::over(flash, 0..160, Kind::Words).err();
+        assert_eq!(refused, Some(OpenError::NoLiveSet), "{fill:#x}");
+    }
+}
+
+/// A flash that writes 16 bytes at a time, and is never written.
+struct Units(Vec<u8>);
+
+impl ErrorType for Units {
+    type Error = Broken;
+}
+
+impl ReadNorFlash for Units {
+    const READ_SIZE: usize = 1;
+
+    fn read(&mut self, offset: u32, bytes: &mut [u8]) -> Result<(), Broken> {
+        bytes.copy_from_slice(&self.0[offset as usize..][..bytes.len()]);
         Ok(())
     }
-    assert_eq!(started(8), Err(Error::Unfit(Unfit::Offset)));
-    assert_eq!(started(48), Err(Error::Unfit(Unfit::Length)));
-    assert_eq!(started(96), Ok(()));
-    let unread = Misfit::Flash(Broken).into();
-    assert_eq!(Error::Driver(NorFault::Flash(Broken)), unread);
+
+    fn capacity(&self) -> usize {
+        self.0.len()
+    }
+}
+
+impl NorFlash for Units {
+    const WRITE_SIZE: usize = 16;
+    const ERASE_SIZE: usize = 80;
+
+    fn erase(&mut self, _from: u32, _to: u32) -> Result<(), Broken> {
+        unreachable!("nothing is erased")
+    }
+
+    fn write(&mut self, _offset: u32, _bytes: &[u8]) -> Result<(), Broken> {
+        unreachable!("nothing is written")
+    }
 }
 
 /// Word 4 of page 0 has an ECC error.
 struct Torn;
 
 impl Ecc<Memory> for Torn {
-    fn read(&self, flash: &mut Memory, byte: u32, bytes: &mut [u8]) -> Result<Reading, Broken> {
+    fn read_bytes(
+        &self,
+        flash: &mut Memory,
+        byte: u32,
+        bytes: &mut [u8],
+    ) -> Result<Reading, Broken> {
         match byte {
             32 => Ok(Reading::Torn),
-            _ => Plain.read(flash, byte, bytes),
+            _ => Plain.read_bytes(flash, byte, bytes),
         }
     }
 }
@@ -264,7 +293,7 @@ impl Ecc<Memory> for Torn {
 type Kept = Store<NorDriver<Memory, Torn>>;
 
 fn opened(memory: Memory) -> Kept {
-    open(NorDriver::new(memory, 0, SHAPE, Torn).ok().unwrap()).unwrap()
+    Store::open(NorDriver::new(memory, 0, SHAPE, Kind::Words, Torn).unwrap()).unwrap()
 }
 
 #[test]
@@ -272,9 +301,16 @@ fn errors_come_back() {
     let address = Address::new(7).unwrap();
     let mut part = memory();
     part.worn = Some(4 * 8);
-    let mut store = format(driver(part)).unwrap();
-    let lost = Err(WriteFault::Driver(NorFault::ReadBack));
-    assert_eq!(store.write(address, 1), lost);
+    let mut store = Store::format(driver(part)).unwrap();
+    let (step, page, at) = (Step::Program, 0, 4);
+    let error = NorError::ReadBack;
+    let lost = DriverError {
+        step,
+        page,
+        at,
+        error,
+    };
+    assert_eq!(store.write(address, 1), Err(Error::Driver(lost)));
     let mut part = store.into_driver().into_flash();
     part.worn = None;
     let mut store = opened(part);
@@ -283,10 +319,16 @@ fn errors_come_back() {
     let mut part = store.into_driver().into_flash();
     part.fails = true;
     let mut store = opened(part);
-    let failed = Err(WriteFault::Driver(NorFault::Flash(Broken)));
-    assert_eq!(store.write(address, 3), failed);
-    let fault = open(driver(memory())).err().unwrap().fault;
-    assert_eq!(fault, OpenFault::Scan(ScanFault::Unformatted));
+    let (at, error) = (6, NorError::Flash(Broken));
+    let failed = DriverError {
+        step,
+        page,
+        at,
+        error,
+    };
+    assert!(matches!(store.write(address, 3), Err(Error::Driver(it)) if it.error == failed.error));
+    let fault = Store::open(driver(memory())).err().unwrap();
+    assert_eq!(fault, OpenError::Unformatted);
 }
 
 #[test]
@@ -294,33 +336,43 @@ fn an_erase_is_read_back() {
     let mut part = memory();
     part.bytes.fill(0);
     part.lies = true;
-    let failed = format(driver(part)).unwrap_err();
-    assert_eq!(failed.fault, OpenFault::Driver(NorFault::ReadBack));
-    let mut part = failed.driver.into_flash();
-    part.lies = false;
-    assert!(format(driver(part)).is_ok());
+    let mut driver = driver(part);
+    let refused = Store::format(&mut driver).err();
+    let (step, page, at) = (Step::Erase, 0, 0);
+    let error = NorError::ReadBack;
+    let lies = DriverError {
+        step,
+        page,
+        at,
+        error,
+    };
+    assert_eq!(refused, Some(OpenError::Driver(lies)));
+    driver.flash_mut().lies = false;
+    assert!(Store::format(driver).is_ok());
 }
 
 #[test]
 fn a_read_that_fails_is_no_torn_word() {
     let address = Address::new(7).unwrap();
-    let mut store = format(driver(memory())).unwrap();
+    let mut store = Store::format(driver(memory())).unwrap();
     assert_eq!(store.write(address, 1), Ok(Written::Appended));
-    let mut part = store.into_driver().into_flash();
-    let bytes = part.bytes;
+    let mut part = store.into_driver();
+    let bytes = part.flash_mut().bytes;
     for down in (0..96).step_by(8) {
-        part.down = Some(down);
-        part = match start(driver(part)) {
-            Ok(store) => store.into_driver().into_flash(),
-            Err(failed) => {
-                assert_eq!(failed.fault, OpenFault::Driver(NorFault::Flash(Broken)));
-                failed.driver.into_flash()
-            }
-        };
-        assert_eq!(part.bytes, bytes);
+        part.flash_mut().down = Some(down);
+        if let Err(error) = Store::open_or_format(&mut part) {
+            let OpenError::Driver(error) = error else {
+                panic!("{error}")
+            };
+            assert_eq!(
+                (error.step, error.error),
+                (Step::Read, NorError::Flash(Broken))
+            );
+        }
+        assert_eq!(part.flash_mut().bytes, bytes);
     }
-    part.down = None;
-    assert_eq!(open(driver(part)).unwrap().read(address), Ok(Some(1)));
+    part.flash_mut().down = None;
+    assert_eq!(Store::open(part).unwrap().read(address), Ok(Some(1)));
 }
 
 /// Notes which bytes are to be erased.
@@ -328,9 +380,14 @@ fn a_read_that_fails_is_no_torn_word() {
 struct Told(Rc<RefCell<Vec<Range<u32>>>>);
 
 impl Ecc<Memory> for Told {
-    fn read(&self, flash: &mut Memory, byte: u32, bytes: &mut [u8]) -> Result<Reading, Broken> {
+    fn read_bytes(
+        &self,
+        flash: &mut Memory,
+        byte: u32,
+        bytes: &mut [u8],
+    ) -> Result<Reading, Broken> {
         assert_eq!(bytes.len(), 8, "one word, since nothing says more");
-        Plain.read(flash, byte, bytes)
+        Plain.read_bytes(flash, byte, bytes)
     }
 
     fn erases(&self, bytes: Range<u32>) {
@@ -344,7 +401,8 @@ fn a_reader_is_told_of_each_erase() {
     let mut part = memory();
     part.bytes.fill(0);
     let shape = Shape::new(1, 7).unwrap();
-    let mut store = format(NorDriver::new(part, 0, shape, told.clone()).ok().unwrap()).unwrap();
+    let mut store =
+        Store::format(NorDriver::new(part, 0, shape, Kind::Words, told.clone()).unwrap()).unwrap();
     assert_eq!(told.0.take(), [0..96, 96..192]);
     for value in 0..4 {
         store.write(Address::at(7), value).unwrap();

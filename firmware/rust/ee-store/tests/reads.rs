@@ -1,10 +1,7 @@
 //! Reads that fail, on parts of words and of numbers: no step follows one, the call answers the driver's error, the store is
 //! off, and nothing is lost.
 
-use ee_store::{
-    format, open, start, Address, CleanFault, Driver, Failed, ForgetFault, NumberDriver, OpenFault,
-    Pairs, PairsFault, Put, ReadFault, Shape, Store, Word, WriteAllFault, WriteFault,
-};
+use ee_store::{Address, Driver, Error, Kind, OpenError, Put, Shape, Step, Store, Word};
 use std::cell::Cell;
 use std::collections::BTreeMap;
 
@@ -59,20 +56,27 @@ impl Part {
     }
 }
 
-impl NumberDriver for Part {
+impl Driver for Part {
     type Error = Down;
 
     fn shape(&self) -> Shape {
         self.shape
     }
 
-    fn read(&self, page: usize, at: usize) -> Result<u64, Down> {
+    fn kind(&self) -> Kind {
+        match self.per_word {
+            1 => Kind::Words,
+            _ => Kind::Pairs,
+        }
+    }
+
+    fn word(&self, page: usize, at: usize) -> Result<Word, Down> {
         self.reads.set(self.reads.get() + 1);
         if self.fails.contains(&(self.reads.get() - 1)) {
             self.failed.set(true);
             return Err(Down);
         }
-        Ok(self.numbers[page][at])
+        Ok(Word::from(self.numbers[page][at]))
     }
 
     fn program(&mut self, page: usize, at: usize, number: u64) -> Result<(), Down> {
@@ -89,72 +93,15 @@ impl NumberDriver for Part {
     }
 }
 
-/// The part as a driver of words.
-#[derive(Clone, Debug, PartialEq, Eq)]
-struct Words(Part);
-
-impl Driver for Words {
-    type Error = Down;
-
-    fn shape(&self) -> Shape {
-        self.0.shape
-    }
-
-    fn word(&self, page: usize, at: usize) -> Result<Word, Down> {
-        if self.0.per_word == 1 {
-            return self.0.read(page, at).map(Word::from);
-        }
-        Pairs::known(&mut Reads(&self.0)).word(page, at)
-    }
-
-    fn program(&mut self, page: usize, at: usize, value: u64) -> Result<(), Down> {
-        match self.0.per_word {
-            1 => self.0.program(page, at, value),
-            _ => Pairs::known(&mut self.0).program(page, at, value),
-        }
-    }
-
-    fn erase(&mut self, page: usize) -> Result<(), Down> {
-        self.0.erase(page)
-    }
-
-    fn keeps_erased(&self) -> bool {
-        self.0.per_word == 2
-    }
-}
-
-/// The numbers of a part that is lent.
-struct Reads<'a>(&'a Part);
-
-impl NumberDriver for Reads<'_> {
-    type Error = Down;
-
-    fn shape(&self) -> Shape {
-        self.0.shape
-    }
-
-    fn read(&self, page: usize, at: usize) -> Result<u64, Down> {
-        self.0.read(page, at)
-    }
-
-    fn program(&mut self, _page: usize, _at: usize, _number: u64) -> Result<(), Down> {
-        unreachable!("it is read alone")
-    }
-
-    fn erase(&mut self, _page: usize) -> Result<(), Down> {
-        unreachable!("it is read alone")
-    }
-}
-
 fn address(number: u16) -> Address {
     Address::new(number).unwrap()
 }
 
-fn opened(part: &Part) -> Store<Words> {
-    open(Words(part.clone())).unwrap_or_else(|failed| panic!("{:?}", failed.fault))
+fn opened(part: &Part) -> Store<Part> {
+    Store::open(part.clone()).unwrap()
 }
 
-fn held(store: &Store<Words>) -> Map {
+fn held(store: &Store<Part>) -> Map {
     let mut map = Map::new();
     let mut after = None;
     while let Some((found, value)) = store.next_live(after).unwrap() {
@@ -166,41 +113,41 @@ fn held(store: &Store<Words>) -> Map {
 
 /// A part with a store on which so many writes were made, to five addresses.
 fn written(mut part: Part, writes: u32) -> Part {
-    let mut store = format(Words(part)).unwrap_or_else(|failed| panic!("{:?}", failed.fault));
+    let mut store = Store::format(part).unwrap();
     for value in 0..writes {
         store.write(address(1 + value as u16 % 5), value).unwrap();
     }
-    part = store.into_driver().0;
+    part = store.into_driver();
     part.whole()
 }
 
 /// A call, which changes the map as it changes the store's. `None` where it ends well, `Some` where the driver failed in it.
-type Call = fn(&mut Store<Words>, &mut Map) -> Option<()>;
+type Call = fn(&mut Store<Part>, &mut Map) -> Option<()>;
 
-fn driver_failed<T, F: PartialEq + std::fmt::Debug>(answer: Result<T, F>, failed: F) -> Option<()> {
+fn driver_failed<T>(answer: Result<T, Error<Down>>) -> Option<()> {
     match answer {
         Ok(_) => None,
-        Err(fault) => {
-            assert_eq!(fault, failed);
+        Err(error) => {
+            assert!(matches!(error, Error::Driver(_)), "{error}");
             Some(())
         }
     }
 }
 
 const CALLS: [Call; 9] = [
-    |store, _| driver_failed(store.read(address(4)), ReadFault::Driver(Down)),
-    |store, _| driver_failed(store.next_live(None), ReadFault::Driver(Down)),
-    |store, _| driver_failed(store.live_count(), ReadFault::Driver(Down)),
-    |store, _| driver_failed(store.pending(), ReadFault::Driver(Down)),
-    |store, _| driver_failed(store.torn_slots(), ReadFault::Driver(Down)),
-    |store, _| driver_failed(store.clean_step(), CleanFault::Driver(Down)),
+    |store, _| driver_failed(store.read(address(4))),
+    |store, _| driver_failed(store.next_live(None)),
+    |store, _| driver_failed(store.live_count()),
+    |store, _| driver_failed(store.pending()),
+    |store, _| driver_failed(store.torn_slots()),
+    |store, _| driver_failed(store.clean_step()),
     |store, map| {
         map.insert(2, 777);
-        driver_failed(store.write(address(2), 777), WriteFault::Driver(Down))
+        driver_failed(store.write(address(2), 777))
     },
     |store, map| {
         map.remove(&3);
-        driver_failed(store.forget(address(3)), ForgetFault::Driver(Down))
+        driver_failed(store.forget(address(3)))
     },
     |store, map| {
         map.extend([(1, 10), (9, 90)]);
@@ -208,7 +155,7 @@ const CALLS: [Call; 9] = [
             address: address(number),
             value,
         });
-        driver_failed(store.write_all(&values), WriteAllFault::Driver(Down))
+        driver_failed(store.write_all(&values))
     },
 ];
 
@@ -216,16 +163,16 @@ const CALLS: [Call; 9] = [
 fn fail_everywhere(part: &Part, call: Call) -> u64 {
     let old = held(&opened(part));
     for read in 0.. {
-        let opening = opened(part).into_driver().0.reads.get();
+        let opening = opened(part).into_driver().reads.get();
         let mut store = opened(&part.failing(opening + read..opening + read + 1));
         let mut new = old.clone();
         if call(&mut store, &mut new).is_none() {
-            assert_eq!(held(&opened(&store.into_driver().0.whole())), new);
+            assert_eq!(held(&opened(&store.into_driver().whole())), new);
             return read;
         }
-        assert_eq!(store.read(address(1)), Err(ReadFault::Off));
-        assert_eq!(store.write(address(1), 1), Err(WriteFault::Off));
-        let found = held(&opened(&store.into_driver().0.whole()));
+        assert_eq!(store.read(address(1)), Err(Error::NotOpen));
+        assert_eq!(store.write(address(1), 1), Err(Error::NotOpen));
+        let found = held(&opened(&store.into_driver().whole()));
         assert!(found == old || found == new, "read {read}: {found:?}");
     }
     unreachable!("a call ends")
@@ -243,23 +190,33 @@ fn nothing_is_lost_by_a_read_that_fails_once() {
     }
 }
 
+type Opening = fn(&mut Part) -> Result<(), OpenError<Down>>;
+
+const OPENINGS: [Opening; 3] = [
+    |part| Store::open_or_format(part).map(drop),
+    |part| Store::open(part).map(drop),
+    |part| Store::format(part).map(drop),
+];
+
 #[test]
 fn a_start_on_a_bus_that_is_not_up_writes_nothing() {
     for per_word in [1, 2] {
         let part = written(Part::blank(1, 64, per_word), 55);
         for first in [0, 1, 2, 70, 130] {
             for reads in [1, 2, 64, 400, 505, u64::MAX / 2] {
-                let failing = part.failing(first..first + reads);
-                for how in [start, open] {
-                    let answer = how(Words(failing.clone()));
-                    let Err(Failed { driver, fault }) = answer else {
+                for opening in &OPENINGS[..2] {
+                    let mut failing = part.failing(first..first + reads);
+                    let Err(error) = opening(&mut failing) else {
+                        assert!(first > 0);
                         continue;
                     };
-                    assert_eq!(fault, OpenFault::Driver(Down));
-                    assert_eq!(driver.0.numbers, part.numbers);
-                    assert_eq!(held(&opened(&driver.0.whole())).len(), 5);
+                    let OpenError::Driver(error) = error else {
+                        panic!("{error}")
+                    };
+                    assert_eq!((error.step, error.error), (Step::Read, Down));
+                    assert_eq!(failing.numbers, part.numbers);
+                    assert_eq!(held(&opened(&failing.whole())).len(), 5);
                 }
-                assert!(first > 0 || start(Words(failing)).is_err());
             }
         }
     }
@@ -270,28 +227,27 @@ fn a_first_start_and_a_format_take_no_step_behind_a_failed_read() {
     for per_word in [1, 2] {
         let blank = Part::blank(1, 6, per_word);
         for read in 0..200 {
-            for how in [start, format] {
-                if let Err(failed) = how(Words(blank.failing(read..read + 1))) {
-                    assert_eq!(failed.fault, OpenFault::Driver(Down));
-                    assert!(start(Words(failed.driver.0.whole())).is_ok());
+            for opening in [OPENINGS[0], OPENINGS[2]] {
+                let mut failing = blank.failing(read..read + 1);
+                if let Err(error) = opening(&mut failing) {
+                    assert!(matches!(error, OpenError::Driver(_)), "{error}");
+                    assert!(Store::open_or_format(failing.whole()).is_ok());
                 }
             }
         }
     }
 }
 
+/// The error names the word, whatever a word is made of.
 #[test]
-fn numbers_that_cannot_be_read_are_told() {
-    let blank = Part::blank(1, 6, 2);
-    for read in 0..24 {
-        let (part, fault) = Pairs::of(blank.failing(read..read + 1)).err().unwrap();
-        assert_eq!(fault, PairsFault::Driver(Down));
-        assert_eq!(part.numbers, blank.numbers);
-        let (part, Down) = Pairs::wipe(blank.failing(read..read + 1)).err().unwrap();
-        assert_eq!(part.numbers, blank.numbers);
+fn the_place_of_a_read_is_told() {
+    for per_word in [1, 2] {
+        let part = written(Part::blank(1, 6, per_word), 1);
+        let reads = opened(&part).into_driver().reads.get();
+        let mut store = opened(&part.failing(reads..u64::MAX));
+        let Err(Error::Driver(error)) = store.write_all(&[]).and(store.read(address(1))) else {
+            panic!("it is read")
+        };
+        assert_eq!((error.step, error.page, error.at), (Step::Read, 0, 4));
     }
-    assert_eq!(
-        ReadFault::<u32>::Driver(3).to_string(),
-        "the driver failed: 3"
-    );
 }

@@ -2,148 +2,86 @@
 
 use defmt::{shown, Format, Formatter};
 use ee_store::{
-    Address, CleanFault, Driver, Failed, ForgetFault, LowPair, NotRescued, Off, OpenFault,
-    PairsFault, Put, ReadFault, RescueFault, ScanFault, Shape, Unfit, Word, WriteAllFault,
-    WriteFault, Written,
+    Address, DriverError, Error, NorError, OpenError, Put, Rescued, Step, Unfit, Written,
 };
-use std::fmt::{self, Display};
+use std::fmt::Display;
 
 /// A driver's own error.
+#[derive(Clone, Copy, Debug)]
 struct Locked;
 
 impl Format for Locked {
     fn format(&self, f: Formatter<'_>) {
-        defmt::write!(f, "locked");
+        defmt::write!(f, "Locked");
     }
 }
 
-impl Display for Locked {
-    fn fmt(&self, f: &mut fmt::Formatter<'_>) -> fmt::Result {
-        f.write_str("locked")
-    }
+fn same<T: Display + Format>(error: T) {
+    assert_eq!(shown(&error), error.to_string());
 }
 
-struct Part;
-
-impl Driver for Part {
-    type Error = Locked;
-
-    fn shape(&self) -> Shape {
-        Shape::new(1, 5).unwrap()
-    }
-
-    fn word(&self, _page: usize, _at: usize) -> Result<Word, Locked> {
-        Err(Locked)
-    }
-
-    fn program(&mut self, _page: usize, _at: usize, _value: u64) -> Result<(), Locked> {
-        Err(Locked)
-    }
-
-    fn erase(&mut self, _page: usize) -> Result<(), Locked> {
-        Err(Locked)
-    }
-}
-
-fn same<T: Display + Format>(fault: T) {
-    assert_eq!(shown(&fault), fault.to_string());
-}
-
-const SCAN_FAULTS: [ScanFault; 4] = [
-    ScanFault::Unformatted,
-    ScanFault::NoLiveSet,
-    ScanFault::TwoLive,
-    ScanFault::Foreign { page: 3, at: 17 },
+const UNFITS: [Unfit; 8] = [
+    Unfit::WriteSize,
+    Unfit::ReadSize,
+    Unfit::EraseSize,
+    Unfit::Kind,
+    Unfit::Offset,
+    Unfit::Length,
+    Unfit::Sector,
+    Unfit::Capacity,
 ];
 
 #[test]
-fn faults_of_an_opening_are_shown() {
-    for fault in SCAN_FAULTS {
-        same(fault);
-        same(OpenFault::<Locked>::Scan(fault));
-        same(Failed {
-            driver: Part,
-            fault: OpenFault::Scan(fault),
-        });
+fn errors_are_shown() {
+    let mut all = vec![
+        OpenError::Unformatted,
+        OpenError::NoLiveSet,
+        OpenError::TwoLive,
+        OpenError::Foreign { page: 3, at: 17 },
+        OpenError::NothingBegun,
+        OpenError::Spent,
+        OpenError::Unsteady,
+    ];
+    for step in [Step::Read, Step::Program, Step::Erase] {
+        let error = DriverError {
+            step,
+            page: 3,
+            at: 17,
+            error: Locked,
+        };
+        same(error);
+        same(Error::Driver(error));
+        all.push(OpenError::Driver(error));
     }
-    same(OpenFault::Driver(Locked));
-    same(OpenFault::<Locked>::Unsteady);
-    for fault in [
-        RescueFault::NothingBegun,
-        RescueFault::Spent,
-        RescueFault::Unsteady,
+    for unfit in UNFITS {
+        same(unfit);
+        all.push(unfit.into());
+    }
+    for error in all {
+        same(error);
+        same(Error::from(error));
+    }
+    for error in [
+        Error::NotOpen,
+        Error::Full,
+        Error::Spent,
+        Error::Duplicate(3),
+        Error::Absent,
+        Error::Unsteady,
     ] {
-        same::<RescueFault<Locked>>(fault);
+        same::<Error<Locked>>(error);
     }
-    same(NotRescued {
-        driver: Part,
-        fault: RescueFault::Spent,
-    });
-    same(RescueFault::Driver(Locked));
-    same(PairsFault::<Locked>::Low(LowPair { page: 3, word: 17 }));
-    same(PairsFault::Driver(Locked));
-}
-
-#[test]
-fn faults_of_other_calls_are_shown() {
-    same(Off);
-    for fault in [ReadFault::Off, ReadFault::Unsteady] {
-        same::<ReadFault<Locked>>(fault);
-    }
-    same(ReadFault::Driver(Locked));
-    same(WriteFault::<Locked>::Unsteady);
-    same(WriteAllFault::<Locked>::Unsteady);
-    same(ForgetFault::<Locked>::Unsteady);
-    same(CleanFault::<Locked>::Unsteady);
-    for fault in [WriteFault::Off, WriteFault::Full, WriteFault::Spent] {
-        same::<WriteFault<Locked>>(fault);
-    }
-    same(WriteFault::Driver(Locked));
-    for fault in [
-        WriteAllFault::Off,
-        WriteAllFault::Twice(3),
-        WriteAllFault::Full,
-        WriteAllFault::Spent,
-    ] {
-        same::<WriteAllFault<Locked>>(fault);
-    }
-    same(WriteAllFault::Driver(Locked));
-    for fault in [ForgetFault::Off, ForgetFault::Absent, ForgetFault::Spent] {
-        same::<ForgetFault<Locked>>(fault);
-    }
-    same(ForgetFault::Driver(Locked));
-    same::<CleanFault<Locked>>(CleanFault::Off);
-    same(CleanFault::Driver(Locked));
+    same(NorError::Flash(3));
+    same(NorError::<u8>::ReadBack);
 }
 
 #[test]
 fn answers_are_shown() {
     assert_eq!(shown(&Written::Appended), "appended");
     assert_eq!(shown(&Written::Moved), "moved");
-    let address = Address::new(65534).unwrap();
+    let (address, bad_words, live) = (Address::at(65534), 1, 2);
     assert_eq!(shown(&address), "65534");
-    let put = Put { address, value: 7 };
-    assert_eq!(shown(&put), "address 65534 value 7");
-}
-
-#[cfg(feature = "embedded-storage")]
-#[test]
-fn faults_of_a_nor_flash_are_shown() {
-    use ee_store::nor::{Misfit, NorFault};
-    same(NorFault::Flash(3));
-    same(NorFault::<u8>::ReadBack);
-    same(WriteFault::Driver(NorFault::Flash(3)));
-    for misfit in [
-        Misfit::Unfit(Unfit::WriteSize),
-        Misfit::Unfit(Unfit::ReadSize),
-        Misfit::Unfit(Unfit::EraseSize),
-        Misfit::Unfit(Unfit::Offset),
-        Misfit::Unfit(Unfit::Length),
-        Misfit::Unfit(Unfit::Sector),
-        Misfit::Unfit(Unfit::Capacity),
-        Misfit::Low(LowPair { page: 3, word: 17 }),
-        Misfit::Flash(4),
-    ] {
-        same::<Misfit<u8>>(misfit);
-    }
+    assert_eq!(shown(&Put { address, value: 7 }), "address 65534 value 7");
+    let rescued = Rescued { bad_words, live };
+    assert_eq!(shown(&rescued), "1 bad words, 2 values");
 }

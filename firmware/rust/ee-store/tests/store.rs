@@ -1,9 +1,8 @@
 //! The store by its methods, over a part in memory that can be told to fail in a step.
 
 use ee_store::{
-    format, open, rescue, start, Address, CleanFault, Driver, ForgetAllFault, ForgetFault, Off,
-    OpenFault, Put, ReadFault, RescueFault, Rescued, ScanFault, Shape, Store, Word, WriteAllFault,
-    WriteFault, Written,
+    Address, Driver, DriverError, Error, Kind, OpenError, Put, Rescued, Shape, Step, Store, Word,
+    Written,
 };
 use std::cell::Cell;
 use std::fmt;
@@ -53,6 +52,10 @@ impl Driver for Part {
         SHAPE
     }
 
+    fn kind(&self) -> Kind {
+        Kind::Words
+    }
+
     fn word(&self, page: usize, at: usize) -> Result<Word, Broken> {
         Ok(self.words[page][at])
     }
@@ -79,13 +82,29 @@ const SHAPE: Shape = match Shape::new(1, 6) {
     None => panic!("1 to 64 pages, 5 to 512 words"),
 };
 
+/// What the driver said in a call that it failed in.
+fn failed<T: fmt::Debug>(answer: Result<T, Error<Broken>>) -> Broken {
+    match answer {
+        Err(Error::Driver(failed)) => failed.error,
+        other => panic!("{other:?}"),
+    }
+}
+
+/// What the driver said in an opening that it failed in.
+fn not_opened<T: fmt::Debug>(answer: Result<T, OpenError<Broken>>) -> Broken {
+    match answer {
+        Err(OpenError::Driver(failed)) => failed.error,
+        other => panic!("{other:?}"),
+    }
+}
+
 fn address(number: u16) -> Address {
     Address::new(number).unwrap()
 }
 
 /// The store with 1=11, no slot free and nothing pending.
 fn full() -> Store<Part> {
-    let mut store = format(Part::new()).unwrap();
+    let mut store = Store::format(Part::new()).unwrap();
     assert_eq!(store.write(address(1), 10), Ok(Written::Appended));
     assert_eq!(store.write(address(1), 11), Ok(Written::Appended));
     store
@@ -96,7 +115,7 @@ fn failing(store: Store<Part>, step: u32) -> Store<Part> {
     let mut part = store.into_driver();
     part.steps = 0;
     part.fails_in = Some(step);
-    open(part).unwrap()
+    Store::open(part).unwrap()
 }
 
 #[test]
@@ -120,10 +139,9 @@ fn values_are_kept() {
 fn a_bad_word_is_rescued() {
     let mut part = full().into_driver();
     part.words[0][2] = Word::Held(7);
-    let failed = open(part).err().unwrap();
-    let foreign = ScanFault::Foreign { page: 0, at: 2 };
-    assert_eq!(failed.fault, OpenFault::Scan(foreign));
-    let (store, rescued) = rescue(failed.driver).unwrap();
+    let refused = Store::open(&mut part).err();
+    assert_eq!(refused, Some(OpenError::Foreign { page: 0, at: 2 }));
+    let (store, rescued) = Store::rescue(part).unwrap();
     let wanted = Rescued {
         bad_words: 1,
         live: 1,
@@ -131,7 +149,7 @@ fn a_bad_word_is_rescued() {
     assert_eq!(rescued, wanted);
     assert_eq!(store.read(address(1)), Ok(Some(11)));
     assert_eq!(store.generation(), Ok(2));
-    let store = open(store.into_driver()).unwrap();
+    let store = Store::open(store.into_driver()).unwrap();
     assert_eq!(store.read(address(1)), Ok(Some(11)));
 }
 
@@ -143,21 +161,20 @@ fn a_rescue_that_fails_is_made_again() {
         part.words[0][3] = Word::Held(7);
         part.steps = 0;
         part.fails_in = Some(step);
-        let failed = rescue(part).err().unwrap();
-        assert_eq!(failed.fault, RescueFault::Driver(Broken { step }));
-        let (store, _) = rescue(failed.driver).unwrap();
+        assert_eq!(not_opened(Store::rescue(&mut part)), Broken { step });
+        let (store, _) = Store::rescue(part).unwrap();
         assert_eq!(store.read(address(1)), Ok(Some(11)));
     }
-    let failed = rescue(Part::new()).err().unwrap();
-    assert_eq!(failed.fault, RescueFault::NothingBegun);
+    let failed = Store::rescue(Part::new()).err().unwrap();
+    assert_eq!(failed, OpenError::NothingBegun);
 }
 
 #[test]
 fn refusals() {
     let mut store = full();
-    assert_eq!(store.forget(address(2)), Err(ForgetFault::Absent));
+    assert_eq!(store.forget(address(2)), Err(Error::Absent));
     assert_eq!(store.write(address(2), 5), Ok(Written::Moved));
-    assert_eq!(store.write(address(3), 6), Err(WriteFault::Full));
+    assert_eq!(store.write(address(3), 6), Err(Error::Full));
     assert_eq!(store.forget(address(1)), Ok(Written::Moved));
     assert_eq!(store.read(address(1)), Ok(None));
 }
@@ -173,7 +190,7 @@ fn a_clear_takes_all_values_away() {
     assert_eq!(store.forget_all(), Ok(false));
     assert_eq!(store.generation(), Ok(2));
     assert_eq!(store.write(address(1), 12), Ok(Written::Appended));
-    let store = open(store.into_driver()).unwrap();
+    let store = Store::open(store.into_driver()).unwrap();
     assert_eq!(store.read(address(1)), Ok(Some(12)));
 }
 
@@ -182,9 +199,9 @@ fn a_clear_that_fails_is_done_or_not() {
     for step in 1..4 {
         let mut store = failing(full(), step);
         let error = Broken { step };
-        assert_eq!(store.forget_all(), Err(ForgetAllFault::Driver(error)));
-        assert_eq!(store.forget_all(), Err(ForgetAllFault::Off));
-        let mut store = open(store.into_driver()).unwrap();
+        assert_eq!(failed(store.forget_all()), error);
+        assert_eq!(store.forget_all(), Err(Error::NotOpen));
+        let mut store = Store::open(store.into_driver()).unwrap();
         // The second step commits the clear, and a torn mark does not.
         let value = if step < 3 { Some(11) } else { None };
         assert_eq!(store.read(address(1)), Ok(value));
@@ -194,7 +211,7 @@ fn a_clear_that_fails_is_done_or_not() {
 
 #[test]
 fn a_forgotten_address_is_there_again() {
-    let mut store = format(Part::new()).unwrap();
+    let mut store = Store::format(Part::new()).unwrap();
     assert_eq!(store.write(address(7), 1), Ok(Written::Appended));
     assert_eq!(store.forget(address(7)), Ok(Written::Appended));
     assert_eq!(store.read(address(7)), Ok(None));
@@ -207,14 +224,14 @@ fn the_error_of_the_driver_comes_back() {
     for step in 1..=4 {
         let mut store = failing(full(), step);
         let error = Broken { step };
-        assert_eq!(store.write(address(2), 5), Err(WriteFault::Driver(error)));
-        assert_eq!(store.write(address(2), 5), Err(WriteFault::Off));
-        assert_eq!(store.forget(address(1)), Err(ForgetFault::Off));
-        assert_eq!(store.clean_step(), Err(CleanFault::Off));
-        assert_eq!(store.read(address(1)), Err(ReadFault::Off));
-        assert_eq!(store.fill(), Err(Off));
-        assert_eq!(store.pending(), Err(ReadFault::Off));
-        let store = open(store.into_driver()).unwrap();
+        assert_eq!(failed(store.write(address(2), 5)), error);
+        assert_eq!(store.write(address(2), 5), Err(Error::NotOpen));
+        assert_eq!(store.forget(address(1)), Err(Error::NotOpen));
+        assert_eq!(store.clean_step(), Err(Error::NotOpen));
+        assert_eq!(store.read(address(1)), Err(Error::NotOpen));
+        assert_eq!(store.fill(), Err(Error::NotOpen));
+        assert_eq!(store.pending(), Err(Error::NotOpen));
+        let store = Store::open(store.into_driver()).unwrap();
         assert_eq!(store.read(address(1)), Ok(Some(11)));
         // The fourth step commits the move, and a torn mark does not.
         assert_eq!(store.read(address(2)), Ok(None));
@@ -225,8 +242,8 @@ fn the_error_of_the_driver_comes_back() {
 fn a_move_that_failed_behind_its_commit_is_made() {
     let mut store = failing(full(), 5);
     let error = Broken { step: 5 };
-    assert_eq!(store.write(address(2), 5), Err(WriteFault::Driver(error)));
-    let store = open(store.into_driver()).unwrap();
+    assert_eq!(failed(store.write(address(2), 5)), error);
+    let store = Store::open(store.into_driver()).unwrap();
     assert_eq!(store.read(address(2)), Ok(Some(5)));
 }
 
@@ -234,34 +251,29 @@ fn a_move_that_failed_behind_its_commit_is_made() {
 fn errors_of_the_other_calls() {
     let error = Broken { step: 1 };
     let mut store = failing(full(), 1);
-    assert_eq!(store.forget(address(1)), Err(ForgetFault::Driver(error)));
-    let mut store = open(store.into_driver()).unwrap();
+    assert_eq!(failed(store.forget(address(1))), error);
+    let mut store = Store::open(store.into_driver()).unwrap();
     assert_eq!(store.write(address(2), 5), Ok(Written::Moved));
     let mut store = failing(store, 1);
-    assert_eq!(store.clean_step(), Err(CleanFault::Driver(error)));
+    assert_eq!(failed(store.clean_step()), error);
 
     let mut part = Part::new();
     part.fails_in = Some(2);
-    let failed = format(part).err().unwrap();
-    assert_eq!(failed.fault, OpenFault::Driver(Broken { step: 2 }));
-    let failed = open(failed.driver).err().unwrap();
-    assert_eq!(failed.fault, OpenFault::Scan(ScanFault::NoLiveSet));
-    assert!(format(failed.driver).is_ok());
+    assert_eq!(not_opened(Store::format(&mut part)), Broken { step: 2 });
+    assert_eq!(Store::open(&mut part).err(), Some(OpenError::NoLiveSet));
+    assert!(Store::format(part).is_ok());
 }
 
 #[test]
 fn a_flash_without_a_store() {
-    let failed = open(Part::new()).err().unwrap();
-    assert_eq!(failed.fault, OpenFault::Scan(ScanFault::Unformatted));
+    let failed = Store::open(Part::new()).err().unwrap();
+    assert_eq!(failed, OpenError::Unformatted);
     assert_eq!(failed.to_string(), "the flash is not formatted");
 
     let mut part = full().into_driver();
     part.words[0][4] = Word::Held(0);
-    let failed = open(part).err().unwrap();
-    assert_eq!(
-        failed.fault,
-        OpenFault::Scan(ScanFault::Foreign { page: 0, at: 4 })
-    );
+    let failed = Store::open(part).err().unwrap();
+    assert_eq!(failed, OpenError::Foreign { page: 0, at: 4 });
     assert_eq!(failed.to_string(), "word 4 of page 0 is not the store's");
 }
 
@@ -271,19 +283,18 @@ fn a_first_start_that_failed_is_made_again() {
     for step in 1..=3 {
         part.steps = 0;
         part.fails_in = Some(step);
-        let Err(failed) = start(part) else {
-            panic!("step {step} fails");
-        };
-        assert_eq!(failed.fault, OpenFault::Driver(Broken { step }));
-        part = failed.driver;
-        let refused = open(&mut part).err().unwrap().fault;
-        assert_eq!(refused, OpenFault::Scan(ScanFault::NoLiveSet));
+        assert_eq!(
+            not_opened(Store::open_or_format(&mut part)),
+            Broken { step }
+        );
+        let refused = Store::open(&mut part).err().unwrap();
+        assert_eq!(refused, OpenError::NoLiveSet);
     }
     part.fails_in = None;
-    let mut store = start(part).unwrap();
+    let mut store = Store::open_or_format(part).unwrap();
     assert_eq!((store.fill(), store.live_count()), (Ok(0), Ok(0)));
     assert_eq!(store.write(address(1), 10), Ok(Written::Appended));
-    let store = start(store.into_driver()).unwrap();
+    let store = Store::open_or_format(store.into_driver()).unwrap();
     assert_eq!(store.read(address(1)), Ok(Some(10)));
 }
 
@@ -292,9 +303,9 @@ fn a_start_formats_over_no_word() {
     let mut part = full().into_driver();
     part.words[0][1] = Word::Torn;
     let words = part.words;
-    let failed = start(part).err().unwrap();
-    assert_eq!(failed.fault, OpenFault::Scan(ScanFault::NoLiveSet));
-    assert_eq!(failed.driver.words, words);
+    let failed = Store::open_or_format(&mut part).err().unwrap();
+    assert_eq!(failed, OpenError::NoLiveSet);
+    assert_eq!(part.words, words);
 }
 
 #[test]
@@ -304,9 +315,9 @@ fn a_start_formats_over_no_value_wherever_it_stands() {
         let mut part = Part::new();
         part.words[page][at] = value;
         let words = part.words;
-        let failed = start(part).err().unwrap();
-        assert_eq!(failed.fault, OpenFault::Scan(ScanFault::NoLiveSet));
-        assert_eq!(failed.driver.words, words);
+        let failed = Store::open_or_format(&mut part).err().unwrap();
+        assert_eq!(failed, OpenError::NoLiveSet);
+        assert_eq!(part.words, words);
     }
 }
 
@@ -317,7 +328,7 @@ fn a_start_formats_over_headers() {
     for at in 0..4 {
         let mut part = Part::new();
         part.words[1][at] = if at == 1 { Word::Torn } else { header };
-        let store = start(part).unwrap();
+        let store = Store::open_or_format(part).unwrap();
         assert_eq!(store.live_count(), Ok(0));
     }
 }
@@ -327,26 +338,23 @@ fn a_start_chooses_no_set_and_takes_no_foreign_word() {
     let mut part = full().into_driver();
     part.words[1] = part.words[0];
     let words = part.words;
-    let failed = start(part).err().unwrap();
-    assert_eq!(failed.fault, OpenFault::Scan(ScanFault::TwoLive));
-    assert_eq!(failed.driver.words, words);
+    let failed = Store::open_or_format(&mut part).err().unwrap();
+    assert_eq!(failed, OpenError::TwoLive);
+    assert_eq!(part.words, words);
     let mut part = full().into_driver();
     part.words[0][4] = Word::Held(0);
     let words = part.words;
-    let failed = start(part).err().unwrap();
-    assert_eq!(
-        failed.fault,
-        OpenFault::Scan(ScanFault::Foreign { page: 0, at: 4 })
-    );
-    assert_eq!(failed.driver.words, words);
+    let failed = Store::open_or_format(&mut part).err().unwrap();
+    assert_eq!(failed, OpenError::Foreign { page: 0, at: 4 });
+    assert_eq!(part.words, words);
 }
 
 #[test]
 fn torn_slots_are_counted() {
-    let mut store = failing(format(Part::new()).unwrap(), 1);
+    let mut store = failing(Store::format(Part::new()).unwrap(), 1);
     assert!(store.write(address(1), 10).is_err());
-    assert_eq!(store.torn_slots(), Err(ReadFault::Off));
-    let mut store = open(store.into_driver()).unwrap();
+    assert_eq!(store.torn_slots(), Err(Error::NotOpen));
+    let mut store = Store::open(store.into_driver()).unwrap();
     assert_eq!((store.torn_slots(), store.fill()), (Ok(1), Ok(1)));
     assert_eq!(store.write(address(1), 11), Ok(Written::Appended));
     assert_eq!(store.write(address(1), 12), Ok(Written::Moved));
@@ -356,10 +364,10 @@ fn torn_slots_are_counted() {
 #[test]
 fn a_store_that_is_off() {
     let mut store = Store::off(full().into_driver());
-    assert_eq!(store.read(address(1)), Err(ReadFault::Off));
-    assert_eq!(store.write(address(1), 1), Err(WriteFault::Off));
-    assert_eq!(store.slots(), Err(Off));
-    let store = open(store.into_driver()).unwrap();
+    assert_eq!(store.read(address(1)), Err(Error::NotOpen));
+    assert_eq!(store.write(address(1), 1), Err(Error::NotOpen));
+    assert_eq!(store.slots(), Err(Error::NotOpen));
+    let store = Store::open(store.into_driver()).unwrap();
     assert_eq!(store.read(address(1)), Ok(Some(11)));
 }
 
@@ -394,36 +402,47 @@ fn words_of_all_ones_are_erased() {
     assert_eq!(Word::from(1), Word::Held(1));
     let mut part = Part::new();
     part.words = [[Word::Held(u64::MAX); 6]; 2];
-    let failed = open(part).err().unwrap();
-    assert_eq!(failed.fault, OpenFault::Scan(ScanFault::Unformatted));
+    let failed = Store::open(part).err().unwrap();
+    assert_eq!(failed, OpenError::Unformatted);
 }
 
 #[test]
 fn a_driver_can_be_lent() {
     let mut part = Part::new();
     {
-        let mut store = format(&mut part).unwrap();
+        let mut store = Store::format(&mut part).unwrap();
         assert_eq!(store.write(address(1), 10), Ok(Written::Appended));
     }
-    assert_eq!(open(part).unwrap().read(address(1)), Ok(Some(10)));
+    assert_eq!(Store::open(part).unwrap().read(address(1)), Ok(Some(10)));
 }
 
+/// An error says what the driver was asked to do, and where.
 #[test]
 fn errors_are_told_in_words() {
-    let error = Broken { step: 3 };
+    let mut store = failing(full(), 1);
+    let error = store.write(address(2), 5).unwrap_err();
+    let (step, page, at) = (Step::Program, 1, 0);
+    let wanted = DriverError {
+        step,
+        page,
+        at,
+        error: Broken { step: 1 },
+    };
+    assert_eq!(error, Error::Driver(wanted));
     assert_eq!(
-        WriteFault::Driver(error).to_string(),
-        "the driver failed: step 3"
+        error.to_string(),
+        "the driver failed to program word 0 of page 1: Broken { step: 1 }"
     );
+    let mut part = full().into_driver();
+    part.words[1][5] = Word::Torn;
+    (part.steps, part.fails_in) = (0, Some(2)); // behind the mark that the opening sets
+    let error = Store::open(part).unwrap().clean_step().unwrap_err();
     assert_eq!(
-        ForgetFault::<Broken>::Absent.to_string(),
-        "the address has no value"
+        error.to_string(),
+        "the driver failed to erase page 1: Broken { step: 2 }"
     );
-    assert_eq!(
-        CleanFault::Driver(error).to_string(),
-        "the driver failed: step 3"
-    );
-    assert_eq!(Off.to_string(), "the store is off, since its driver failed");
+    let told: Box<dyn std::error::Error> = Error::<Broken>::Duplicate(3).into();
+    assert_eq!(told.to_string(), "value 3 has an address of an earlier one");
 }
 
 std::thread_local! {
@@ -439,6 +458,10 @@ impl Driver for Unsteady {
 
     fn shape(&self) -> Shape {
         SHAPE
+    }
+
+    fn kind(&self) -> Kind {
+        Kind::Words
     }
 
     fn word(&self, page: usize, at: usize) -> Result<Word, Broken> {
@@ -463,19 +486,19 @@ impl Driver for Unsteady {
 
 #[test]
 fn no_step_is_made_outside_the_part() {
-    let mut store = format(Unsteady(Part::new())).unwrap();
+    let mut store = Store::format(Unsteady(Part::new())).unwrap();
     assert_eq!(store.write(address(1), 10), Ok(Written::Appended));
     assert_eq!(store.write(address(2), 20), Ok(Written::Appended));
     let values = [(3, 30), (1, 12)].map(|(number, value)| Put {
         address: address(number),
         value,
     });
-    assert_eq!(store.write_all(&values), Err(WriteAllFault::Full));
+    assert_eq!(store.write_all(&values), Err(Error::Full));
     // Where the count of addresses misses one, the move finds a third.
     TORN.with(|torn| torn.set(Some((0, 4))));
-    assert_eq!(store.write_all(&values), Err(WriteAllFault::Unsteady));
-    assert_eq!(store.write_all(&values), Err(WriteAllFault::Off));
-    let store = open(store.into_driver()).unwrap();
+    assert_eq!(store.write_all(&values), Err(Error::Unsteady));
+    assert_eq!(store.write_all(&values), Err(Error::NotOpen));
+    let store = Store::open(store.into_driver()).unwrap();
     assert_eq!(store.read(address(1)), Ok(Some(10)));
     assert_eq!(store.read(address(2)), Ok(Some(20)));
 }

@@ -2,23 +2,13 @@
 //! others.
 
 use ee_store::{
-    format, start, Address, CleanFault, Driver, Error, Failed, ForgetFault, NoAddress, Off,
-    OpenFault, PairsFault, Put, ReadFault, ScanFault, Shape, Store, Word, WriteAllFault,
-    WriteFault, Written,
+    Address, Driver, DriverError, Error, Kind, NoAddress, OpenError, Put, Shape, Step, Store, Word,
+    Written,
 };
 use std::cell::Cell;
 
 #[derive(Clone, Copy, Debug, PartialEq, Eq)]
 struct Down;
-
-impl std::fmt::Display for Down {
-    fn fmt(&self, f: &mut std::fmt::Formatter<'_>) -> std::fmt::Result {
-        f.write_str("down")
-    }
-}
-
-#[cfg(feature = "error")]
-impl std::error::Error for Down {}
 
 /// A part in memory, of which each step and each read fails while it is down.
 struct Part {
@@ -56,6 +46,10 @@ impl Driver for Part {
         self.shape
     }
 
+    fn kind(&self) -> Kind {
+        Kind::Words
+    }
+
     fn word(&self, page: usize, at: usize) -> Result<Word, Down> {
         self.is_up()?;
         self.reads.set(self.reads.get() + 1);
@@ -87,12 +81,20 @@ const SLOTS: usize = match Shape::new(2, 40) {
     None => 0,
 };
 
+/// What the driver said in a call that it failed in.
+fn failed<T: std::fmt::Debug>(answer: Result<T, Error<Down>>) -> Down {
+    match answer {
+        Err(Error::Driver(failed)) => failed.error,
+        other => panic!("{other:?}"),
+    }
+}
+
 fn address(number: u16) -> Address {
     Address::new(number).unwrap()
 }
 
 fn store() -> Store<Part> {
-    format(Part::blank(2, 40)).unwrap()
+    Store::format(Part::blank(2, 40)).unwrap()
 }
 
 #[test]
@@ -100,10 +102,10 @@ fn a_store_is_opened_in_its_place() {
     let mut store = store();
     assert_eq!(store.write(FIRST, 5), Ok(Written::Appended));
     store.driver().is_down.set(true);
-    assert_eq!(store.write(FIRST, 6), Err(WriteFault::Driver(Down)));
+    assert_eq!(failed(store.write(FIRST, 6)), Down);
     assert!(!store.is_on());
-    assert_eq!(store.reopen(), Err(OpenFault::Driver(Down)));
-    assert_eq!(store.read(FIRST), Err(ReadFault::Off));
+    assert!(matches!(store.reopen(), Err(OpenError::Driver(_))));
+    assert_eq!(store.read(FIRST), Err(Error::NotOpen));
     store.driver_mut().is_down.set(false);
     assert_eq!(store.reopen(), Ok(()));
     assert!(store.is_on());
@@ -126,10 +128,10 @@ fn a_flash_without_a_store_is_not_opened_in_its_place() {
     let mut store = store();
     let words = store.shape().words();
     store.driver_mut().words.fill(vec![u64::MAX; words]);
-    let fault = Err(OpenFault::Scan(ScanFault::Unformatted));
+    let fault = Err(OpenError::Unformatted);
     assert_eq!(store.reopen(), fault);
     assert!(!store.is_on());
-    assert_eq!(store.write(FIRST, 1), Err(WriteFault::Off));
+    assert_eq!(store.write(FIRST, 1), Err(Error::NotOpen));
     assert!(Store::open_or_format(store.into_driver()).is_ok());
 }
 
@@ -139,7 +141,7 @@ fn a_slot_that_fails_each_time_is_left_by_a_list() {
     store.write(FIRST, 5).unwrap();
     store.driver_mut().stuck = Some((0, 5));
     for _ in 0..3 {
-        assert_eq!(store.write(FIRST, 6), Err(WriteFault::Driver(Down)));
+        assert_eq!(failed(store.write(FIRST, 6)), Down);
         assert_eq!(store.reopen(), Ok(()));
     }
     let values = [(FIRST, 6), (address(2), 7)];
@@ -166,16 +168,16 @@ fn values_one_after_another() {
     store.driver().reads.set(0);
     let found: Result<Vec<_>, _> = store.iter().collect();
     assert_eq!(found.as_ref(), Ok(&wanted));
-    let looks = (store.driver().reads.get() + SLOTS - 1) / SLOTS;
+    let looks = store.driver().reads.get().div_ceil(SLOTS);
     assert!(looks <= 5, "{looks} looks through the slots");
     assert_eq!((&store).into_iter().count(), wanted.len());
     let mut iter = store.iter();
     assert_eq!(iter.next(), Some(Ok(wanted[0])));
     store.driver().is_down.set(true);
     // The first look took along those of the first twenty-eight addresses that have a value: seventeen.
-    assert_eq!(iter.nth(16), Some(Err(ReadFault::Driver(Down))));
+    assert_eq!(failed(iter.nth(16).unwrap()), Down);
     assert_eq!((iter.next(), iter.next()), (None, None));
-    assert_eq!(store.iter().next(), Some(Err(ReadFault::Off)));
+    assert_eq!(store.iter().next(), Some(Err(Error::NotOpen)));
 }
 
 #[test]
@@ -214,8 +216,8 @@ fn a_value_is_updated() {
     let written = Ok(Some(Written::Appended));
     assert_eq!(store.update(address(2), stays), written);
     store.driver().is_down.set(true);
-    assert_eq!(store.update(FIRST, count), Err(WriteFault::Driver(Down)));
-    assert_eq!(store.update(FIRST, count), Err(WriteFault::Off));
+    assert_eq!(failed(store.update(FIRST, count)), Down);
+    assert_eq!(store.update(FIRST, count), Err(Error::NotOpen));
 }
 
 #[test]
@@ -234,64 +236,42 @@ fn addresses_and_stores_are_shown() {
     );
 }
 
-/// Each call's fault becomes the one of the whole by `?`.
+/// An opening and each call on the store, in a function of one error; and in one of any error.
 fn all_calls(part: Part) -> Result<u32, Error<Down>> {
-    let mut store = start(part)?;
+    let mut store = Store::open_or_format(part)?;
+    let (address, value) = (FIRST, 2);
     store.write(FIRST, 1)?;
-    store.write_all(&[Put {
-        address: FIRST,
-        value: 2,
-    }])?;
+    store.write_all(&[Put { address, value }])?;
     store.forget(FIRST)?;
     store.forget_all()?;
     store.clean_step()?;
     store.slots()?;
     store.reopen()?;
-    Ok(store.read_or(FIRST, 3)?)
+    store.read_or(FIRST, 3)
+}
+
+fn any_error(part: Part) -> Result<u32, Box<dyn std::error::Error>> {
+    Store::open_or_format(part)?.write(FIRST, 1)?;
+    Ok(all_calls(Part::blank(1, 8))?)
 }
 
 #[test]
-fn faults_become_others() {
+fn errors_become_others() {
     assert_eq!(all_calls(Part::blank(1, 8)), Ok(3));
+    assert_eq!(any_error(Part::blank(1, 8)).unwrap(), 3);
     let part = Part::blank(1, 8);
     part.is_down.set(true);
-    assert_eq!(all_calls(part), Err(Error::Driver(Down)));
-    let failed = Failed {
-        driver: Part::blank(1, 8),
-        fault: OpenFault::Scan(ScanFault::TwoLive),
-    };
-    assert_eq!(Error::from(failed), Error::Scan(ScanFault::TwoLive));
-    assert_eq!(WriteFault::<Down>::from(Off), WriteFault::Off);
-    assert_eq!(
-        WriteAllFault::from(WriteFault::<Down>::Spent),
-        WriteAllFault::Spent
-    );
-    assert_eq!(
-        Error::from(WriteAllFault::<Down>::Twice(3)),
-        Error::Twice(3)
-    );
-    assert_eq!(Error::from(ForgetFault::<Down>::Absent), Error::Absent);
-    assert_eq!(Error::from(CleanFault::<Down>::Unsteady), Error::Unsteady);
-    assert_eq!(Error::from(PairsFault::Driver(Down)), Error::Driver(Down));
-    let refused = (Part::blank(1, 8), PairsFault::Driver(Down));
-    assert_eq!(Error::from(refused), Error::Driver(Down));
-    let told = Error::<Down>::Twice(3).to_string();
-    assert_eq!(told, WriteAllFault::<Down>::Twice(3).to_string());
-}
-
-#[cfg(feature = "error")]
-#[test]
-fn the_source_of_a_fault_is_the_drivers_error() {
-    use std::error::Error as _;
-    let fault = WriteFault::Driver(Down);
-    assert_eq!(fault.source().unwrap().to_string(), "down");
-    assert_eq!(Error::from(fault).source().unwrap().to_string(), "down");
-    assert!(WriteFault::<Down>::Full.source().is_none());
-    let failed = Failed {
-        driver: Part::blank(1, 8),
-        fault: OpenFault::Driver(Down),
-    };
-    assert!(failed.source().is_some());
+    let wanted = OpenError::Driver(DriverError {
+        step: Step::Read,
+        page: 0,
+        at: 0,
+        error: Down,
+    });
+    assert_eq!(all_calls(part), Err(Error::Open(wanted)));
+    let part = Part::blank(1, 8);
+    part.is_down.set(true);
+    let told = any_error(part).unwrap_err().to_string();
+    assert_eq!(told, "the driver failed to read word 0 of page 0: Down");
 }
 
 /// A store goes to another task or thread where its driver does: it can stand in a resource of RTIC or behind a mutex.

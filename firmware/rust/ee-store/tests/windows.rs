@@ -1,10 +1,10 @@
 //! Drivers that give several words at once: the same random calls, with power cut in some, answer and leave the same whether
 //! words are read one at a time, looked at where they stand, or read several at a time.
 
-use ee_store::{open, start, Address, Driver, NumberDriver, Pairs, Put, Shape, Store, Word};
+use ee_store::{Address, Driver, Kind, Put, Shape, Store, Word};
 use std::cell::Cell;
 
-const CALLS: u32 = 20_000;
+const CALLS: u32 = 4_000;
 
 /// Power was cut.
 #[derive(Clone, Copy, Debug, PartialEq, Eq)]
@@ -40,6 +40,7 @@ impl Dice {
 #[derive(Clone, Debug)]
 struct Part {
     shape: Shape,
+    kind: Kind,
     /// The words or the numbers of each page.
     values: Vec<Vec<u64>>,
     /// Of words: which can't be read.
@@ -52,10 +53,12 @@ struct Part {
 }
 
 impl Part {
-    fn blank(shape: Shape, numbers_of_word: usize, how: How) -> Part {
+    fn blank(shape: Shape, kind: Kind, how: How) -> Part {
+        let numbers_of_word = if kind == Kind::Words { 1 } else { 2 };
         let places = numbers_of_word * shape.words();
         Part {
             shape,
+            kind,
             values: vec![vec![u64::MAX; places]; 2 * shape.pages()],
             torn: vec![vec![false; places]; 2 * shape.pages()],
             how,
@@ -96,6 +99,10 @@ impl Driver for Part {
         self.shape
     }
 
+    fn kind(&self) -> Kind {
+        self.kind
+    }
+
     fn word(&self, page: usize, at: usize) -> Result<Word, PowerCut> {
         Ok(match self.torn[page][at] {
             true => Word::Torn,
@@ -120,8 +127,12 @@ impl Driver for Part {
 
     fn program(&mut self, page: usize, at: usize, value: u64) -> Result<(), PowerCut> {
         let is_cut = self.is_cut();
-        self.torn[page][at] = is_cut && self.dice.below(2) == 0;
         self.values[page][at] = value;
+        if self.kind == Kind::Words {
+            self.torn[page][at] = is_cut && self.dice.below(2) == 0;
+        } else if is_cut {
+            self.values[page][at] |= 1 << self.dice.below(64);
+        }
         if is_cut {
             Err(PowerCut)
         } else {
@@ -131,6 +142,13 @@ impl Driver for Part {
 
     fn erase(&mut self, page: usize) -> Result<(), PowerCut> {
         let is_cut = self.is_cut();
+        if self.kind != Kind::Words {
+            for at in 0..self.values[page].len() {
+                let bits = u64::from(self.dice.below(u32::MAX));
+                self.values[page][at] |= if is_cut { bits } else { u64::MAX };
+            }
+            return if is_cut { Err(PowerCut) } else { Ok(()) };
+        }
         for at in 0..self.shape.words() {
             self.torn[page][at] = is_cut && self.dice.below(3) == 0;
             if !is_cut || self.dice.below(2) == 0 {
@@ -145,64 +163,12 @@ impl Driver for Part {
     }
 }
 
-/// The same part as a flash of numbers.
-#[derive(Clone, Debug)]
-struct Numbers(Part);
-
-impl NumberDriver for Numbers {
-    type Error = PowerCut;
-
-    fn shape(&self) -> Shape {
-        self.0.shape
-    }
-
-    fn read(&self, page: usize, at: usize) -> Result<u64, PowerCut> {
-        Ok(self.0.values[page][at])
-    }
-
-    fn window(&self, page: usize, at: usize, count: usize) -> Option<&[u64]> {
-        self.0.seen(page, at, count)
-    }
-
-    fn program(&mut self, page: usize, at: usize, number: u64) -> Result<(), PowerCut> {
-        let is_cut = self.0.is_cut();
-        let kept = if is_cut {
-            1 << self.0.dice.below(64)
-        } else {
-            0
-        };
-        self.0.values[page][at] = number | kept;
-        if is_cut {
-            Err(PowerCut)
-        } else {
-            Ok(())
-        }
-    }
-
-    fn erase(&mut self, page: usize) -> Result<(), PowerCut> {
-        let is_cut = self.0.is_cut();
-        for at in 0..2 * self.0.shape.words() {
-            let erased = if is_cut {
-                u64::from(self.0.dice.below(u32::MAX))
-            } else {
-                u64::MAX
-            };
-            self.0.values[page][at] |= erased;
-        }
-        if is_cut {
-            Err(PowerCut)
-        } else {
-            Ok(())
-        }
-    }
-}
-
 fn address(dice: &mut Dice) -> Address {
     Address::new(1 + dice.below(12) as u16).unwrap()
 }
 
 /// What a random call answers, as a text. Each tenth is cut in some step, and the store opened again.
-fn answer<D: Driver<Error = PowerCut>>(store: &mut Store<D>, dice: &mut Dice) -> String {
+fn answer(store: &mut Store<Part>, dice: &mut Dice) -> String {
     let put = Put {
         address: address(dice),
         value: dice.below(u32::MAX),
@@ -228,20 +194,18 @@ fn answer<D: Driver<Error = PowerCut>>(store: &mut Store<D>, dice: &mut Dice) ->
 }
 
 /// The answers of random calls, and the part behind them.
-fn played<D: Driver<Error = PowerCut>>(driver: D, part_in: fn(&D) -> &Part) -> (Vec<String>, D) {
-    let Ok(mut store) = start(driver) else {
-        panic!("a blank part starts")
-    };
+fn played(part: Part) -> (Vec<String>, Part) {
+    let mut store = Store::open_or_format(part).unwrap();
     let mut dice = Dice(88_172_645_463_325_252);
     let mut answers = Vec::new();
     for _ in 0..CALLS {
         let cut = (dice.below(10) == 0).then(|| dice.below(8));
-        part_in(store.driver()).left.set(cut);
+        store.driver().left.set(cut);
         answers.push(answer(&mut store, &mut dice));
         if !store.is_on() {
-            let driver = store.into_driver();
-            part_in(&driver).left.set(None);
-            store = open(driver).unwrap_or_else(|failed| panic!("{:?}", failed.fault));
+            let part = store.into_driver();
+            part.left.set(None);
+            store = Store::open(part).unwrap();
         }
     }
     (answers, store.into_driver())
@@ -255,40 +219,20 @@ const HOWS: [How; 4] = [
 ];
 
 #[test]
-fn words() {
-    for (pages, words) in [(1, 6), (1, 40), (2, 21)] {
-        let shape = Shape::new(pages, words).unwrap();
-        let play = |how| played(Part::blank(shape, 1, how), |part| part);
-        let (answers, part) = play(How::ByWord);
-        for how in HOWS {
-            let (others, other) = play(how);
-            assert!(
-                answers == others && part.values == other.values && part.torn == other.torn,
-                "{how:?}"
-            );
-            assert!(other.asked.get() > CALLS);
-        }
-    }
-}
-
-#[test]
-fn numbers() {
-    for (pages, words) in [(1, 6), (1, 40), (2, 21)] {
-        let shape = Shape::new(pages, words).unwrap();
-        let play = |how| {
-            let numbers = Numbers(Part::blank(shape, 2, how));
-            let Ok(pairs) = Pairs::of(numbers) else {
-                panic!("a blank part is one of pairs")
-            };
-            played(pairs, |pairs| &pairs.driver().0)
-        };
-        let (answers, pairs) = play(How::ByWord);
-        for how in HOWS {
-            let (others, other) = play(how);
-            assert!(
-                answers == others && pairs.driver().0.values == other.driver().0.values,
-                "{how:?}"
-            );
+fn it_is_the_same_however_words_are_read() {
+    for kind in [Kind::Words, Kind::Pairs] {
+        for (pages, words) in [(1, 6), (1, 40), (2, 21)] {
+            let shape = Shape::new(pages, words).unwrap();
+            let play = |how| played(Part::blank(shape, kind, how));
+            let (answers, part) = play(How::ByWord);
+            for how in HOWS {
+                let (others, other) = play(how);
+                assert!(
+                    answers == others && part.values == other.values && part.torn == other.torn,
+                    "{kind:?} {how:?}"
+                );
+                assert!(other.asked.get() > CALLS);
+            }
         }
     }
 }

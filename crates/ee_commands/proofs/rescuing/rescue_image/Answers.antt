@@ -12,7 +12,7 @@ returns-clause-rescued g c =
     λ (new_image text : List ℕ). is_rescued_image image new_image c.new-text.result.items
     c.push_bad.new.out.items text device c.in_ok-store.store c.in_ok-store.rescued
     (is_spelled image c.in-Ok.flash c.in-Ok.ensures.found) c.in_ok-store.ensures.rescued in
-    search (rules, made)
+    made _ _ (search rules) (search rules) (search rules) (search rules)
 
 pub returns-in_err-push_bad-clause-fault : goal.returns-in_err-push_bad-clause-fault
 returns-in_err-push_bad-clause-fault g c =

@@ -1,10 +1,13 @@
-use Rattle.std.proofs.Common.{◌+◌, ap, arith}
+use Rattle.std.proofs.Common.{◌+◌, ap, arith, subst}
+use Rattle.ee_flash.specs.Taking.{Completes, StopsAmong}
+use Rattle.ee_core.proofs.PublicSteps.{move_is}
 use Rattle.ee_pages.specs.Sets.{other}
 use Rattle.ee_core.specs.Puts.{changes_of_puts}
 use Rattle.ee_core.proofs.AfterCalls.{never_on_ok, not_both}
 use Rattle.ee_core.proofs.Making.{always_on_err, changes_fit, cut_in_move, few_pending, few_within, generation_left, marked_store, moves, shows_cut_move, shows_moved, store_after_move}
 use Rattle.ee_pages.proofs.Public.{older_live}
 use Rattle.ee_core.proofs.MovingFacts.{live_or_moved}
+use Rattle.ee_core.proofs.Taken.{among_on, cut_taken, goes_on_taken}
 use Rattle.ee_core.proofs.changing.move_unindexed.Goals as goal
 
 pub transfer_by_slots-requires-clause-older : goal.transfer_by_slots-requires-clause-older
@@ -36,7 +39,7 @@ returns-in_err-transfer_by_slots g c =
     let layout = c.args.layout.now in
     let changes = changes_of_puts c.args.puts.now c.args.forgets in
     let ended = c.in_err-transfer_by_slots.ensures in
-    let cut = ended.power.cut c.requires.proceeds.on in
+    let cut = cut_taken (among_on c.requires.proceeds.on ended.steps.cut) in
     let few =
     few_pending new (other layout.side) (g.met.F.Flash.formed c.transfer_by_slots.new.flash) in
     let failed = c.from_residual.ensures.0 in
@@ -50,7 +53,9 @@ returns-in_err-transfer_by_slots g c =
           (omega (arith, few, ap (λ size. size.pages) cut.same_size))
           changes c.requires.proceeds c.requires.needed went
           (shows_cut_move old new layout.side layout.generation c.requires.layout.live changes
-          (ended.moves.left c.requires.proceeds.on)));
+          (ended.moves.left c.requires.proceeds.on))
+          (subst (λ list. StopsAmong list old new) (move_is old layout changes c.requires.layout)
+          ended.steps.cut));
       store = store_after_move old new layout.side layout.generation changes cut.is_off went;
       layout = λ on. absurd (not_both new on cut.is_off);
     }
@@ -63,13 +68,15 @@ returns g c =
     let changes = changes_of_puts c.args.puts.now c.args.forgets in
     let ended = c.in_ok-transfer_by_slots.ensures in
     let done = ended.moves in
-    let on = ended.power.ok in
+    let on = goes_on_taken _ ended.steps.done in
     record {
       moved =
           moves old new layout.side layout.generation c.requires.layout.live changes
           c.requires.proceeds on c.requires.needed done.moved done.wear
           (shows_moved old new layout.side layout.generation c.requires.layout.live changes
-          c.requires.needed on.same_size done.new_pages done.old_pages);
+          c.requires.needed on.same_size done.new_pages done.old_pages)
+          (subst (λ list. Completes list old new) (move_is old layout changes c.requires.layout)
+          ended.steps.done);
       cut = tt;
       store =
           marked_store new (other layout.side) (layout.generation + 1) done.moved.live done.marked;

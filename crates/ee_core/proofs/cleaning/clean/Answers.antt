@@ -1,13 +1,37 @@
-use Rattle.ee_core.proofs.Base.{◌<◌, refl, subst, err_from_is_err_and, kept_side_is_live, pending_of, set_of, Side, rules}
-use Rattle.ee_core.proofs.AfterCalls.{ends_later, goes_on_same, never_on_ok, not_both_ok, not_ok}
+use Rattle.ee_core.proofs.Base.{◌<◌, refl, subst, ◌∙◌, err_from_is_err_and, kept_side_is_live, pending_of, set_of, Side, rules}
+use Rattle.ee_core.proofs.AfterCalls.{goes_on_same, never_on_ok, not_both_ok, not_ok}
 use Rattle.ee_core.proofs.LowestPending.{erases_lowest, keeps_all_but_lowest}
 use Rattle.ee_core.proofs.KeptMarks.{cleaned_marked}
 use Rattle.ee_core.proofs.Making.{always_on_err}
 use Rattle.ee_core.proofs.MovingFacts.{keeps_same}
+use Rattle.ee_core.proofs.ClearedPages.{clean_is, clean_none}
+use Rattle.ee_core.proofs.PublicSteps.{clean_of}
+use Rattle.ee_core.proofs.Taken.{takes_err, takes_ok}
+use Rattle.ee_flash.specs.Taking.{Completes, StopsAmong}
 use Rattle.ee_core.proofs.cleaning.clean.Goals as goal
 
-pub returns-in_default : goal.returns-in_default
-returns-in_default g c = search (rules, keeps_same, not_both_ok, goes_on_same)
+pub returns-in_default-clause-keeps : goal.returns-in_default-clause-keeps
+returns-in_default-clause-keeps g c = search (rules, keeps_same)
+
+pub returns-in_default-clause-none : goal.returns-in_default-clause-none
+returns-in_default-clause-none g c = search (rules, keeps_same, not_both_ok, goes_on_same)
+
+pub returns-in_default-clause-one : goal.returns-in_default-clause-one
+returns-in_default-clause-one g c = search (rules, keeps_same, not_both_ok, goes_on_same)
+
+pub returns-in_default-clause-lowest : goal.returns-in_default-clause-lowest
+returns-in_default-clause-lowest g c = search (rules, keeps_same, not_both_ok, goes_on_same)
+
+pub returns-in_default-clause-marked : goal.returns-in_default-clause-marked
+returns-in_default-clause-marked g c = search (rules, keeps_same, not_both_ok, goes_on_same)
+
+pub returns-in_default-clause-steps : goal.returns-in_default-clause-steps
+returns-in_default-clause-steps g c =
+    let old = g.F.Flash.device c.args.flash.now in
+    takes_ok
+    (subst (λ list. Completes list old old) (clean_of old c.args.layout.now c.requires.layout)
+    (clean_none old c.args.layout.now.side c.other.result c.other.ensures
+    c.in_default.ensures.none))
 
 pub erase_other-requires-clause-page : goal.erase_other-requires-clause-page
 erase_other-requires-clause-page g c = search rules
@@ -35,7 +59,11 @@ returns g c =
       some = tt;
       cut = tt;
       others = tt;
-      power = record { ok = c.in_ok-erase_other.ensures.power.ok; cut = tt; off = tt };
+      steps = takes_ok
+          (subst (λ list. Completes list old new)
+          (clean_is old layout.side c.other.result c.in-Some.page live.formed c.other.ensures
+          found.page found.not_blank found.lowest ∙ clean_of old layout c.requires.layout)
+          c.in_ok-erase_other.ensures.steps.done);
     }
 
 pub returns-in_err-erase_other : goal.returns-in_err-erase_other
@@ -62,5 +90,10 @@ returns-in_err-erase_other g c =
           (λ on. keeps_all_but_lowest old new layout.side c.other.result layout.generation
           c.in-Some.page c.requires.layout.live.live c.other.ensures found.page
           found.not_blank found.lowest cut.others (cut.wear on) cut.partly);
-      power = ends_later _ failed (goes_on_same old) c.in_err-erase_other.ensures.power;
+      steps = takes_err _ failed
+          (subst (λ list. StopsAmong list old new)
+          (clean_is old layout.side c.other.result c.in-Some.page c.requires.layout.live.formed
+          c.other.ensures found.page found.not_blank found.lowest
+          ∙ clean_of old layout c.requires.layout)
+          c.in_err-erase_other.ensures.steps.cut);
     }

@@ -25,8 +25,5 @@ returns-clause-fills g c = search rules fits 100 parts 0
 pub returns-clause-wear : goal.returns-clause-wear
 returns-clause-wear g c = search rules fits 100 parts 0
 
-pub returns-clause-power : goal.returns-clause-power
-returns-clause-power g c = search rules fits 100 parts 0
-
 pub returns-then-passed-clause-fills : goal.returns-then-passed-clause-fills
 returns-then-passed-clause-fills g c = search rules fits 100 parts 0

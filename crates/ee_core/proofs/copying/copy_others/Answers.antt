@@ -2,12 +2,11 @@ use Rattle.std.proofs.Common.{◌≡◌, ◌<◌, inl, inr, false, None, ap, ref
 use Rattle.std.proofs.lemmas.Bool.{cases_Bool}
 use Rattle.std.proofs.lemmas.Result.{IfOk-from_err, err_from_is_err_and}
 use Rattle.ee_flash.specs.Size.{slot_count}
-use Rattle.ee_flash.proofs.Public.{calls_compose}
 use Rattle.ee_pages.specs.Meaning.{meaning}
 use Rattle.ee_pages.specs.LiveOrder.{IsNextLive}
 use Rattle.ee_core.proofs.Fillings.{all_filled, next_filled, next_partly, none_filled, room}
 use Rattle.ee_core.proofs.copying.copy_others.Goals as goal
-use Rattle.ee_core.proofs.AfterCalls.{ends_later, goes_on_same, not_ok}
+use Rattle.ee_core.proofs.AfterCalls.{not_ok}
 use Rattle.ee_core.proofs.Listed.{names-puts}
 use Rattle.ee_core.specs.Puts.{puts_of}
 use Rattle.ee_core.specs.declared.copying.Place.{Place}
@@ -23,7 +22,6 @@ live-init g c =
           c.requires.at c.requires.only;
       below = omega arith;
       over = c.requires.over;
-      goes = goes_on_same device;
     })
 
 pub copy_one-requires-clause-free : goal.copy_one-requires-clause-free
@@ -60,7 +58,6 @@ live-preserved g c =
           (λ apart. one.fills (carries_is ∙ apart));
       below = c.in-Some.ensures.proper.1;
       over = rw filled.keeps.same_slots at c.in-Some.ensures.over;
-      goes = (calls_compose _ _ _ c.live.invariant.goes).0 one.power.ok;
     })
 
 pub returns : goal.returns
@@ -75,7 +72,6 @@ returns g c =
           (puts_of c.args.puts.now) (g.C.LiveCursor.behind c.live.cursor)
           (g.F.Flash.device c.live.flash) c.live.place.slot filled c.live.invariant.below none;
       behind = c.live.invariant.at.behind;
-      power = record { ok = c.live.invariant.goes; cut = tt; off = tt };
     }
 
 pub returns-in_err-copy_one : goal.returns-in_err-copy_one
@@ -98,5 +94,4 @@ returns-in_err-copy_one g c =
           c.live.place.slot next filled (sym carries_is ∙ apart) c.in-Some.ensures.proper.1
           (one.fills apart));
       behind = IfOk-from_err _ _ c.from_residual.ensures.0;
-      power = ends_later _ c.from_residual.ensures.0 c.live.invariant.goes one.power;
     }

@@ -1,5 +1,4 @@
 use Rattle.std.proofs.Common.{◌<◌, ◌-◌}
-use Rattle.ee_flash.specs.Power.{GoesOn}
 use Rattle.ee_pages.specs.Sets.{set_of, slots_of}
 use Rattle.ee_core.specs.Puts.{puts_of}
 use Rattle.ee_core.specs.Transfers.{IsOpenAt}
@@ -16,7 +15,6 @@ invariant-live g l =
           now l.place.slot;
       below : g.C.LiveCursor.behind l.cursor < 65535;
       over : g.C.LiveCursor.goes_over l.cursor (slots_of (set_of l.layout.side old));
-      goes : GoesOn old now;
     }
 
 abbrev pub decreases-live : goal.decreases-live

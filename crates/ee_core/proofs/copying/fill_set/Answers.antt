@@ -8,7 +8,6 @@ use Rattle.ee_core.specs.Picture.{elements_of}
 use Rattle.ee_core.specs.Puts.{changes_of_puts}
 use Rattle.ee_core.proofs.Fillings.{carried_first, carried_names, carried_partly, carried_without, first_partly, only_these, others_carried, others_carried_partly, others_filled, others_fit, others_partly, puts_fit}
 use Rattle.ee_core.proofs.ShownStates.{moved_words_are_live_lem}
-use Rattle.ee_core.proofs.AfterCalls.{ends_later, goes_on_both, goes_on_same}
 use Rattle.ee_core.proofs.copying.fill_set.Goals as goal
 
 pub put_all-requires-clause-fits : goal.put_all-requires-clause-fits
@@ -83,12 +82,6 @@ returns g c =
             filled.as_many,
           );
       behind = c.in_ok-all.ensures.behind;
-      power = record {
-        ok =
-            goes_on_both old mid new c.in_ok-first.ensures.power.ok c.in_ok-all.ensures.power.ok;
-        cut = tt;
-        off = tt;
-      };
     }
 
 pub returns-in_err-first : goal.returns-in_err-first
@@ -104,8 +97,6 @@ returns-in_err-first g c =
           c.values_put.result.now c.values_put.ensures c.in_err-first.ensures.fills));
       each_once = IfOk-from_err _ _ c.from_residual.ensures.0;
       behind = IfOk-from_err _ _ c.from_residual.ensures.0;
-      power =
-          ends_later _ c.from_residual.ensures.0 (goes_on_same old) c.in_err-first.ensures.power;
     }
 
 pub returns-in_err-all : goal.returns-in_err-all
@@ -129,7 +120,4 @@ returns-in_err-all g c =
           (map_in layout.side mid) c.in_err-all.ensures.fills));
       each_once = IfOk-from_err _ _ c.from_residual-in_err-all.ensures.0;
       behind = IfOk-from_err _ _ c.from_residual-in_err-all.ensures.0;
-      power =
-          ends_later _ c.from_residual-in_err-all.ensures.0 c.in_ok-first.ensures.power.ok
-          c.in_err-all.ensures.power;
     }

@@ -1,10 +1,7 @@
 use Rattle.std.proofs.Common.{◌<◌, ap, arith, subst, sym}
 use Rattle.std.proofs.lemmas.Result.{IfOk-from_err, err_from_is_err_and}
 use Rattle.ee_flash.specs.Size.{slot_count}
-use Rattle.ee_flash.proofs.Public.{calls_compose}
-use Rattle.ee_core.proofs.AfterCalls.{goes_on_same}
 use Rattle.ee_core.proofs.Fillings.{FilledBy, all_put, none_put, one_put, one_put_partly, put_room}
-use Rattle.ee_core.proofs.AfterCalls.{ends_later}
 use Rattle.ee_core.proofs.copying.put_all.Goals as goal
 
 pub puts-init : goal.puts-init
@@ -16,7 +13,6 @@ puts-init g c =
           (sym c.first_place-place.ensures.first)
           (none_put old c.args.layout.now c.args.puts.now c.requires.opened);
       behind = c.first_place-place.ensures.behind;
-      goes = goes_on_same old;
     }
 
 pub stage_put-requires-clause-at : goal.stage_put-requires-clause-at
@@ -50,7 +46,6 @@ puts-preserved g c =
           c.puts.place.slot c.puts-test.true c.put-item.is c.puts.invariant.filled
           c.stage_put.new.place.slot c.in_ok-stage_put.ensures.fills;
       behind = c.in_ok-stage_put.ensures.behind;
-      goes = (calls_compose _ _ _ c.puts.invariant.goes).0 c.in_ok-stage_put.ensures.power.ok;
     }
 
 pub returns : goal.returns
@@ -62,7 +57,6 @@ returns g c =
           c.puts.put-index (g.F.Flash.device c.puts.flash) c.puts.place.slot c.puts-test.false
           held.filled;
       behind = held.behind;
-      power = record { ok = held.goes; cut = tt; off = tt };
     }
 
 pub returns-in_err-stage_put : goal.returns-in_err-stage_put
@@ -78,7 +72,4 @@ returns-in_err-stage_put g c =
           c.put-item.result mid new c.puts.place.slot c.puts-test.true c.put-item.is
           c.puts.invariant.filled c.in_err-stage_put.ensures.fills);
       behind = IfOk-from_err _ _ c.from_residual.ensures.0;
-      power =
-          ends_later _ c.from_residual.ensures.0 c.puts.invariant.goes
-          c.in_err-stage_put.ensures.power;
     }

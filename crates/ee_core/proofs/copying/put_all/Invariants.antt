@@ -1,4 +1,3 @@
-use Rattle.ee_flash.specs.Power.{GoesOn}
 use Rattle.ee_pages.specs.Sets.{other}
 use Rattle.ee_core.specs.CallSteps.{IsBehind}
 use Rattle.ee_core.proofs.Fillings.{FilledBy}
@@ -11,5 +10,4 @@ invariant-puts g l =
     record {
       filled : FilledBy old l.layout l.puts l.put-index now l.place.slot;
       behind : IsBehind now.size (other l.layout.side) l.place;
-      goes : GoesOn old now;
     }

@@ -9,8 +9,8 @@ use Rattle.ee_core.proofs.FilledSets.{slot_holds}
 use Rattle.ee_core.proofs.SetPages.{page_in_device}
 use Rattle.ee_core.proofs.OtherSteps.{free_slot, put_cut, put_done}
 use Rattle.ee_core.proofs.Cuts.{program_partly_at}
-use Rattle.ee_core.proofs.AfterCalls.{ends_in_step, goes_on_programmed, goes_on_same}
 use Rattle.ee_core.proofs.Marks.{program_keeps_wear}
+use Rattle.ee_core.proofs.Taken.{completes_one, stops_one, takes_err, takes_ok}
 use Rattle.ee_core.proofs.copying.put_in.Goals as goal
 
 pub program-requires-clause-page_in_range : goal.program-requires-clause-page_in_range
@@ -57,7 +57,9 @@ returns-in_err-program g c =
                 (free_slot old side _ slot c.requires.at.filling c.requires.free) cut;
             wear = program_keeps_wear _ _ _ old new (inr cut);
           });
-      power = ends_in_step _ _ c.from_residual.ensures.0 (goes_on_same old) cut;
+      steps = takes_err _ c.from_residual.ensures.0
+          (stops_one _
+          (rw (c.requires.at.stands.page, c.requires.at.stands.at, c.word.ensures.number) at cut));
     }
 
 pub returns : goal.returns
@@ -95,5 +97,7 @@ returns g c =
             (page_of_slot old.size slot) slot words _ long sizes puts drawn;
         wear = ap (λ device. device.wear) done;
       };
-      power = record { ok = goes_on_programmed _ _ _ old on done; cut = tt; off = tt };
+      steps = takes_ok
+          (completes_one _ old on
+          (rw (c.requires.at.stands.page, c.requires.at.stands.at, c.word.ensures.number) at done));
     }

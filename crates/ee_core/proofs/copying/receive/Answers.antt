@@ -9,8 +9,11 @@ use Rattle.ee_core.proofs.FilledSets.{receive_opens}
 use Rattle.ee_core.proofs.SetPages.{page_in_device}
 use Rattle.ee_core.proofs.OtherSteps.{receive_cut, receive_done}
 use Rattle.ee_core.proofs.Cuts.{mark_partly_at}
-use Rattle.ee_core.proofs.AfterCalls.{ends_in_step, goes_on_mark, goes_on_same, mark_keeps_wear}
+use Rattle.ee_core.proofs.AfterCalls.{mark_keeps_wear}
 use Rattle.ee_core.proofs.Marks.{one_receive, program_keeps_wear}
+use Rattle.ee_pages.specs.Page.{marking}
+use Rattle.ee_core.proofs.AfterCalls.{not_ok}
+use Rattle.ee_core.proofs.Taken.{completes_unless, stops_unless, takes_err, takes_ok}
 use Rattle.ee_core.proofs.copying.receive.Goals as goal
 
 pub mark-requires-clause-page_in_range : goal.mark-requires-clause-page_in_range
@@ -50,7 +53,10 @@ returns-in_err-mark g c =
                 (λ set. (c.mark.ensures.present set).1) cut;
             wear = program_keeps_wear _ _ _ old new (inr cut);
           });
-      power = ends_in_step _ _ c.from_residual.ensures.0 (goes_on_same old) cut;
+      steps = takes_err _ c.from_residual.ensures.0
+          (stops_unless (is_marked old c.args.place.page (Receive (layout.generation + 1)))
+          (marking c.args.place.page (Receive (layout.generation + 1)))
+          (λ set. not_ok (c.mark.ensures.present set).0 c.in_err-mark.was) cut);
     }
 
 pub returns : goal.returns
@@ -84,11 +90,8 @@ returns g c =
         wear = mark_keeps_wear c.args.place.page (Receive (layout.generation + 1)) old same
             c.in_ok-mark.ensures.done;
       };
-      power = record {
-        ok =
-            goes_on_mark c.args.place.page (Receive (layout.generation + 1)) old same
-            c.in_ok-mark.ensures.on c.in_ok-mark.ensures.done;
-        cut = tt;
-        off = tt;
-      };
+      steps = takes_ok
+          (completes_unless (is_marked old c.args.place.page (Receive (layout.generation + 1)))
+          (marking c.args.place.page (Receive (layout.generation + 1))) old same
+          c.in_ok-mark.ensures.on c.in_ok-mark.ensures.done);
     }

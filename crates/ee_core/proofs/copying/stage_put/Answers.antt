@@ -23,5 +23,4 @@ returns g c =
       behind =
           rw done.fills.keeps.same_size
           (behind_slot _ (other_of c.args.layout.now.side) next.result next.ensures.stands);
-      power = done.power;
     }

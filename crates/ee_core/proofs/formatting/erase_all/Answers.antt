@@ -3,7 +3,6 @@ use Rattle.std.proofs.lemmas.Result.{err_from_is_err_and}
 use Rattle.ee_flash.specs.Device.{IsOn, page_at}
 use Rattle.ee_flash.specs.Size.{page_count}
 use Rattle.ee_pages.specs.Page.{is_blank}
-use Rattle.ee_core.proofs.AfterCalls.{ends_in_step, goes_on_both}
 use Rattle.ee_core.proofs.FormatFacts.{BlanksPage, all_blank, blank_already, blank_more, blanks_page}
 use Rattle.ee_core.proofs.Startable.{erase_startable}
 use Rattle.ee_core.specs.Starts.{IsStartable}
@@ -15,6 +14,11 @@ use Rattle.ee_core.specs.CallSteps.{IsSameBut}
 use Rattle.ee_core.specs.Cuts.{ErasesPartly}
 use Rattle.ee_core.proofs.Wears.{cut_page_wears}
 use Rattle.ee_core.proofs.formatting.erase_all.Goals.{then-not-is_blank+in_ok-erase, else-not-is_blank}
+use Rattle.std.proofs.Common.{List, [], ◌∷◌, ◌-◌, refl, subst}
+use Rattle.ee_flash.specs.Step.{Step}
+use Rattle.ee_core.specs.Openings.{not_blank_pages}
+use Rattle.ee_flash.specs.Taking.{Completes, StopsAmong}
+use Rattle.ee_core.proofs.Taken.{goes_on_taken, completes_none, each_next, each_stops, erase_below, erase_words, erases_in, in_device, stops_one, takes_err, takes_ok}
 use Rattle.ee_core.proofs.formatting.erase_all.Goals as goal
 
 pub pages-preserved : goal.pages-preserved
@@ -24,7 +28,7 @@ pages-preserved g c =
     let new = g.F.Flash.device c.if-not-is_blank.flash in
     let page = c.pages.page in
     let pages = ap (λ size. size.pages) c.shape.ensures in
-    let same = ap page_count c.pages.invariant.power.same_size in
+    let same = ap page_count (goes_on_taken _ c.pages.invariant.steps).same_size in
     let in_range : page < page_count old.size =
     omega (arith, c.pages-page-end.ensures.value, pages, c.pages-test.true) in
     let now_in_range : page < page_count mid.size = omega (arith, in_range, same) in
@@ -62,7 +66,9 @@ pages-preserved g c =
           step.others k apart ∙ c.pages.invariant.rest k (omega (arith, h));
       wear = wears_next old.image 0 page page old mid new at within same_page c.pages.invariant.wear
           step.wear;
-      power = goes_on_both old mid new c.pages.invariant.power step.power;
+      steps =
+          each_next erase_words erase_below old mid new 0 page (omega arith)
+          c.pages.invariant.steps step.steps;
       startable = λ before. stays (c.pages.invariant.startable before);
     }
 
@@ -71,7 +77,7 @@ returns-clause-erases g c =
     let old = g.F.Flash.device c.args.flash.now in
     let new = g.F.Flash.device c.pages.flash in
     let pages = ap (λ size. size.pages) c.shape.ensures in
-    let same = ap page_count c.pages.invariant.power.same_size in
+    let same = ap page_count (goes_on_taken _ c.pages.invariant.steps).same_size in
     let formed = g.met.F.Flash.formed c.args.flash.now in
     let new_formed = g.met.F.Flash.formed c.pages.flash in
     let all : c.pages.page ≡ length old.image =
@@ -98,8 +104,18 @@ returns-clause-erases g c =
       wear = all_wear old.image 0 c.pages.page old new all c.pages.invariant.wear;
     }
 
+pub is_blank-requires : goal.is_blank-requires
+is_blank-requires g c =
+    omega (
+      arith,
+      c.pages-page-end.ensures.value,
+      ap (λ size. size.pages) c.shape.ensures,
+      c.pages-test.true,
+      ap page_count (goes_on_taken _ c.pages.invariant.steps).same_size,
+    )
+
 pub pages-init : goal.pages-init
-pages-init g c = search rules fits 100 parts 0
+pages-init g c = search (rules, completes_none) fits 100 parts 0
 
 pub returns-in_err-erase : goal.returns-in_err-erase
 returns-in_err-erase g c =
@@ -114,7 +130,7 @@ returns-in_err-erase g c =
     let in_range : page < page_count old.size =
     omega (arith, c.pages-page-end.ensures.value, pages, c.pages-test.true) in
     let now_in_range : page < page_count mid.size =
-    omega (arith, in_range, ap page_count c.pages.invariant.power.same_size) in
+    omega (arith, in_range, ap page_count (goes_on_taken _ c.pages.invariant.steps).same_size) in
     let within : page < length old.image = omega (arith, in_range, formed.image_length) in
     let has_wear : page < length mid.wear = omega (arith, now_in_range, mid_formed.wear_length) in
     let written : is_blank (page_at mid page) ≡ false =
@@ -124,7 +140,7 @@ returns-in_err-erase g c =
     λ k apart. step_keeps_other_pages (Erase page) mid new k
     (record { formed = mid_formed; may = now_in_range; follows = inr cut }) apart in
     let partly : IsOn old → ErasesPartly 0 old.image old new = λ on.
-    let now = cut_page_wears page mid new has_wear cut (c.pages.invariant.power.same_power ∙ on) in
+    let now = cut_page_wears page mid new has_wear cut ((goes_on_taken _ c.pages.invariant.steps).same_power ∙ on) in
     let wear =
     wears_to old.image 0 page page old mid new at within
     (sym (c.pages.invariant.rest page (omega arith))) c.pages.invariant.wear written now in
@@ -140,5 +156,31 @@ returns-in_err-erase g c =
             λ before. erase_startable page mid new mid_formed now_in_range (inr cut)
             (c.pages.invariant.startable before);
       });
-      power = ends_in_step (Erase page) _ c.from_residual.ensures.0 c.pages.invariant.power cut;
+      steps = takes_err _ c.from_residual.ensures.0
+          (subst (λ (list : List Step). StopsAmong list old new)
+          (in_device (λ n. Erase n ∷ []) old (length old.image) refl
+          ∙ erases_in (not_blank_pages old))
+          (each_stops erase_words erase_below old mid new 0 page (omega arith)
+          c.pages.invariant.steps (length old.image) (omega (arith, within))
+          (rw written (stops_one (Erase page) cut))));
     }
+
+pub returns-clause-steps : goal.returns-clause-steps
+returns-clause-steps g c =
+    let old = g.F.Flash.device c.args.flash.now in
+    let new = g.F.Flash.device c.pages.flash in
+    let pages = ap (λ size. size.pages) c.shape.ensures in
+    let formed = g.met.F.Flash.formed c.args.flash.now in
+    let all : length old.image ≡ c.pages.page - 0 =
+    omega (
+      arith,
+      c.pages-page-end.ensures.value,
+      pages,
+      formed.image_length,
+      c.pages.auto.page-end,
+      c.pages-test.false,
+    ) in
+    takes_ok
+    (subst (λ (list : List Step). Completes list old new)
+    (in_device (λ n. Erase n ∷ []) old (c.pages.page - 0) (sym all)
+    ∙ erases_in (not_blank_pages old)) c.pages.invariant.steps)

@@ -2,7 +2,6 @@ use Rattle.std.proofs.Common.{◌≡◌, ◌<◌, inl, inr, ap, arith, refl, ◌
 use Rattle.std.proofs.lemmas.Result.{err_from_is_err_and}
 use Rattle.ee_flash.specs.Device.{Device}
 use Rattle.ee_pages.specs.Page.{marking}
-use Rattle.ee_core.proofs.AfterCalls.{ends_in_step, ends_later, goes_on_both, goes_on_programmed, goes_on_same}
 use Rattle.ee_core.specs.Openings.{not_blank_pages}
 use Rattle.ee_core.proofs.Wears.{wears_still}
 use Rattle.ee_core.proofs.Marks.{mark_step, program_keeps_wear}
@@ -16,6 +15,10 @@ use Rattle.ee_core.proofs.OpeningFacts.{formats}
 use Rattle.ee_core.proofs.Startable.{active_starting, received_startable}
 use Rattle.ee_core.proofs.Drawings.{sets_mark}
 use Rattle.ee_core.proofs.MovedSets.{formats_first, formats_second}
+use Rattle.std.proofs.Common.{[], ◌∷◌}
+use Rattle.std.specs.Prelude.{map}
+use Rattle.ee_flash.specs.Step.{Erase}
+use Rattle.ee_core.proofs.Taken.{completes_both, completes_one, stops_first, stops_one, stops_then, takes_err, takes_ok}
 use Rattle.ee_core.proofs.formatting.write_format.Goals as goal
 
 pub returns : goal.returns
@@ -34,9 +37,6 @@ returns g c =
     let on = c.in_ok-mark.ensures.on unset in
     let whole = c.in_ok-mark.ensures.done unset in
     let next = active_unset blank mid formed all on whole in
-    let on_still =
-    goes_on_both old blank mid c.in_ok-erase_all.ensures.power.ok
-    (goes_on_programmed _ _ _ blank on whole) in
     let sets =
     sets_mark 0 (Receive 1) blank mid formed h (λ set. (c.in_ok-mark.ensures.present set).1)
     c.in_ok-mark.ensures.done in
@@ -49,7 +49,12 @@ returns g c =
     let size_then = ap (λ (device : Device). device.size) done in
     let wear : new.wear ≡ blank.wear =
     ap (λ (device : Device). device.wear) done ∙ ap (λ (device : Device). device.wear) whole in
-    let goes_on = goes_on_both old mid new on_still (goes_on_programmed _ _ _ mid on_then done) in
+    let all_steps =
+    (completes_both (map Erase (not_blank_pages old))
+    (marking 0 (Receive 1) ∷ marking 0 Active ∷ []) c.in_ok-erase_all.ensures.steps.done
+    (completes_both (marking 0 (Receive 1) ∷ []) (marking 0 Active ∷ [])
+    (completes_one (marking 0 (Receive 1)) blank on whole)
+    (completes_one (marking 0 Active) mid on_then done))) in
     let layout = first_layout blank mid formed all on whole new on_then done in
     let marked = first_marked blank mid formed all on whole new on_then done in
     record {
@@ -62,9 +67,9 @@ returns g c =
             (first_state blank mid formed all on whole new on_then done)
             (formats_first blank mid new formed mid_formed size size_then all sets sets_then)
             (formats_second blank mid new formed mid_formed size size_then all sets sets_then)
-            (wears_still (not_blank_pages old) old blank new erased wear) goes_on;
+            (wears_still (not_blank_pages old) old blank new erased wear) all_steps;
       };
-      power = record { ok = goes_on; cut = tt; off = tt };
+      steps = takes_ok all_steps;
     }
 
 pub returns-in_err-erase_all : goal.returns-in_err-erase_all
@@ -75,9 +80,9 @@ returns-in_err-erase_all g c =
         words = λ on. inl (cut.erases.partly on);
         starting = λ on startable. inl (cut.erases.startable startable);
       });
-      power =
-          ends_later _ c.from_residual.ensures.0 (goes_on_same (g.F.Flash.device c.args.flash.now))
-          cut.power;
+      steps = takes_err _ c.from_residual.ensures.0
+          (stops_first (map Erase (not_blank_pages (g.F.Flash.device c.args.flash.now)))
+          (marking 0 (Receive 1) ∷ marking 0 Active ∷ []) cut.steps.cut);
     }
 
 pub returns-in_err-mark : goal.returns-in_err-mark
@@ -105,9 +110,11 @@ returns-in_err-mark g c =
             words = λ on. inr partly;
             starting = λ on startable. inl (received_startable blank mid formed all taken);
           });
-      power =
-          ends_in_step (marking 0 (Receive 1)) _ failed.ensures.0 c.in_ok-erase_all.ensures.power.ok
-          cut;
+      steps = takes_err _ failed.ensures.0
+          (stops_then (map Erase (not_blank_pages old))
+          (marking 0 (Receive 1) ∷ marking 0 Active ∷ []) c.in_ok-erase_all.ensures.steps.done
+          (stops_first (marking 0 (Receive 1) ∷ []) (marking 0 Active ∷ [])
+          (stops_one (marking 0 (Receive 1)) cut)));
     }
 
 pub returns-in_err-mark-2 : goal.returns-in_err-mark-2
@@ -126,9 +133,6 @@ returns-in_err-mark-2 g c =
     let on_mark = c.in_ok-mark.ensures.on unset in
     let whole = c.in_ok-mark.ensures.done unset in
     let next = active_unset blank mid formed all on_mark whole in
-    let on_still =
-    goes_on_both old blank mid c.in_ok-erase_all.ensures.power.ok
-    (goes_on_programmed _ _ _ blank on_mark whole) in
     let sets =
     sets_mark 0 (Receive 1) blank mid formed h (λ set. (c.in_ok-mark.ensures.present set).1)
     c.in_ok-mark.ensures.done in
@@ -151,7 +155,12 @@ returns-in_err-mark-2 g c =
             (received_startable blank mid formed all
             (receiving blank mid formed all on_mark whole));
       });
-      power = ends_in_step (marking 0 Active) _ failed.ensures.0 on_still cut;
+      steps = takes_err _ failed.ensures.0
+          (stops_then (map Erase (not_blank_pages old))
+          (marking 0 (Receive 1) ∷ marking 0 Active ∷ []) c.in_ok-erase_all.ensures.steps.done
+          (stops_then (marking 0 (Receive 1) ∷ []) (marking 0 Active ∷ [])
+          (completes_one (marking 0 (Receive 1)) blank on_mark whole)
+          (stops_one (marking 0 Active) cut)));
     }
 
 pub mark-requires : goal.mark-requires

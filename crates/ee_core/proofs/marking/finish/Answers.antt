@@ -1,9 +1,16 @@
-use Rattle.ee_core.proofs.Base.{refl, ◌∙◌, other, last_used}
-use Rattle.ee_core.proofs.AfterCalls.{ends_later, goes_on_both, goes_on_same, never_on_ok, not_ok}
-use Rattle.ee_core.proofs.LiveMarks.{layout_stays, live_marks_kept, old_marks_kept, stays_both}
+use Rattle.ee_core.proofs.Base.{other, last_used}
+use Rattle.ee_core.proofs.AfterCalls.{never_on_ok}
+use Rattle.ee_core.proofs.LiveMarks.{layout_stays, live_marks_kept, stays_both}
 use Rattle.ee_core.proofs.MarkedSets.{shows}
 use Rattle.ee_core.proofs.CutMarks.{cut_live, cut_old}
 use Rattle.ee_core.proofs.Making.{always_on_err}
+use Rattle.std.specs.Prelude.{List}
+use Rattle.std.proofs.Common.{subst}
+use Rattle.ee_flash.specs.Step.{Step}
+use Rattle.ee_core.specs.StepLists.{steps_to_mark_live, steps_to_retire}
+use Rattle.ee_flash.specs.Taking.{Completes, StopsAmong}
+use Rattle.ee_core.proofs.ClosedSets.{retire_kept}
+use Rattle.ee_core.proofs.Taken.{completes_both, stops_first, stops_then, takes_err, takes_ok}
 use Rattle.ee_core.proofs.marking.finish.Goals as goal
 
 pub mark_old_set-requires : goal.mark_old_set-requires
@@ -21,10 +28,12 @@ returns-in_err-mark_live_set g c =
       begun = always_on_err _
           (cut_live c.args.layout.now.side old new c.mark_live_set.ensures.stays.keeps.same_size
           c.in_err-mark_live_set.ensures.begun c.in_err-mark_live_set.ensures.old_pages_stay);
-      no_step =
-          λ marked. absurd
-          (not_ok (c.mark_live_set.ensures.no_step marked.live).0 c.in_err-mark_live_set.was);
-      power = ends_later _ failed (goes_on_same old) c.in_err-mark_live_set.ensures.power;
+      steps = takes_err _ failed
+          (stops_first
+          (steps_to_mark_live old c.args.layout.now.side
+          (last_used old c.args.layout.now.side))
+          (steps_to_retire old (other c.args.layout.now.side))
+          c.in_err-mark_live_set.ensures.steps.cut);
     }
 
 pub returns-in_err-mark_old_set : goal.returns-in_err-mark_old_set
@@ -43,15 +52,14 @@ returns-in_err-mark_old_set g c =
           c.mark_old_set.ensures.stays.keeps.same_size
           c.in_ok-mark_live_set.ensures.live_pages c.in_ok-mark_live_set.ensures.old_pages
           c.in_err-mark_old_set.ensures.live_pages_stay c.in_err-mark_old_set.ensures.begun);
-      no_step = λ marked.
-          let none =
-          c.mark_old_set.ensures.no_step
-          (old_marks_kept (other side) old mid
-          (c.mark_live_set.ensures.no_step marked.live).1 marked.old) in
-          absurd (not_ok none.0 c.in_err-mark_old_set.was);
-      power =
-          ends_later _ failed c.in_ok-mark_live_set.ensures.power.ok
-          c.in_err-mark_old_set.ensures.power;
+      steps = takes_err _ failed
+          (stops_then (steps_to_mark_live old side (last_used old side))
+          (steps_to_retire old (other side)) c.in_ok-mark_live_set.ensures.steps.done
+          (subst (λ (list : List Step). StopsAmong list mid new)
+          (retire_kept (other side) old mid c.requires.live.formed
+          c.mark_live_set.ensures.stays.keeps.live.formed
+          c.mark_live_set.ensures.stays.keeps.same_size c.in_ok-mark_live_set.ensures.old_pages)
+          c.in_err-mark_old_set.ensures.steps.cut));
     }
 
 pub returns : goal.returns
@@ -76,11 +84,11 @@ returns g c =
       };
       shows = record { live_pages = both.0; old_pages = both.1 };
       begun = tt;
-      no_step = λ marked.
-          let same = (first.no_step marked.live).1 in (
-            refl,
-            (then.no_step (old_marks_kept (other layout.side) old mid same marked.old)).1 ∙ same,
-          );
-      power =
-          record { ok = goes_on_both old mid new first.power.ok then.power.ok; cut = tt; off = tt };
+      steps = takes_ok
+          (completes_both (steps_to_mark_live old layout.side (last_used old layout.side))
+          (steps_to_retire old (other layout.side)) first.steps.done
+          (subst (λ (list : List Step). Completes list mid new)
+          (retire_kept (other layout.side) old mid c.requires.live.formed
+          first.stays.keeps.live.formed first.stays.keeps.same_size first.old_pages)
+          then.steps.done));
     }

@@ -1,9 +1,10 @@
-use Rattle.ee_core.proofs.Base.{◌≡◌, ◌<◌, refl, true, page_count, is_marked, marking}
-use Rattle.ee_core.proofs.AfterCalls.{ends_in_step, goes_on_mark, goes_on_same, never_on_ok, not_ok, same_but}
+use Rattle.ee_core.proofs.Base.{◌≡◌, ◌<◌, true, page_count, is_marked, marking}
+use Rattle.ee_core.proofs.AfterCalls.{never_on_ok, not_ok, same_but}
 use Rattle.ee_core.proofs.Drawings.{sets_mark}
 use Rattle.ee_core.proofs.Marks.{live_mark_stays, mark_keeps_marks, marked_after, marks, page_in_device, proper_live}
 use Rattle.ee_core.proofs.Cuts.{mark_partly}
 use Rattle.ee_core.proofs.Making.{always_on_err}
+use Rattle.ee_core.proofs.Taken.{completes_unless, stops_unless, takes_err, takes_ok}
 use Rattle.ee_core.proofs.marking.mark_live.Goals as goal
 
 pub returns-in_err-mark : goal.returns-in_err-mark
@@ -31,10 +32,10 @@ returns-in_err-mark g c =
           always_on_err _
           (mark_partly c.args.page c.args.kind old new formed h
           (λ set. (c.mark.ensures.present set).1) c.in_err-mark.ensures.cut);
-      no_step = λ set. absurd (not_ok (c.mark.ensures.present set).0 c.in_err-mark.was);
-      power =
-          ends_in_step (marking c.args.page c.args.kind) _ failed (goes_on_same old)
-          c.in_err-mark.ensures.cut;
+      steps = takes_err _ failed
+          (stops_unless (is_marked old c.args.page c.args.kind) (marking c.args.page c.args.kind)
+          (λ set. not_ok (c.mark.ensures.present set).0 c.in_err-mark.was)
+          c.in_err-mark.ensures.cut);
     }
 
 pub returns : goal.returns
@@ -63,12 +64,8 @@ returns g c =
           c.in_ok-mark.ensures.done;
       sets = sets_mark c.args.page c.args.kind old new formed h same c.in_ok-mark.ensures.done;
       begun = tt;
-      no_step = λ set. (refl, same set);
-      power = record {
-        ok =
-            goes_on_mark c.args.page c.args.kind old same c.in_ok-mark.ensures.on
-            c.in_ok-mark.ensures.done;
-        cut = tt;
-        off = tt;
-      };
+      steps = takes_ok
+          (completes_unless (is_marked old c.args.page c.args.kind)
+          (marking c.args.page c.args.kind) old same c.in_ok-mark.ensures.on
+          c.in_ok-mark.ensures.done);
     }

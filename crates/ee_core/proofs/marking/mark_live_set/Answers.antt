@@ -1,11 +1,16 @@
-use Rattle.ee_core.proofs.Base.{◌≡◌, ◌≤◌, ◌<◌, ◌+◌, ◌-◌, true, ap, arith, inl, ◌∙◌, refl, subst, Size, is_marked, first_page, Active, Valid, last_used, IsDrawn, picture_of, SetsPartly, rules}
-use Rattle.ee_core.proofs.AfterCalls.{ends_later, goes_on_both, goes_on_same, never_on_ok, not_ok}
+use Rattle.ee_core.proofs.Base.{◌≡◌, ◌≤◌, ◌<◌, ◌+◌, ◌-◌, ap, arith, inl, refl, subst, Size, first_page, Active, Valid, last_used, IsDrawn, picture_of, SetsPartly, rules}
+use Rattle.ee_core.proofs.AfterCalls.{never_on_ok}
 use Rattle.ee_core.proofs.Drawings.{valid_to}
 use Rattle.ee_core.proofs.MarkedSets.{active_then, other_stays, valid_next, valid_start}
 use Rattle.ee_core.proofs.Marks.{same_stays}
-use Rattle.ee_core.proofs.LiveMarks.{last_behind, last_in_range, last_is, layout_stays, live_marked, stays_both, valid_already, valid_behind, valid_more}
+use Rattle.ee_core.proofs.LiveMarks.{last_behind, last_in_range, last_is, layout_stays, live_marked, stays_both, valid_behind, valid_more}
 use Rattle.ee_core.proofs.CutMarks.{active_partly, valid_partly}
 use Rattle.ee_core.proofs.Making.{always_on_err}
+use Rattle.std.specs.List.{flat_map, range_with_len}
+use Rattle.ee_core.specs.StepLists.{steps_to_mark}
+use Rattle.ee_flash.specs.Taking.{Completes}
+use Rattle.ee_core.proofs.LiveSteps.{live_done, live_stops, live_stops_then}
+use Rattle.ee_core.proofs.Taken.{each_next, each_start, mark_below, mark_words, takes_err, takes_ok}
 use Rattle.ee_core.proofs.marking.mark_live_set.Goals as goal
 
 pub mark_live-requires-clause-behind : goal.mark_live-requires-clause-behind
@@ -37,13 +42,6 @@ pages-preserved g c =
       valid =
           valid_more (first_page old.size layout.side) c.pages.page mid new from
           c.pages.invariant.valid c.mark_live.ensures.marks c.in_ok-mark_live.ensures.marked;
-      no_step = λ marked.
-          let same = c.pages.invariant.no_step marked in
-          let set : is_marked old c.pages.page Valid ≡ true =
-          valid_already layout old c.pages.page c.requires marked from c.pages-test.true in
-          (c.mark_live.ensures.no_step
-          (ap (λ device. is_marked device c.pages.page Valid) same ∙ set)).1
-          ∙ same;
       drawn =
           valid_next layout.side old c.first_page-first.result c.first_page-first.ensures mid new
           c.pages.page
@@ -56,7 +54,9 @@ pages-preserved g c =
           (g.met.F.Flash.formed c.pages.flash) (g.met.F.Flash.formed c.mark_live.new.flash)
           c.pages.invariant.stays.keeps.same_size c.mark_live.ensures.stays.keeps.same_size
           c.pages.auto.page behind c.mark_live.ensures.others c.pages.invariant.other;
-      power = goes_on_both old mid new c.pages.invariant.power c.in_ok-mark_live.ensures.power.ok;
+      steps =
+          each_next (mark_words Valid) (mark_below Valid) old mid new c.first_page-first.result
+          c.pages.page c.pages.auto.page c.pages.invariant.steps c.in_ok-mark_live.ensures.steps.done;
     }
 
 pub mark_live-requires-2-clause-behind : goal.mark_live-requires-2-clause-behind
@@ -73,7 +73,10 @@ pub mark_live-requires-2-clause-layout : goal.mark_live-requires-2-clause-layout
 mark_live-requires-2-clause-layout g c = search layout_stays
 
 pub pages-init : goal.pages-init
-pages-init g c = search (rules, same_stays, valid_start, goes_on_same)
+pages-init g c =
+    let steps =
+    each_start (mark_words Valid) (g.F.Flash.device c.args.flash.now) c.first_page-first.result in
+    search (rules, same_stays, valid_start)
 
 pub returns-in_err-mark_live : goal.returns-in_err-mark_live
 returns-in_err-mark_live g c =
@@ -116,16 +119,11 @@ returns-in_err-mark_live g c =
           (g.met.F.Flash.formed c.mark_live.new.flash)
           sizes c.mark_live.ensures.stays.keeps.same_size c.pages.auto.page inside
           c.mark_live.ensures.others c.pages.invariant.other);
-      no_step = λ marked.
-          let set : is_marked old c.pages.page Valid ≡ true =
-          valid_already layout old c.pages.page c.requires marked from c.pages-test.true in
-          let none =
-          c.mark_live.ensures.no_step
-          (ap (λ device. is_marked device c.pages.page Valid)
-          (c.pages.invariant.no_step marked)
-          ∙ set) in
-          absurd (not_ok none.0 c.in_err-mark_live.was);
-      power = ends_later _ failed c.pages.invariant.power c.in_err-mark_live.ensures.power;
+      steps = takes_err _ failed
+          (live_stops layout.side old mid new c.first_page-first.result c.pages.page
+          (last_used old layout.side) c.first_page-first.ensures c.pages.auto.page
+          (omega (arith, last, c.first_page-first.ensures, c.pages-test.true))
+          c.pages.invariant.steps c.in_err-mark_live.ensures.steps.cut);
     }
 
 pub returns-in_err-mark_live-2 : goal.returns-in_err-mark_live-2
@@ -168,15 +166,14 @@ returns-in_err-mark_live-2 g c =
           (g.met.F.Flash.formed c.mark_live-2.new.flash)
           sizes c.mark_live-2.ensures.stays.keeps.same_size from behind c.mark_live-2.ensures.others
           c.pages.invariant.other);
-      no_step = λ marked.
-          let same = c.pages.invariant.no_step marked in
-          let set : is_marked old layout.current Active ≡ true =
-          ap (λ n. is_marked old n Active) last ∙ marked.active in
-          let none =
-          c.mark_live-2.ensures.no_step
-          (ap (λ device. is_marked device layout.current Active) same ∙ set) in
-          absurd (not_ok none.0 c.in_err-mark_live-2.was);
-      power = ends_later _ failed c.pages.invariant.power c.in_err-mark_live-2.ensures.power;
+      steps = takes_err _ failed
+          (live_stops_then layout.side old mid new c.first_page-first.result layout.current
+          (last_used old layout.side) c.first_page-first.ensures
+          (omega (arith, last, c.first_page-first.ensures))
+          (subst
+          (λ n. Completes
+          (flat_map (steps_to_mark old Valid) (range_with_len c.first_page-first.result n)) old mid)
+          reached c.pages.invariant.steps) c.in_err-mark_live-2.ensures.steps.cut);
     }
 
 pub returns : goal.returns
@@ -220,17 +217,12 @@ returns g c =
           sizes done.stays.keeps.same_size from behind done.others c.pages.invariant.other;
       begun = tt;
       old_pages_stay = tt;
-      no_step = λ marked.
-          let same = c.pages.invariant.no_step marked in
-          let set : is_marked old layout.current Active ≡ true =
-          ap (λ n. is_marked old n Active) last ∙ marked.active in (
-            refl,
-            (done.no_step (ap (λ device. is_marked device layout.current Active) same ∙ set)).1
-                ∙ same,
-          );
-      power = record {
-        ok = goes_on_both old mid new c.pages.invariant.power done.power.ok;
-        cut = tt;
-        off = tt;
-      };
+      steps = takes_ok
+          (live_done layout.side old mid new c.first_page-first.result layout.current
+          (last_used old layout.side) c.first_page-first.ensures
+          (omega (arith, last, c.first_page-first.ensures))
+          (subst
+          (λ n. Completes
+          (flat_map (steps_to_mark old Valid) (range_with_len c.first_page-first.result n)) old mid)
+          reached c.pages.invariant.steps) done.steps.done);
     }

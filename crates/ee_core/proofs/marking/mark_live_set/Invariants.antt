@@ -1,5 +1,8 @@
-use Rattle.ee_core.proofs.Base.{◌≡◌, ℕ, ◌<◌, ◌+◌, ◌-◌, true, GoesOn, is_marked, first_page, other, Valid, IsSameSet, Stays, IsLiveMarked, IsDrawn, picture_of}
+use Rattle.ee_core.proofs.Base.{◌≡◌, ℕ, ◌<◌, ◌+◌, ◌-◌, true, is_marked, first_page, other, Valid, IsSameSet, Stays, IsDrawn, picture_of}
 use Rattle.ee_core.proofs.Drawings.{valid_to}
+use Rattle.std.specs.List.{flat_map, range_with_len}
+use Rattle.ee_core.specs.StepLists.{steps_to_mark}
+use Rattle.ee_flash.specs.Taking.{Completes}
 use Rattle.ee_core.proofs.marking.mark_live_set.Given as goal
 
 abbrev pub invariant-pages : goal.invariant-pages
@@ -10,9 +13,9 @@ invariant-pages g l =
       stays : Stays old now l.layout.side l.layout.generation;
       valid : (k : ℕ) → k < l.page - first_page old.size l.layout.side
           → is_marked now (first_page old.size l.layout.side + k) Valid ≡ true;
-      no_step : IsLiveMarked old l.layout.side → now ≡ old;
       drawn : IsDrawn l.layout.side now
           (valid_to (l.page - l.first) (picture_of l.layout.side old));
       other : IsSameSet (other l.layout.side) old now;
-      power : GoesOn old now;
+      steps : Completes
+          (flat_map (steps_to_mark old Valid) (range_with_len l.first (l.page - l.first))) old now;
     }

@@ -1,7 +1,8 @@
-use Rattle.ee_core.proofs.Base.{◌≡◌, false, ap, ◌∙◌, sym, page_at, Size, is_blank, first_page, other, rules}
-use Rattle.ee_core.proofs.AfterCalls.{ends_later, never_on_ok, not_ok}
-use Rattle.ee_core.proofs.CutMarks.{marked_all, marked_cut, marked_next, marked_start, was_done}
-use Rattle.ee_core.proofs.LiveMarks.{MarksPage, layout_stays, marked_from, marks_none, marks_one, stays_both}
+use Rattle.ee_core.proofs.Base.{◌≡◌, arith, false, ap, ◌∙◌, sym, page_at, Size, is_blank, first_page, other, rules}
+use Rattle.ee_core.proofs.AfterCalls.{never_on_ok}
+use Rattle.ee_core.proofs.CutMarks.{marked_all, marked_cut, marked_next, marked_start, retired_cut, retired_steps}
+use Rattle.ee_core.proofs.Taken.{takes_err}
+use Rattle.ee_core.proofs.LiveMarks.{MarksPage, layout_stays, marks_none, marks_one, stays_both}
 use Rattle.ee_core.proofs.Making.{always_on_err}
 use Rattle.ee_core.proofs.MarkedSets.{retired_end}
 use Rattle.ee_core.proofs.SetPages.{page_of_device, page_reached}
@@ -28,7 +29,8 @@ pages-preserved g c =
           rw w.flash-is
           (marks_one mid _ side generation c.pages.page
           (sym c.is_blank.ensures ∙ w.if-not-is_blank.true) left.stays left.marks
-          left.others left.marked left.sets (λ set. (left.no_step set).1) left.power.ok)
+          left.others left.marked left.sets
+          left.steps.done)
       | else-not-is_blank w ↦ rw w.flash-is
           (marks_none mid side generation c.pages.page c.pages.invariant.stays.keeps.live
           (sym c.is_blank.ensures ∙ w.if-not-is_blank.false))
@@ -71,15 +73,36 @@ returns-in_err-mark_old g c =
       old_pages = never_on_ok _ _ failed;
       begun = always_on_err c.from_residual.result cut.0;
       live_pages_stay = always_on_err c.from_residual.result cut.1;
-      no_step = λ marked.
-          let now =
-          was_done side generation old _ _ first pages mid c.pages.page formed c.pages.auto.page
-          c.pages-test.true c.pages.invariant marked in
-          absurd
-          (not_ok (left.no_step (marked_from mid c.pages.page written now)).0
-          c.in_err-mark_old.was);
-      power = ends_later _ failed c.pages.invariant.power c.in_err-mark_old.ensures.power;
+      steps = takes_err _ failed
+          (retired_cut side generation old _ _ first pages mid c.pages.page formed
+          c.pages.auto.page c.pages-test.true c.pages.invariant new c.requires.live.formed written
+          c.in_err-mark_old.ensures.steps.cut);
     }
 
-pub returns : goal.returns
-returns g c = search (rules, marked_all, retired_end)
+pub returns-clause-marked : goal.returns-clause-marked
+returns-clause-marked g c = search (rules, marked_all)
+
+pub returns-clause-old_pages : goal.returns-clause-old_pages
+returns-clause-old_pages g c =
+    let old = g.F.Flash.device c.args.flash.now in
+    let new = g.F.Flash.device c.pages.flash in
+    let first : c.first_page-first.result ≡ first_page old.size (other c.args.layout.now.side) =
+    c.first_page-first.ensures ∙ ap (first_page old.size) c.other.ensures in
+    let pages : c.pages-2.result ≡ old.size.pages =
+    c.pages-2.ensures.value ∙ ap (λ (size : Size). size.pages) c.shape.ensures in
+    retired_end (other c.args.layout.now.side) old c.first_page-first.result first new c.pages.page
+    c.pages.invariant.stays.keeps.same_size
+    (omega (arith, pages, c.pages-test.false, c.pages.auto.page-end)) c.pages.invariant.drawn
+
+pub returns-clause-steps : goal.returns-clause-steps
+returns-clause-steps g c =
+    let old = g.F.Flash.device c.args.flash.now in
+    let side = c.args.layout.now.side in
+    let new = g.F.Flash.device c.pages.flash in
+    let first : c.first_page-first.result ≡ first_page old.size (other side) =
+    c.first_page-first.ensures ∙ ap (first_page old.size) c.other.ensures in
+    let pages : c.pages-2.result ≡ old.size.pages =
+    c.pages-2.ensures.value ∙ ap (λ (size : Size). size.pages) c.shape.ensures in
+    retired_steps side c.args.layout.now.generation old _ _ first pages new c.pages.page
+    c.requires.live.formed (omega (arith, c.pages-test.false, c.pages.auto.page-end))
+    c.pages.invariant

@@ -4,8 +4,8 @@ use Rattle.ee_flash.specs.Device.{page_at}
 use Rattle.ee_flash.specs.Size.{Size}
 use Rattle.ee_pages.specs.Page.{is_blank}
 use Rattle.ee_pages.specs.Sets.{first_page, other, set_of}
-use Rattle.ee_core.proofs.AfterCalls.{ends_later, goes_on_same}
-use Rattle.ee_core.proofs.ClearedSets.{all_cleared, cleared_cut, cleared_next}
+use Rattle.ee_core.proofs.ClearedSets.{all_cleared, cleared_cut, cleared_next, cleared_steps, cleared_stops}
+use Rattle.ee_core.proofs.Taken.{goes_on_taken, each_start, erase_words, takes_err, takes_ok}
 use Rattle.ee_core.proofs.ErasedPages.{none_wears, written_wears}
 use Rattle.ee_core.proofs.FormatFacts.{blank_already}
 use Rattle.ee_pages.proofs.Public.{keeps_side_both, keeps_side_same}
@@ -21,7 +21,7 @@ pages-init g c =
       blank = λ page from below. absurd (omega (arith, from, below));
       rest = λ page either. refl;
       wear = none_wears (set_of (other c.args.layout.now.side) device) _ _ device (omega arith);
-      goes = goes_on_same device;
+      steps = each_start erase_words device c.first_page-first.result;
     }
 
 pub pages-preserved : goal.pages-preserved
@@ -50,7 +50,9 @@ pages-preserved g c =
             others = left.others;
             blank = left.blank;
             wear = wear;
-            power = w.in_ok-erase_other.ensures.power.ok;
+            steps =
+                rw (sym c.is_blank.ensures ∙ w.if-not-is_blank.true)
+                w.in_ok-erase_other.ensures.steps.done;
           }))
       | else-not-is_blank w ↦
           let keeps = keeps_side_same mid side so_far.keeps.formed in
@@ -102,7 +104,9 @@ returns g c =
     (omega (arith, c.pages-test.false, c.pages.auto.page-end)) left in
     record {
       clears = record { keeps = left.keeps; blank = all.0; wear = all.1 };
-      power = record { ok = left.goes; cut = tt; off = tt };
+      steps = takes_ok
+          (cleared_steps side old _ _ (g.met.F.Flash.formed c.args.flash.now) first pages new
+          c.pages.page (omega (arith, c.pages-test.false, c.pages.auto.page-end)) left);
     }
 
 pub returns-in_err-erase_other : goal.returns-in_err-erase_other
@@ -125,9 +129,10 @@ returns-in_err-erase_other g c =
         partly =
             λ on. cleared_cut side old _ _ (g.met.F.Flash.formed c.args.flash.now) first pages mid
             page c.pages.auto.page c.pages-test.true c.pages.invariant new written
-            (cut.wear (c.pages.invariant.goes.same_power ∙ on)) cut.others cut.partly;
+            (cut.wear ((goes_on_taken _ c.pages.invariant.steps).same_power ∙ on)) cut.others cut.partly;
       });
-      power =
-          ends_later _ c.from_residual.ensures.0 c.pages.invariant.goes
-          c.in_err-erase_other.ensures.power;
+      steps = takes_err _ c.from_residual.ensures.0
+          (cleared_stops side old _ _ (g.met.F.Flash.formed c.args.flash.now) first pages mid page
+          c.pages.auto.page c.pages-test.true c.pages.invariant new written
+          c.in_err-erase_other.ensures.steps.cut);
     }

@@ -1,7 +1,6 @@
 use Rattle.std.proofs.Common.{◌≡◌, ◌+◌, ◌∙◌, ap, inl, inr}
 use Rattle.std.proofs.lemmas.Result.{err_from_is_err_and}
 use Rattle.ee_pages.specs.Sets.{first_page, other as other_of}
-use Rattle.ee_core.proofs.AfterCalls.{ends_in_step, goes_on_programmed, goes_on_same}
 use Rattle.ee_core.proofs.Marks.{program_keeps_wear}
 use Rattle.ee_core.proofs.OtherSteps.{active_commits, active_done, active_unmarked}
 use Rattle.ee_core.proofs.Cuts.{cut_size, mark_partly_at}
@@ -11,6 +10,10 @@ use Rattle.ee_pages.specs.declared.state.Mark.TheVariants.{Active}
 use Rattle.ee_pages.proofs.Public.{first_in_set}
 use Rattle.ee_core.specs.Cuts.{SetsPartly}
 use Rattle.ee_core.proofs.Drawings.{sets_mark_at}
+use Rattle.std.proofs.Common.{[], ◌∷◌, subst}
+use Rattle.ee_pages.specs.Page.{marking}
+use Rattle.ee_flash.specs.Taking.{Completes, StopsAmong}
+use Rattle.ee_core.proofs.Taken.{completes_one, stops_one, takes_err, takes_ok}
 use Rattle.ee_core.proofs.moving.commit.Goals as goal
 
 pub returns-in_err-mark : goal.returns-in_err-mark
@@ -40,7 +43,8 @@ returns-in_err-mark g c =
             same_size = cut_size _ _ _ cut;
             wear = program_keeps_wear _ _ _ old new (inr cut);
           });
-      power = ends_in_step _ _ c.from_residual.ensures.0 (goes_on_same old) cut;
+      steps = takes_err _ c.from_residual.ensures.0
+          (subst (λ n. StopsAmong (marking n Active ∷ []) old new) page (stops_one _ cut));
     }
 
 pub returns : goal.returns
@@ -70,5 +74,8 @@ returns g c =
             (λ set. (c.mark.ensures.present set).1) c.in_ok-mark.ensures.done;
         wear = ap (λ device. device.wear) done;
       };
-      power = record { ok = goes_on_programmed _ _ _ old on done; cut = tt; off = tt };
+      steps = takes_ok
+          (subst
+          (λ n. Completes (marking n Active ∷ []) old (g.F.Flash.device c.mark.new.flash)) page
+          (completes_one _ old on done));
     }

@@ -3,11 +3,18 @@ use Rattle.std.proofs.Math.Path.{fun_ext}
 use Rattle.std.proofs.lemmas.Result.{IfOk-from_err, err_from_is_err_and}
 use Rattle.ee_pages.proofs.Public.{keeps_side_both}
 use Rattle.ee_pages.specs.Sets.{committed_generation}
-use Rattle.ee_core.proofs.AfterCalls.{ends_later, goes_on_both, goes_on_same}
 use Rattle.ee_core.proofs.MapMoves.{commit_cut, fill_cut, is_filled, is_moved, is_opened, open_cut}
 use Rattle.ee_core.proofs.MovingFacts.{side_map}
 use Rattle.ee_core.specs.CallSteps.{map_in}
 use Rattle.ee_core.specs.Puts.{changes_of_puts}
+use Rattle.std.proofs.Common.{◌+◌, [], refl, subst}
+use Rattle.ee_pages.specs.Meaning.{Map}
+use Rattle.ee_pages.specs.Sets.{other as other_of}
+use Rattle.ee_core.specs.Picture.{moved_words}
+use Rattle.ee_core.specs.StepLists.{steps_to_fill}
+use Rattle.ee_flash.specs.Taking.{Completes, StopsAmong}
+use Rattle.ee_core.proofs.MovedSteps.{clear_stops, commit_done, commit_stops, fill_stops, open_stops}
+use Rattle.ee_core.proofs.Taken.{goes_on_taken, takes_err, takes_ok}
 use Rattle.ee_core.proofs.moving.move_map.Goals as goal
 
 pub open_set-requires : goal.open_set-requires
@@ -36,9 +43,9 @@ returns-in_err-clear g c =
           rw (err_from_is_err_and c.from_residual.result c.from_residual.ensures.1).1
           (record { left = λ on. inl (cut.clears.partly on); cut = inl cut.clears.keeps });
       behind = IfOk-from_err _ _ c.from_residual.ensures.0;
-      power =
-          ends_later _ c.from_residual.ensures.0 (goes_on_same (g.F.Flash.device c.args.flash.now))
-          cut.power;
+      steps = takes_err _ c.from_residual.ensures.0
+          (clear_stops (g.F.Flash.device c.args.flash.now) c.args.layout.now.side
+          c.args.layout.now.generation _ (g.F.Flash.device c.clear.new.flash) cut.steps.cut);
     }
 
 pub returns-in_err-open_set : goal.returns-in_err-open_set
@@ -52,7 +59,10 @@ returns-in_err-open_set g c =
           (g.F.Flash.device c.open_set.new.flash) c.args.layout.now clears.clears _ _
           cut.opens);
       behind = IfOk-from_err _ _ failed.ensures.0;
-      power = ends_later _ failed.ensures.0 clears.power.ok cut.power;
+      steps = takes_err _ failed.ensures.0
+          (open_stops (g.F.Flash.device c.args.flash.now) c.args.layout.now.side
+          c.args.layout.now.generation _ (g.F.Flash.device c.clear.new.flash) clears.steps.done
+          clears.clears.keeps.same_size (g.F.Flash.device c.open_set.new.flash) cut.steps.cut);
     }
 
 pub returns-in_err-filled : goal.returns-in_err-filled
@@ -65,6 +75,10 @@ returns-in_err-filled g c =
     let opens = c.in_ok-open_set.ensures in
     let cut = c.in_err-filled.ensures in
     let failed = c.from_residual-in_err-filled in
+    let before =
+    keeps_side_both old cleared opened layout.side clears.clears.keeps opens.opens.keeps in
+    let same : map_in layout.side opened ≡ map_in layout.side old =
+    fun_ext (side_map old opened layout.side before) in
     record {
       moves = rw (err_from_is_err_and failed.result failed.ensures.1).1
           (fill_cut old opened layout
@@ -72,9 +86,16 @@ returns-in_err-filled g c =
           (g.F.Flash.device c.fill_set.new.flash)
           (changes_of_puts c.args.puts.now c.args.forgets) cut.fills);
       behind = IfOk-from_err _ _ failed.ensures.0;
-      power =
-          ends_later _ failed.ensures.0
-          (goes_on_both old cleared opened clears.power.ok opens.power.ok) cut.power;
+      steps = takes_err _ failed.ensures.0
+          (fill_stops old layout.side layout.generation _ cleared clears.steps.done
+          clears.clears.keeps.same_size opened opens.steps.done before.same_size
+          (g.F.Flash.device c.fill_set.new.flash)
+          (subst
+          (λ (map : Map). StopsAmong
+          (steps_to_fill opened.size (other_of layout.side) (layout.generation + 1) 0
+          (moved_words (changes_of_puts c.args.puts.now c.args.forgets) map)) opened
+          (g.F.Flash.device c.fill_set.new.flash)) same
+          (cut.fills.steps.stopped [] refl opens.opens.holds)));
     }
 
 pub returns-in_err-commit : goal.returns-in_err-commit
@@ -89,6 +110,10 @@ returns-in_err-commit g c =
     let fills = c.in_ok-filled.ensures in
     let cut = c.in_err-commit.ensures in
     let failed = c.from_residual-in_err-commit in
+    let before =
+    keeps_side_both old cleared opened layout.side clears.clears.keeps opens.opens.keeps in
+    let same : map_in layout.side opened ≡ map_in layout.side old =
+    fun_ext (side_map old opened layout.side before) in
     let holds =
     is_filled old opened layout (is_opened old cleared opened layout clears.clears opens.opens)
     filled (changes_of_puts c.args.puts.now c.args.forgets) _ fills.fills fills.each_once in
@@ -97,11 +122,16 @@ returns-in_err-commit g c =
           (commit_cut old filled (g.F.Flash.device c.commit.new.flash) layout _ _ _ holds
           cut.commits);
       behind = IfOk-from_err _ _ failed.ensures.0;
-      power =
-          ends_later _ failed.ensures.0
-          (goes_on_both old opened filled
-          (goes_on_both old cleared opened clears.power.ok opens.power.ok) fills.power.ok)
-          cut.power;
+      steps = takes_err _ failed.ensures.0
+          (commit_stops old layout.side layout.generation _ cleared clears.steps.done
+          clears.clears.keeps.same_size opened opens.steps.done before.same_size filled
+          (subst
+          (λ (map : Map). Completes
+          (steps_to_fill opened.size (other_of layout.side) (layout.generation + 1) 0
+          (moved_words (changes_of_puts c.args.puts.now c.args.forgets) map)) opened filled) same
+          (fills.fills.steps.taken [] refl opens.opens.holds))
+          (fills.fills.keeps.same_size ∙ before.same_size)
+          (g.F.Flash.device c.commit.new.flash) cut.steps.cut);
     }
 
 pub returns : goal.returns
@@ -116,21 +146,25 @@ returns g c =
     let opens = c.in_ok-open_set.ensures in
     let fills = c.in_ok-filled.ensures in
     let done = c.in_ok-commit.ensures in
+    let before =
+    keeps_side_both old cleared opened layout.side clears.clears.keeps opens.opens.keeps in
+    let same : map_in layout.side opened ≡ map_in layout.side old =
+    fun_ext (side_map old opened layout.side before) in
     let holds =
     is_filled old opened layout (is_opened old cleared opened layout clears.clears opens.opens)
     filled (changes_of_puts c.args.puts.now c.args.forgets) _ fills.fills fills.each_once in
     record {
       moves = is_moved old filled new layout _ _ _ holds done.commits;
-      behind = rw done.power.ok.same_size fills.behind;
-      power = record {
-        ok =
-            goes_on_both old filled new
-            (goes_on_both old opened filled
-            (goes_on_both old cleared opened clears.power.ok opens.power.ok)
-            fills.power.ok) done.power.ok;
-        cut = tt;
-        off = tt;
-      };
+      behind = rw (goes_on_taken _ done.steps.done).same_size fills.behind;
+      steps = takes_ok
+          (commit_done old layout.side layout.generation _ cleared clears.steps.done
+          clears.clears.keeps.same_size opened opens.steps.done before.same_size filled
+          (subst
+          (λ (map : Map). Completes
+          (steps_to_fill opened.size (other_of layout.side) (layout.generation + 1) 0
+          (moved_words (changes_of_puts c.args.puts.now c.args.forgets) map)) opened filled) same
+          (fills.fills.steps.taken [] refl opens.opens.holds))
+          (fills.fills.keeps.same_size ∙ before.same_size) new done.steps.done);
     }
 
 pub fill_set-requires-clause-opened : goal.fill_set-requires-clause-opened

@@ -1,8 +1,9 @@
-use Rattle.std.proofs.Common.{ap, inl, sym, ◌∙◌}
+use Rattle.std.proofs.Common.{[], ap, inl, sym, ◌∙◌}
 use Rattle.std.proofs.lemmas.Result.{err_from_is_err_and}
 use Rattle.ee_pages.specs.Sets.{committed_generation}
-use Rattle.ee_core.proofs.AfterCalls.{ends_later, goes_on_both, goes_on_same}
 use Rattle.ee_core.proofs.MapMoves.{commit_cut, is_moved, is_opened, nothing_filled, open_cut}
+use Rattle.ee_core.proofs.MovedSteps.{clear_stops, commit_done, commit_stops, open_stops}
+use Rattle.ee_core.proofs.Taken.{completes_none, takes_err, takes_ok}
 use Rattle.ee_core.proofs.moving.move_nothing.Goals as goal
 
 pub open_set-requires : goal.open_set-requires
@@ -29,9 +30,9 @@ returns-in_err-clear g c =
       moves =
           rw (err_from_is_err_and c.from_residual.result c.from_residual.ensures.1).1
           (record { left = λ on. inl (cut.clears.partly on); cut = inl cut.clears.keeps });
-      power =
-          ends_later _ c.from_residual.ensures.0 (goes_on_same (g.F.Flash.device c.args.flash.now))
-          cut.power;
+      steps = takes_err _ c.from_residual.ensures.0
+          (clear_stops (g.F.Flash.device c.args.flash.now) c.args.layout.now.side
+          c.args.layout.now.generation [] (g.F.Flash.device c.clear.new.flash) cut.steps.cut);
     }
 
 pub returns-in_err-open_set : goal.returns-in_err-open_set
@@ -44,7 +45,10 @@ returns-in_err-open_set g c =
           (open_cut (g.F.Flash.device c.args.flash.now) (g.F.Flash.device c.clear.new.flash)
           (g.F.Flash.device c.open_set.new.flash) c.args.layout.now clears.clears _ _
           cut.opens);
-      power = ends_later _ failed.ensures.0 clears.power.ok cut.power;
+      steps = takes_err _ failed.ensures.0
+          (open_stops (g.F.Flash.device c.args.flash.now) c.args.layout.now.side
+          c.args.layout.now.generation [] (g.F.Flash.device c.clear.new.flash) clears.steps.done
+          clears.clears.keeps.same_size (g.F.Flash.device c.open_set.new.flash) cut.steps.cut);
     }
 
 pub returns-in_err-commit : goal.returns-in_err-commit
@@ -62,9 +66,13 @@ returns-in_err-commit g c =
           (commit_cut old opened (g.F.Flash.device c.commit.new.flash) layout _ _ _
           (nothing_filled old opened layout
           (is_opened old cleared opened layout clears.clears opens.opens)) cut.commits);
-      power =
-          ends_later _ failed.ensures.0
-          (goes_on_both old cleared opened clears.power.ok opens.power.ok) cut.power;
+      steps = takes_err _ failed.ensures.0
+          (commit_stops old layout.side layout.generation [] cleared clears.steps.done
+          clears.clears.keeps.same_size opened opens.steps.done
+          (opens.opens.keeps.same_size ∙ clears.clears.keeps.same_size) opened
+          (completes_none opened)
+          (opens.opens.keeps.same_size ∙ clears.clears.keeps.same_size)
+          (g.F.Flash.device c.commit.new.flash) cut.steps.cut);
     }
 
 pub returns : goal.returns
@@ -82,11 +90,10 @@ returns g c =
           is_moved old opened new layout _ _ _
           (nothing_filled old opened layout
           (is_opened old cleared opened layout clears.clears opens.opens)) done.commits;
-      power = record {
-        ok =
-            goes_on_both old opened new
-            (goes_on_both old cleared opened clears.power.ok opens.power.ok) done.power.ok;
-        cut = tt;
-        off = tt;
-      };
+      steps = takes_ok
+          (commit_done old layout.side layout.generation [] cleared clears.steps.done
+          clears.clears.keeps.same_size opened opens.steps.done
+          (opens.opens.keeps.same_size ∙ clears.clears.keeps.same_size) opened
+          (completes_none opened)
+          (opens.opens.keeps.same_size ∙ clears.clears.keeps.same_size) new done.steps.done);
     }

@@ -6,12 +6,15 @@ use Rattle.ee_pages.proofs.Public.{first_in_set}
 use Rattle.ee_core.proofs.Drawings.{sets_mark_at}
 use Rattle.ee_core.proofs.MovedSets.{blank_drawn, opens_blank}
 use Rattle.ee_core.proofs.SetPages.{page_of_device}
-use Rattle.ee_core.proofs.AfterCalls.{ends_in_step, goes_on_programmed, goes_on_same}
 use Rattle.ee_core.proofs.Marks.{program_keeps_wear}
 use Rattle.ee_core.proofs.OtherSteps.{opening_done, opening_keeps, opening_unmarked}
 use Rattle.ee_core.proofs.Cuts.{mark_partly_at}
 use Rattle.ee_core.proofs.CutMoves.{open_partly}
 use Rattle.ee_core.specs.Cuts.{SetsPartly}
+use Rattle.std.proofs.Common.{[], ◌∷◌, subst}
+use Rattle.ee_pages.specs.Page.{marking}
+use Rattle.ee_flash.specs.Taking.{Completes, StopsAmong}
+use Rattle.ee_core.proofs.Taken.{completes_one, stops_one, takes_err, takes_ok}
 use Rattle.ee_core.proofs.moving.open_set.Goals as goal
 
 pub returns-in_err-mark : goal.returns-in_err-mark
@@ -39,7 +42,9 @@ returns-in_err-mark g c =
             (blank_drawn side old formed c.requires.blank) sets;
         wear = program_keeps_wear _ _ _ old new (inr cut);
       });
-      power = ends_in_step _ _ c.from_residual.ensures.0 (goes_on_same old) cut;
+      steps = takes_err _ c.from_residual.ensures.0
+          (subst (λ n. StopsAmong (marking n (Receive (layout.generation + 1)) ∷ []) old new) page
+          (stops_one _ cut));
     }
 
 pub returns : goal.returns
@@ -76,5 +81,7 @@ returns g c =
             sets;
         wear = ap (λ device. device.wear) done;
       };
-      power = record { ok = goes_on_programmed _ _ _ old on done; cut = tt; off = tt };
+      steps = takes_ok
+          (subst (λ n. Completes (marking n (Receive (layout.generation + 1)) ∷ []) old new) page
+          (completes_one _ old on done));
     }

@@ -1,10 +1,11 @@
-use Rattle.std.proofs.Common.{ap, ◌∙◌}
+use Rattle.std.proofs.Common.{[], ap, refl, ◌∙◌}
 use Rattle.std.proofs.lemmas.Result.{err_from_is_err_and}
 use Rattle.ee_pages.specs.Sets.{first_page}
 use Rattle.ee_core.specs.Puts.{each_forgotten}
-use Rattle.ee_core.proofs.AfterCalls.{ends_later, goes_on_both, goes_on_same}
 use Rattle.ee_core.proofs.MapMoves.{map_cut, mark_cut, set_moved}
 use Rattle.ee_core.proofs.MovingFacts.{layout_emptied}
+use Rattle.ee_core.proofs.MovedSteps.{move_below, move_done, move_first, move_stops}
+use Rattle.ee_core.proofs.Taken.{takes_err, takes_ok}
 use Rattle.ee_core.proofs.moving.transfer_nothing.Goals as goal
 
 pub finish-requires : goal.finish-requires
@@ -24,20 +25,34 @@ returns-in_err-move_nothing g c =
           rw (err_from_is_err_and c.from_residual.result c.from_residual.ensures.1).1
           (map_cut old (g.F.Flash.device c.move_nothing.new.flash) c.args.layout.now _ _
           cut.moves);
-      power = ends_later _ c.from_residual.ensures.0 (goes_on_same old) cut.power;
+      steps = takes_err _ c.from_residual.ensures.0
+          (move_first old c.args.layout.now.side c.args.layout.now.generation []
+          (g.F.Flash.device c.move_nothing.new.flash) cut.steps.cut);
     }
 
 pub returns-in_err-finish : goal.returns-in_err-finish
 returns-in_err-finish g c =
     let failed = c.from_residual-in_err-finish in
     let cut = c.in_err-finish.ensures in
+    let mid = g.F.Flash.device c.move_nothing.new.flash in
+    let found =
+    layout_emptied (g.F.Flash.device c.args.flash.now) mid c.args.layout.now each_forgotten _ _
+    c.in_ok-move_nothing.ensures.moves.moved c.other.ensures
+    c.in_ok-move_nothing.ensures.moves.each_once
+    (c.first_page.ensures ∙ ap (first_page mid.size) c.other-2.ensures) in
     record {
       moves = rw (err_from_is_err_and failed.result failed.ensures.1).1
           (mark_cut (g.F.Flash.device c.args.flash.now) (g.F.Flash.device c.move_nothing.new.flash)
           (g.F.Flash.device c.finish.new.flash) c.args.layout.now c.other.result _ _ _
           (g.met.F.Flash.formed c.args.flash.now) c.in_ok-move_nothing.ensures.moves c.other.ensures
           cut.stays cut.begun);
-      power = ends_later _ failed.ensures.0 c.in_ok-move_nothing.ensures.power.ok cut.power;
+      steps = takes_err _ failed.ensures.0
+          (move_stops (g.F.Flash.device c.args.flash.now) mid
+          c.args.layout.now _ _ _ (g.met.F.Flash.formed c.args.flash.now)
+          c.in_ok-move_nothing.ensures.moves
+          (move_below mid c.args.layout.now.side c.other.result c.other.ensures _ found refl)
+          c.other.result c.other.ensures (g.F.Flash.device c.finish.new.flash)
+          c.in_ok-move_nothing.ensures.steps.done cut.steps.cut);
     }
 
 pub returns : goal.returns
@@ -56,6 +71,8 @@ returns g c =
       moves =
           set_moved old mid new layout c.other.result _ _ _ (g.met.F.Flash.formed c.args.flash.now)
           map.moves c.other.ensures done.stays _ found done.shows done.finished;
-      power =
-          record { ok = goes_on_both old mid new map.power.ok done.power.ok; cut = tt; off = tt };
+      steps = takes_ok
+          (move_done old mid layout _ _ _ (g.met.F.Flash.formed c.args.flash.now) map.moves
+          (move_below mid layout.side c.other.result c.other.ensures _ found refl)
+          c.other.result c.other.ensures new map.steps.done done.steps.done);
     }

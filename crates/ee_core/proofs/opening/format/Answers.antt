@@ -1,3 +1,4 @@
+use Rattle.ee_core.proofs.Taken.{among_on, cut_taken}
 use Rattle.ee_core.proofs.opening.format.Goals as goal
 
 pub returns-in-Ok-clause-formatted : goal.returns-in-Ok-clause-formatted
@@ -7,7 +8,8 @@ pub returns-in-Err : goal.returns-in-Err
 returns-in-Err g c = record {
   formatted = tt;
   cut = record {
-    cut = c.in-Err.ensures.power.cut c.requires;
+    cut = cut_taken (among_on c.requires c.in-Err.ensures.steps.cut);
+    steps = among_on c.requires c.in-Err.ensures.steps.cut;
     words = c.in-Err.ensures.writes.words c.requires;
   };
 }

@@ -1,4 +1,3 @@
-use Rattle.ee_core.proofs.AfterCalls.{not_ok}
 use Rattle.ee_core.proofs.LiveMarks.{layout_stays}
 use Rattle.ee_core.proofs.OpeningFacts.{opening_cut, opens}
 use Rattle.ee_core.proofs.opening.open_on.Goals as goal
@@ -8,8 +7,7 @@ returns-in-Ok-finish-clause-opened g c =
     let old = g.F.Flash.device c.args.flash.now in
     let new = g.F.Flash.device c.finish.new.flash in
     search (opens c.in-Ok.layout old new c.in-Ok.ensures.layout c.in-Ok-finish.ensures.stays
-    c.in-Ok-finish.ensures.finished c.in-Ok-finish.ensures.shows
-    (λ marked. (c.finish.ensures.no_step marked).1) c.in-Ok-finish.ensures.power.ok)
+    c.in-Ok-finish.ensures.finished c.in-Ok-finish.ensures.shows c.in-Ok-finish.ensures.steps.done)
 
 pub returns-in-Ok-finish-clause-layout : goal.returns-in-Ok-finish-clause-layout
 returns-in-Ok-finish-clause-layout g c = search (layout_stays c.in-Ok.layout
@@ -21,5 +19,4 @@ returns-in-Err-finish-clause-failed g c =
     let old = g.F.Flash.device c.args.flash.now in
     let new = g.F.Flash.device c.finish.new.flash in
     search (opening_cut c.in-Ok.layout old new c.in-Ok.ensures.layout c.in-Err-finish.ensures.stays
-    (λ marked. not_ok (c.finish.ensures.no_step marked).0 c.in-Err-finish.is)
-    c.in-Err-finish.ensures.begun (c.in-Err-finish.ensures.power.cut c.requires))
+    c.in-Err-finish.ensures.begun c.requires c.in-Err-finish.ensures.steps.cut)

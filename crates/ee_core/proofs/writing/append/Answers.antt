@@ -1,5 +1,4 @@
 use Rattle.ee_core.proofs.Base.{arith, ◌+◌, refl, sym, ap, ◌∙◌, fun_ext, err_from_is_err_and, map_after, map_change, number_written, page_in_range, place_in_range, rules}
-use Rattle.ee_core.proofs.AfterCalls.{ends_later, goes_on_both, goes_on_same}
 use Rattle.ee_core.proofs.Appending.{cut_after, cut_size, taken_after}
 use Rattle.ee_core.proofs.MarkedSets.{appends_word}
 use Rattle.ee_core.proofs.LiveMarks.{layout_stays}
@@ -7,6 +6,12 @@ use Rattle.ee_core.proofs.MovingFacts.{few_slots}
 use Rattle.ee_core.proofs.KeptMarks.{appended_marked}
 use Rattle.ee_core.proofs.CutMarks.{cut_marks, cut_word}
 use native.Mathlib.Numerals.{unary_clauses}
+use Rattle.std.specs.Prelude.{[], ◌∷◌}
+use Rattle.std.proofs.Common.{subst}
+use Rattle.ee_pages.specs.Pushing.{slot_step}
+use Rattle.ee_core.specs.StepLists.{steps_to_turn}
+use Rattle.ee_flash.specs.Taking.{Completes, StopsAmong}
+use Rattle.ee_core.proofs.Taken.{completes_both, stops_first, stops_then, takes_err, takes_ok}
 use Rattle.ee_core.proofs.writing.append.Goals as goal
 
 pub returns : goal.returns
@@ -46,16 +51,27 @@ returns g c =
         other = pushed.other ∙ opened.other;
         wear = pushed.wear ∙ opened.stays.same_wear;
       };
-      power = record {
-        ok = goes_on_both old mid new opened.power.ok push.power.ok;
-        cut = tt;
-        off = tt;
-      };
+      steps = takes_ok
+          (completes_both (steps_to_turn old layout.side layout.fill)
+          (slot_step old.size layout.side layout.fill (number_written c.args.change) ∷ [])
+          opened.steps.done
+          (subst
+          (λ size. Completes
+          (slot_step size layout.side layout.fill (number_written c.args.change) ∷ []) mid new)
+          keeps.same_size push.steps.done));
     }
 
-pub returns-in_err-open_page : goal.returns-in_err-open_page
-returns-in_err-open_page g c =
-    search (rules, err_from_is_err_and, cut_marks, ends_later, goes_on_same)
+pub returns-in_err-open_page-clause-writes : goal.returns-in_err-open_page-clause-writes
+returns-in_err-open_page-clause-writes g c = search (rules, err_from_is_err_and, cut_marks)
+
+pub returns-in_err-open_page-clause-steps : goal.returns-in_err-open_page-clause-steps
+returns-in_err-open_page-clause-steps g c =
+    let old = g.F.Flash.device c.args.flash.now in
+    let layout = c.args.layout.now in
+    takes_err _ c.from_residual.ensures.0
+    (stops_first (steps_to_turn old layout.side layout.fill)
+    (slot_step old.size layout.side layout.fill (number_written c.args.change) ∷ [])
+    c.in_err-open_page.ensures.steps.cut)
 
 pub returns-in_err-push : goal.returns-in_err-push
 returns-in_err-push g c =
@@ -81,7 +97,14 @@ returns-in_err-push g c =
         other = pushed.other ∙ opened.other;
         wear = pushed.wear ∙ opened.stays.same_wear;
       });
-      power = ends_later _ failed.ensures.0 opened.power.ok cut.power;
+      steps = takes_err _ failed.ensures.0
+          (stops_then (steps_to_turn old layout.side layout.fill)
+          (slot_step old.size layout.side layout.fill (number_written c.args.change) ∷ [])
+          opened.steps.done
+          (subst
+          (λ size. StopsAmong
+          (slot_step size layout.side layout.fill (number_written c.args.change) ∷ []) mid new)
+          keeps.same_size cut.steps.cut));
     }
 
 pub push-requires : goal.push-requires

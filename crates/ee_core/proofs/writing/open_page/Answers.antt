@@ -1,5 +1,5 @@
 use Rattle.ee_core.proofs.Base.{◌≡◌, ◌+◌, ◌-◌, ap, ◌∙◌, ◌<◌, arith, refl, sym, subst, Size, page_in_range, first_page, page_of_slot, Active, Valid, SetsMark, IsDrawn, marked_to, picture_of, IsDrawnPartly, SetsPartly, rules}
-use Rattle.ee_core.proofs.AfterCalls.{ends_later, goes_on_both, goes_on_same, never_on_ok}
+use Rattle.ee_core.proofs.AfterCalls.{never_on_ok}
 use Rattle.ee_core.proofs.Drawings.{marks_drawn}
 use Rattle.ee_core.proofs.LiveMarks.{current_below, last_behind, layout_stays, stays_both}
 use Rattle.ee_core.proofs.Marks.{same_stays}
@@ -7,11 +7,23 @@ use Rattle.ee_core.proofs.MarkedSets.{opens_next}
 use Rattle.ee_core.proofs.OpenedPages.{first_other, further, last_is, next_behind, ready_already, ready_now, second_other, stays_in, turns}
 use Rattle.ee_core.proofs.CutMarks.{opens_partly, opens_partly_then}
 use Rattle.ee_core.proofs.Making.{always_on_err}
+use Rattle.ee_core.proofs.Taken.{takes_err, takes_ok}
+use Rattle.ee_core.proofs.TurnedPages.{turn_done, turn_stops, turn_stops_then, turned_already}
 use Rattle.ee_core.proofs.writing.open_page.Goals as goal
 
-pub returns-then-page-layout : goal.returns-then-page-layout
-returns-then-page-layout g c =
-    search (rules, stays_in, ready_already, same_stays, marks_drawn, goes_on_same)
+pub returns-then-page-layout-clause-stays : goal.returns-then-page-layout-clause-stays
+returns-then-page-layout-clause-stays g c = search (rules, same_stays)
+
+pub returns-then-page-layout-clause-ready : goal.returns-then-page-layout-clause-ready
+returns-then-page-layout-clause-ready g c = search (rules, stays_in, ready_already)
+
+pub returns-then-page-layout-clause-drawn : goal.returns-then-page-layout-clause-drawn
+returns-then-page-layout-clause-drawn g c = search (rules, stays_in, ready_already, marks_drawn)
+
+pub returns-then-page-layout-clause-steps : goal.returns-then-page-layout-clause-steps
+returns-then-page-layout-clause-steps g c =
+    turned_already (g.F.Flash.device c.args.flash.now) c.args.layout.now c.args.page
+    c.requires.page c.if-page-layout.true c.requires.layout
 
 pub mark_live-requires-2-clause-behind : goal.mark_live-requires-2-clause-behind
 mark_live-requires-2-clause-behind g c =
@@ -54,7 +66,9 @@ returns-in_err-mark_live g c =
           (omega (arith, next, page_in_range old layout.fill c.requires.free))
           (λ page below. c.requires.marked.live.valid page (subst (λ n. page < n) last below))
           (subst (λ n. SetsPartly n Valid old new) here c.in_err-mark_live.ensures.begun)));
-      power = ends_later _ failed (goes_on_same old) c.in_err-mark_live.ensures.power;
+      steps = takes_err _ failed
+          (turn_stops old layout.side layout.fill layout.current here next new
+          c.in_err-mark_live.ensures.steps.cut);
     }
 
 pub returns-in_err-mark_live-2 : goal.returns-in_err-mark_live-2
@@ -98,8 +112,10 @@ returns-in_err-mark_live-2 g c =
           (λ page below. c.requires.marked.live.valid page (subst (λ n. page < n) last below))
           (subst (λ n. SetsMark n Valid old mid) here c.in_ok-mark_live.ensures.sets)
           (subst (λ n. SetsPartly n Active mid new) there c.in_err-mark_live-2.ensures.begun)));
-      power =
-          ends_later _ failed c.in_ok-mark_live.ensures.power.ok c.in_err-mark_live-2.ensures.power;
+      steps = takes_err _ failed
+          (turn_stops_then old layout.side layout.fill layout.current here next mid new
+          c.in_ok-mark_live.ensures.steps.done first.others
+          c.in_err-mark_live-2.ensures.steps.cut);
     }
 
 pub returns : goal.returns
@@ -144,13 +160,10 @@ returns g c =
           (subst (λ n. SetsMark n Valid old mid) here c.in_ok-mark_live.ensures.sets)
           (subst (λ n. SetsMark n Active mid new) there c.in_ok-mark_live-2.ensures.sets));
       begun = tt;
-      power = record {
-        ok =
-            goes_on_both old mid new c.in_ok-mark_live.ensures.power.ok
-            c.in_ok-mark_live-2.ensures.power.ok;
-        cut = tt;
-        off = tt;
-      };
+      steps = takes_ok
+          (turn_done old layout.side layout.fill layout.current here next mid new
+          c.in_ok-mark_live.ensures.steps.done first.others
+          c.in_ok-mark_live-2.ensures.steps.done);
     }
 
 pub mark_live-requires-clause-behind : goal.mark_live-requires-clause-behind

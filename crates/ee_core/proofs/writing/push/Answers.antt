@@ -1,7 +1,7 @@
 use Rattle.ee_core.proofs.Base.{err_from_is_err_and, page_in_range, place_in_range, rules}
-use Rattle.ee_core.proofs.AfterCalls.{ends_in_step, goes_on_programmed, goes_on_same}
 use Rattle.ee_core.proofs.Appending.{pushed, pushed_partly, slot_erased}
 use Rattle.ee_core.proofs.SetPages.{page_in_device}
+use Rattle.ee_core.proofs.Taken.{completes_one, stops_one, takes_err, takes_ok}
 use Rattle.ee_core.proofs.writing.push.Goals as goal
 
 pub program-requires-clause-page_in_range : goal.program-requires-clause-page_in_range
@@ -28,7 +28,7 @@ returns-in_err-program g c =
           (pushed_partly old (g.F.Flash.device c.program.new.self) c.args.layout.now
           c.requires.layout c.requires.free c.args.change (rw word.number at word.spells)
           (rw word.number at word.below_all_ones) cut);
-      power = ends_in_step _ _ c.from_residual.ensures.0 (goes_on_same old) cut;
+      steps = takes_err _ c.from_residual.ensures.0 (stops_one _ cut);
     }
 
 pub returns : goal.returns
@@ -43,5 +43,5 @@ returns g c =
           pushed old (g.F.Flash.device c.program.new.self) c.args.layout.now c.requires.layout
           c.requires.free c.args.change (rw word.number at word.spells)
           (rw word.number at word.below_all_ones) on done;
-      power = record { ok = goes_on_programmed _ _ _ old on done; cut = tt; off = tt };
+      steps = takes_ok (completes_one _ old on done);
     }

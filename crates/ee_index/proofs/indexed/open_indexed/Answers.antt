@@ -10,17 +10,14 @@ returns-in-Ok-finish-clause-opened g c =
     let new = g.F.Flash.device c.finish.new.flash in
     subst (λ device. Opens old device) (sym c.store_of.ensures)
     (opens c.in-Ok.layout old new c.in-Ok.ensures.layout c.in-Ok-finish.ensures.stays
-    c.in-Ok-finish.ensures.finished c.in-Ok-finish.ensures.shows
-    (λ marked. (c.finish.ensures.no_step marked).1) c.in-Ok-finish.ensures.power.ok)
+    c.in-Ok-finish.ensures.finished c.in-Ok-finish.ensures.shows c.in-Ok-finish.ensures.steps.done)
 
 pub returns-in-Err-finish-clause-failed : goal.returns-in-Err-finish-clause-failed
 returns-in-Err-finish-clause-failed g c =
     let old = g.F.Flash.device c.args.flash in
     let new = g.F.Flash.device c.finish.new.flash in
     opening_cut c.in-Ok.layout old new c.in-Ok.ensures.layout c.in-Err-finish.ensures.stays
-    (λ marked. let none = c.finish.ensures.no_step marked in cc (none.0, c.in-Err-finish.is))
-    c.in-Err-finish.ensures.begun
-    (c.in-Err-finish.ensures.power.cut c.requires)
+    c.in-Err-finish.ensures.begun c.requires c.in-Err-finish.ensures.steps.cut
 
 pub store_of-requires : goal.store_of-requires
 store_of-requires g c =
@@ -29,8 +26,7 @@ store_of-requires g c =
     let found = c.in-Ok.ensures.layout in
     let ended = c.in-Ok-finish.ensures in
     let opened =
-    opens c.in-Ok.layout old new found ended.stays ended.finished ended.shows
-    (λ marked. (c.finish.ensures.no_step marked).1) ended.power.ok in
+    opens c.in-Ok.layout old new found ended.stays ended.finished ended.shows ended.steps.done in
     record {
       store = opened.store;
       layout = λ on. layout_stays c.in-Ok.layout old new found ended.stays;

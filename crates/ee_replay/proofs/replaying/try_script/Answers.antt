@@ -1,15 +1,17 @@
-use Rattle.std.proofs.Common.{◌≡◌, ◌⊎◌, rules}
+use Rattle.std.proofs.Common.{◌≡◌, ◌⊎◌, subst, sym}
 use Rattle.std.proofs.lemmas.Result.{IfErr-weaker, IfOk-weaker, MatchResult-from_both}
+use Rattle.ee_flash.specs.Device.{Device}
 use Rattle.ee_faults.specs.declared.replay_fault.ReplayFault.TheVariants.{Script, Memory}
+use Rattle.ee_image_store.specs.Opening.{IsNewStore}
 use Rattle.ee_replay.proofs.OneReplayCause.{one_run_fault, run_is_good, script_is_some}
 use Rattle.ee_replay.proofs.Replays.{is_tried}
 use Rattle.ee_replay.proofs.replaying.try_script.Goals as goal
 
 pub returns-clause-tried : goal.returns-clause-tried
 returns-clause-tried g c =
-    let new = c.in_ok-new.ensures in
-    IfOk-weaker c.run_on.result _ _ (λ tried run. search (rules, is_tried, new, run))
-    c.run_on.ensures.run
+    let new = subst (λ (device : Device). IsNewStore c.args.shape device) (sym c.of.ensures)
+    c.in_ok-new.ensures in
+    IfOk-weaker c.run_on.result _ _ (λ tried run. is_tried _ _ _ _ _ new run) c.run_on.ensures.run
 
 pub returns-clause-bad : goal.returns-clause-bad
 returns-clause-bad g c = λ n bad.

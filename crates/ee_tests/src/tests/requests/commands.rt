@@ -6,7 +6,7 @@ use ee_flash::Shape;
 use ee_pages::ScanFault;
 use ee_shell::{
     Fault, Form, ImageAndText, Language, ReplayFault, Replayed, apply_values, check_script,
-    clean_image, clear_image, export_hex, export_image, fault_line, format_image, get_setting,
+    clean_image, export_hex, export_image, fault_line, forget_all, format_image, get_setting,
     header_text, import_hex, import_image, inspect_text, list_text, plan_script, replay,
     replay_indexed, replay_reader, rescue_image, set_setting, size_parts, stale_text, states_text,
     tidy_image, try_script, wear_text,
@@ -35,8 +35,8 @@ pub const TEN: &[u8] = b"ee 1 6
 0 - - - - - -
 ";
 
-/// The same, cleared.
-const CLEARED: &[u8] = b"ee 1 6
+/// The same, with all addresses forgotten.
+const EMPTIED: &[u8] = b"ee 1 6
 0 aaaaaaaa00000001 aaaaaaaaaaaaaaaa - aaaaaaaaaaaaaaaa 0000000a00000001 -
 0 aaaaaaaa00000002 aaaaaaaaaaaaaaaa - - - -
 ";
@@ -92,11 +92,11 @@ pub const PAIRS: &[u8] = b"\x01\x00\x00\x00\xaa\xaa\xaa\xaa\xfe\xff\xff\xff\x55\
 pub const HEADER: &[u8] = b"// Made by `ee header --rust` from a file of settings.
 
 pub const VOLUME_ADDRESS: u16 = 1;
-pub const VOLUME_LEAST: u32 = 0;
-pub const VOLUME_MOST: u32 = 10;
+pub const VOLUME_MIN: u32 = 0;
+pub const VOLUME_MAX: u32 = 10;
 pub const VOLUME_DEFAULT: u32 = 5;
 
-// Name, address, least, most, default.
+// Name, address, min, max, default.
 pub const SETTINGS: [(&str, u16, u32, u32, u32); 1] = [
     (\"VOLUME\", 1, 0, 10, 5),
 ];
@@ -216,7 +216,7 @@ pub fn replays<A: Allocator>(
 pub enum Change {
     Clean,
     Rescue,
-    Clear,
+    ForgetAll,
     Set,
     Tidy,
     Apply,
@@ -230,7 +230,7 @@ pub fn change_given<A: Allocator + Copy>(change: Change, alloc: A, heap: Global)
             let given = rescue_image(alloc, BAD);
             (given, RESCUED, b"bad 0 5 slot\nrescued live 1 bad 1\n")
         }
-        Change::Clear => (clear_image(alloc, TEN), CLEARED, b"cleared 1\n"),
+        Change::ForgetAll => (forget_all(alloc, true, TEN), EMPTIED, b"forgotten 1\n"),
         Change::Set => {
             let given = set_setting(alloc, heap, FORMATTED, VOLUME, "volume", 10);
             (given, TEN, b"set\n")

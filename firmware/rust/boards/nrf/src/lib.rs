@@ -5,11 +5,12 @@
 #![forbid(unsafe_code)]
 
 use core::ops::Range;
-use ee_store::nor::{NorDriver, Plain};
-use ee_store::{start, Store};
+use ee_store::nor::NorDriver;
+use ee_store::{Kind, Store};
 use embassy_nrf::nvmc::Nvmc;
 
-/// Two pages of 4 KiB, at the end of 1 MiB. A word of the store takes 16 bytes, so each holds 256.
+/// Two pages of 4 KiB, at the end of 1 MiB. A word of the store takes 16 bytes, so each holds 256. No manual says that an erase
+/// doesn't clear cells first.
 const RANGE: Range<u32> = 1016 * 1024..1024 * 1024;
 
 /// The store, as it stands in a `static` or in a resource.
@@ -18,6 +19,5 @@ pub type Settings = Store<NorDriver<Nvmc<'static>>>;
 /// Opens the settings, or makes them on a new part. `None` where the pages hold something else, or the flash fails.
 #[must_use]
 pub fn settings(flash: Nvmc<'static>) -> Option<Settings> {
-    let driver = NorDriver::over(flash, RANGE, Plain).ok()?;
-    start(driver).ok()
+    Store::over(flash, RANGE, Kind::PairsClearing).ok()
 }

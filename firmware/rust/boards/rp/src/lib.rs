@@ -5,8 +5,8 @@
 #![forbid(unsafe_code)]
 
 use core::ops::Range;
-use ee_store::nor::{Clearing, NorDriver};
-use ee_store::{start, Store};
+use ee_store::nor::NorDriver;
+use ee_store::{Kind, Store};
 use embassy_rp::flash::{Blocking, Flash};
 use embassy_rp::peripherals::FLASH;
 
@@ -15,11 +15,10 @@ const SIZE: usize = 2 * 1024 * 1024;
 const RANGE: Range<u32> = SIZE as u32 - 2 * 4096..SIZE as u32;
 
 /// The store, as it stands in a `static` or in a resource. Many serial flashes clear a sector's cells before they erase it.
-pub type Settings = Store<NorDriver<Flash<'static, FLASH, Blocking, SIZE>, Clearing>>;
+pub type Settings = Store<NorDriver<Flash<'static, FLASH, Blocking, SIZE>>>;
 
 /// Opens the settings, or makes them on a new part. `None` where the sectors hold something else, or the flash fails.
 #[must_use]
 pub fn settings(flash: Flash<'static, FLASH, Blocking, SIZE>) -> Option<Settings> {
-    let driver = NorDriver::over(flash, RANGE, Clearing).ok()?;
-    start(driver).ok()
+    Store::over(flash, RANGE, Kind::PairsClearing).ok()
 }

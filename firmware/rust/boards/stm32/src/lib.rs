@@ -1,14 +1,17 @@
 //! Settings in the last pages of an STM32 of the families G0, G4, L4, L5, WB or WL, by embassy's HAL.
 //!
-//! In `main`: `let mut settings = settings(Flash::new_blocking(p.FLASH))`, where `p` is what `embassy_stm32::init` gives.
+//! In `main`: `let mut settings = settings(Flash::new_blocking(p.FLASH))`, where `p` is what `embassy_stm32::init` gives. It
+//! takes the feature `unstable-pac` of `embassy-stm32`, for the register by which a data cache is turned off. On a G0 that is
+//! the one cache: put `icen`, `icrst` in place of `dcen`, `dcrst`.
 #![no_std]
 #![forbid(unsafe_code)]
 
 use core::ops::Range;
 use core::sync::atomic::{compiler_fence, AtomicBool, AtomicU32, AtomicUsize, Ordering};
-use ee_store::nor::{Ecc, NorDriver, NorFault, Reading};
-use ee_store::{start, Store};
+use ee_store::nor::{Ecc, NorDriver, Reading};
+use ee_store::{Kind, NorError, OpenError, Store};
 use embassy_stm32::flash::{Blocking, Error, Flash};
+use embassy_stm32::pac::FLASH;
 use embedded_storage::nor_flash::ReadNorFlash;
 
 /// Two pages of 2 KiB, behind 508 KiB of program.
@@ -31,18 +34,39 @@ pub fn note_ecc_error() -> bool {
     is_reading
 }
 
-/// Reads, and looks whether an error was noted meanwhile, or in an earlier read of the same word. On a part with a data
-/// cache it is off or emptied here.
+/// Turns the data cache off and empties it, and turns it on again where it was on when it is dropped. It may hold old lines
+/// behind a write, and gives a torn word with no new NMI. A word that was written is read back by this too, so nobody finds an
+/// old line behind a call. No interrupt writes `FLASH_ACR` meanwhile.
+struct PastTheCache(bool);
+
+impl PastTheCache {
+    fn begin() -> Self {
+        let was_on = FLASH.acr().read().dcen();
+        FLASH.acr().modify(|acr| acr.set_dcen(false));
+        FLASH.acr().modify(|acr| acr.set_dcrst(true));
+        FLASH.acr().modify(|acr| acr.set_dcrst(false));
+        PastTheCache(was_on)
+    }
+}
+
+impl Drop for PastTheCache {
+    fn drop(&mut self) {
+        FLASH.acr().modify(|acr| acr.set_dcen(self.0));
+    }
+}
+
+/// Reads past the cache, and looks whether an error was noted meanwhile, or in an earlier read of the same word.
 #[derive(Clone, Copy, Debug)]
 pub struct Noted;
 
 impl Ecc<Flash<'static, Blocking>> for Noted {
-    fn read(
+    fn read_bytes(
         &self,
         flash: &mut Flash<'static, Blocking>,
         byte: u32,
         bytes: &mut [u8],
     ) -> Result<Reading, Error> {
+        let _past = PastTheCache::begin();
         IS_NOTED.store(false, Ordering::Relaxed);
         IS_READING.store(true, Ordering::Relaxed);
         compiler_fence(Ordering::SeqCst);
@@ -84,8 +108,7 @@ pub type Settings = Store<NorDriver<Flash<'static, Blocking>, Noted>>;
 /// # Errors
 ///
 /// Why there are none: the flash doesn't fit, or the store isn't opened.
-pub fn settings(
-    flash: Flash<'static, Blocking>,
-) -> Result<Settings, ee_store::Error<NorFault<Error>>> {
-    Ok(start(NorDriver::over(flash, RANGE, Noted)?)?)
+pub fn settings(flash: Flash<'static, Blocking>) -> Result<Settings, OpenError<NorError<Error>>> {
+    let driver = NorDriver::over_ecc(flash, RANGE, Kind::Words, Noted)?;
+    Store::open_or_format(driver)
 }

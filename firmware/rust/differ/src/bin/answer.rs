@@ -4,9 +4,7 @@
 //! answers go into the file that has the script's name and `.answers` behind it, or the line of a fault.
 #![forbid(unsafe_code)]
 
-use ee_store::{
-    open, Address, CleanFault, ForgetFault, OpenFault, ScanFault, Store, WriteFault, Written,
-};
+use ee_store::{Address, Error, OpenError, Store, Written};
 use ee_store_differ::{image, PowerCut, Shared, TEARS};
 use std::fs;
 use std::io::{self, BufRead};
@@ -30,12 +28,9 @@ fn run(before: &str, script: &str) -> (Option<String>, String) {
         return (None, "image text\n".to_string());
     };
     let part = Shared::new(part);
-    let store = match open(part.clone()) {
+    let store = match Store::open(part.clone()) {
         Ok(store) => store,
-        Err(failed) => match failed.fault {
-            OpenFault::Scan(fault) => return (None, fault_line(fault)),
-            fault => unreachable!("nothing is armed, and {fault:?}"),
-        },
+        Err(error) => return (None, fault_line(error) + "\n"),
     };
     let mut desk = Desk {
         store: Some(store),
@@ -52,12 +47,14 @@ fn run(before: &str, script: &str) -> (Option<String>, String) {
     (Some(after), answers)
 }
 
-fn fault_line(fault: ScanFault) -> String {
-    match fault {
-        ScanFault::Unformatted => "image unformatted\n".to_string(),
-        ScanFault::NoLiveSet => "image no live set\n".to_string(),
-        ScanFault::TwoLive => "image two live sets\n".to_string(),
-        ScanFault::Foreign { page, at } => format!("image foreign word {page} {at}\n"),
+fn fault_line(error: OpenError<PowerCut>) -> String {
+    match error {
+        OpenError::Unformatted => "image unformatted".to_string(),
+        OpenError::NoLiveSet => "image no live set".to_string(),
+        OpenError::TwoLive => "image two live sets".to_string(),
+        OpenError::Foreign { page, at } => format!("image foreign word {page} {at}"),
+        OpenError::Driver(_) => "cut".to_string(),
+        error => panic!("no answer of a script: {error}"),
     }
 }
 
@@ -85,11 +82,11 @@ impl Desk {
             (_, None) => "off".to_string(),
             (["w", address, value], Some(store)) => {
                 let answer = store.write(named(address)?, value.parse().ok()?);
-                self.stored(answer.map_err(write_fault))
+                self.stored(answer.map_err(refusal))
             }
             (["f", address], Some(store)) => {
                 let answer = store.forget(named(address)?);
-                self.stored(answer.map_err(forget_fault))
+                self.stored(answer.map_err(refusal))
             }
             (["r", address], Some(store)) => match store.read(named(address)?) {
                 Ok(Some(value)) => value.to_string(),
@@ -99,9 +96,7 @@ impl Desk {
             (["c"], Some(store)) => match store.clean_step() {
                 Ok(true) => "clean".to_string(),
                 Ok(false) => "idle".to_string(),
-                Err(CleanFault::Off) => "off".to_string(),
-                Err(CleanFault::Driver(_)) => "cut".to_string(),
-                Err(fault) => panic!("no answer of a script: {fault}"),
+                Err(error) => refusal(error).to_string(),
             },
             _ => return None,
         })
@@ -119,18 +114,14 @@ impl Desk {
     }
 
     fn power_on(&mut self) -> String {
-        match open(self.part.clone()) {
+        match Store::open(self.part.clone()) {
             Ok(store) => {
                 self.store = Some(store);
                 "open".to_string()
             }
-            Err(failed) => {
+            Err(error) => {
                 self.store = None;
-                match failed.fault {
-                    OpenFault::Driver(_) => "cut".to_string(),
-                    OpenFault::Scan(fault) => fault_line(fault).trim_end().to_string(),
-                    fault => panic!("no answer of a script: {fault}"),
-                }
+                fault_line(error)
             }
         }
     }
@@ -151,23 +142,14 @@ fn named(field: &str) -> Option<Address> {
     Address::new(field.parse().ok()?)
 }
 
-fn write_fault(fault: WriteFault<PowerCut>) -> &'static str {
-    match fault {
-        WriteFault::Off => "off",
-        WriteFault::Full => "full",
-        WriteFault::Spent => "spent",
-        WriteFault::Driver(PowerCut) => "cut",
-        fault => panic!("no answer of a script: {fault}"),
-    }
-}
-
-fn forget_fault(fault: ForgetFault<PowerCut>) -> &'static str {
-    match fault {
-        ForgetFault::Off => "off",
-        ForgetFault::Absent => "absent",
-        ForgetFault::Spent => "spent",
-        ForgetFault::Driver(PowerCut) => "cut",
-        fault => panic!("no answer of a script: {fault}"),
+fn refusal(error: Error<PowerCut>) -> &'static str {
+    match error {
+        Error::NotOpen => "off",
+        Error::Full => "full",
+        Error::Absent => "absent",
+        Error::Spent => "spent",
+        Error::Driver(_) => "cut",
+        error => panic!("no answer of a script: {error}"),
     }
 }
 

@@ -2,14 +2,12 @@
 //!
 //!     anything COUNT SEED
 //!
-//! makes so many calls on stores over parts of words, and as many over pairs of numbers. A look at a word gives what stands
+//! makes so many calls on stores over parts of words, and as many over each kind of pairs. A look at a word gives what stands
 //! there, or now and then anything: erased, torn, a mark, an element, any number, or an error; and a step is made, or fails,
 //! or does nothing. A part sees to each page and place that is asked for. The last line is `N passed, 0 failed`, of N calls.
 #![forbid(unsafe_code)]
 
-use ee_store::{
-    format, open, start, Address, Driver, NumberDriver, Pairs, Put, Shape, Store, Word,
-};
+use ee_store::{Address, Driver, Kind, Put, Shape, Store, Word};
 use std::cell::Cell;
 use std::{env, process};
 
@@ -20,6 +18,7 @@ struct Failed;
 /// Numbers, of which a word has one, or two.
 struct Part {
     shape: Shape,
+    kind: Kind,
     numbers: Vec<Vec<u64>>,
     dice: Cell<u64>,
     /// One look in so many gives anything.
@@ -102,8 +101,15 @@ impl Driver for Part {
         self.shape
     }
 
+    fn kind(&self) -> Kind {
+        self.kind
+    }
+
     fn word(&self, page: usize, at: usize) -> Result<Word, Failed> {
         let number = self.look(page, at)?;
+        if self.kind != Kind::Words {
+            return Ok(Word::from(number));
+        }
         Ok(match self.below(4 * self.odds) {
             0 => Word::Torn,
             1 => Word::Held(number),
@@ -120,26 +126,6 @@ impl Driver for Part {
     }
 }
 
-impl NumberDriver for Part {
-    type Error = Failed;
-
-    fn shape(&self) -> Shape {
-        self.shape
-    }
-
-    fn read(&self, page: usize, at: usize) -> Result<u64, Failed> {
-        self.look(page, at)
-    }
-
-    fn program(&mut self, page: usize, at: usize, number: u64) -> Result<(), Failed> {
-        self.write(page, at, number)
-    }
-
-    fn erase(&mut self, page: usize) -> Result<(), Failed> {
-        self.clear(page)
-    }
-}
-
 fn main() {
     let numbers: Vec<u64> = env::args().filter_map(|word| word.parse().ok()).collect();
     let [count, seed] = numbers[..] else {
@@ -148,13 +134,10 @@ fn main() {
     };
     let dice = Cell::new(seed.wrapping_mul(0x9e37_79b9_7f4a_7c15) | 1);
     let mut calls = 0;
-    for per_word in [1, 2] {
+    for kind in [Kind::Words, Kind::Pairs, Kind::PairsClearing] {
         let mut made = 0;
         while made < count {
-            made += match per_word {
-                1 => play(part(&dice, 1)),
-                _ => play_pairs(part(&dice, 2)),
-            };
+            made += play(part(&dice, kind));
         }
         calls += made;
     }
@@ -162,9 +145,10 @@ fn main() {
 }
 
 /// A blank part of any small shape.
-fn part(dice: &Cell<u64>, per_word: usize) -> Part {
+fn part(dice: &Cell<u64>, kind: Kind) -> Part {
     let mut part = Part {
         shape: Shape::new(1, 5).unwrap(),
+        kind,
         numbers: Vec::new(),
         dice: dice.clone(),
         odds: 1,
@@ -172,6 +156,7 @@ fn part(dice: &Cell<u64>, per_word: usize) -> Part {
     };
     let words = 5 + part.below(6) as usize;
     part.shape = Shape::new(1 + part.below(3) as usize, words).unwrap();
+    let per_word = if kind == Kind::Words { 1 } else { 2 };
     part.numbers = vec![vec![u64::MAX; per_word * words]; 2 * part.shape.pages()];
     part.odds = [2, 10, 50, 300, 2000][part.below(5) as usize];
     part.faults = [0, 0, 30, 1000][part.below(4) as usize];
@@ -182,45 +167,23 @@ fn part(dice: &Cell<u64>, per_word: usize) -> Part {
 
 /// Opens a store in some way, and makes calls on it until it goes off. Gives how many calls that were.
 fn play(part: Part) -> u64 {
-    let how = part.below(6);
-    let opened = match how {
-        0 => open(part),
-        1..=3 => start(part),
-        _ => format(part),
+    let opened = match part.below(8) {
+        0 => Store::open(part),
+        1..=4 => Store::open_or_format(part),
+        5 | 6 => Store::format(part),
+        _ => Store::rescue(part).map(|(store, _)| store),
     };
     match opened {
-        Ok(store) => 1 + calls_on(store, |part| part),
+        Ok(store) => 1 + calls_on(store),
         Err(_) => 1,
     }
 }
 
-fn play_pairs(part: Part) -> u64 {
-    let how = part.below(3);
-    let pairs = match how {
-        0 => Pairs::of(part).ok(),
-        1 => Pairs::wipe(part).ok(),
-        _ => Some(Pairs::known(part)),
-    };
-    let Some(pairs) = pairs else {
+fn calls_on(mut store: Store<Part>) -> u64 {
+    let seed = store.driver().next();
+    if store.reopen().is_err() {
         return 1;
-    };
-    let opened = match how {
-        1 => format(pairs),
-        _ => start(pairs),
-    };
-    match opened {
-        Ok(store) => 2 + calls_on(store, Pairs::driver),
-        Err(_) => 2,
     }
-}
-
-fn calls_on<D: Driver>(mut store: Store<D>, part_of: impl Fn(&D) -> &Part) -> u64 {
-    let driver = store.into_driver();
-    let seed = part_of(&driver).next();
-    store = match open(driver) {
-        Ok(store) => store,
-        Err(_) => return 1,
-    };
     let mut dice = seed | 1;
     let mut below = |end: u64| {
         dice ^= dice << 13;

@@ -9,11 +9,8 @@
 //! `N passed, 0 failed`.
 #![forbid(unsafe_code)]
 
-use ee_store::{
-    format, open, start, Address, CleanFault, ForgetFault, OpenFault, Put, Shape, Store,
-    WriteAllFault, WriteFault, Written,
-};
-use ee_store_differ::{Part, PowerCut, Shared, Tear, TEARS};
+use ee_store::{Address, Error, Kind, OpenError, Put, Shape, Store, Written};
+use ee_store_differ::{Part, Shared, Tear, TEARS};
 use std::collections::{BTreeMap, BTreeSet};
 use std::{env, process};
 
@@ -52,15 +49,6 @@ enum End {
     Cut,
 }
 
-/// What a part has.
-#[derive(Clone, Copy)]
-enum Kind {
-    Words,
-    Pairs,
-    /// Pairs on a flash whose erase clears the cells of its page first.
-    Clearing,
-}
-
 /// One store and what it holds.
 struct Course {
     kind: Kind,
@@ -76,7 +64,7 @@ fn main() {
     let words: Vec<String> = env::args().skip(1).collect();
     let kind = match words.get(2).map(String::as_str) {
         None => Kind::Words,
-        Some("clearing") => Kind::Clearing,
+        Some("clearing") => Kind::PairsClearing,
         Some(_) => Kind::Pairs,
     };
     let numbers: Vec<u64> = words.iter().filter_map(|word| word.parse().ok()).collect();
@@ -127,8 +115,8 @@ impl Course {
 
     fn opened(&self, part: &Part) -> (Store<Shared>, Shared) {
         let shared = Shared::new(part.clone());
-        let store = open(shared.clone()).unwrap_or_else(|failed| {
-            panic!("{:?} opens as {:?}", self.part, failed.fault);
+        let store = Store::open(shared.clone()).unwrap_or_else(|error| {
+            panic!("{:?} opens as {error:?}", self.part);
         });
         (store, shared)
     }
@@ -181,10 +169,10 @@ impl Course {
             part.fuse = Some((dice.below(3), tear));
             let shared = Shared::new(part);
             self.calls += 1;
-            match open(shared.clone()) {
+            match Store::open(shared.clone()) {
                 Ok(_) => {}
-                Err(failed) => {
-                    assert_eq!(failed.fault, OpenFault::Driver(PowerCut));
+                Err(error) => {
+                    assert!(matches!(error, OpenError::Driver(_)), "{error}");
                     self.cuts += 1;
                 }
             }
@@ -202,15 +190,15 @@ impl Course {
             part.fuse = Some((step, tear));
             let shared = Shared::new(part);
             self.calls += 1;
-            let is_cut = format(shared.clone()).is_err();
+            let is_cut = Store::format(shared.clone()).is_err();
             self.cuts += u64::from(is_cut);
             shared.0.borrow_mut().fuse = None;
-            let store = format(shared.clone()).expect("nothing is armed");
+            let store = Store::format(shared.clone()).expect("nothing is armed");
             self.calls += 1;
             assert_eq!(listed(&store), Map::new());
             let left = shared.0.borrow();
             let fresh = Shared::new(blank(self.shape, self.kind));
-            assert!(format(fresh.clone()).is_ok());
+            assert!(Store::format(fresh.clone()).is_ok());
             let fresh = fresh.0.borrow();
             assert_eq!(left.pages, fresh.pages, "formatted is as new");
             assert_eq!(left.numbers, fresh.numbers, "formatted is as new");
@@ -318,7 +306,7 @@ fn blank(shape: Shape, kind: Kind) -> Part {
     match kind {
         Kind::Words => Part::blank(shape),
         Kind::Pairs => Part::blank_numbers(shape),
-        Kind::Clearing => Part {
+        Kind::PairsClearing => Part {
             clears_first: true,
             ..Part::blank_numbers(shape)
         },
@@ -331,13 +319,13 @@ fn started(mut part: Part, dice: &mut Dice) -> (Part, u64) {
         let (_, tear) = TEARS[dice.below(4) as usize];
         part.fuse = Some((dice.below(1 + 2 * starts.min(9)), tear));
         let shared = Shared::new(part);
-        let is_started = match start(shared.clone()) {
+        let is_started = match Store::open_or_format(shared.clone()) {
             Ok(store) => {
                 assert_eq!(store.live_count(), Ok(0));
                 true
             }
-            Err(failed) => {
-                assert_eq!(failed.fault, OpenFault::Driver(PowerCut));
+            Err(error) => {
+                assert!(matches!(error, OpenError::Driver(_)), "{error}");
                 false
             }
         };
@@ -365,12 +353,12 @@ fn listed_end(store: &mut Store<Shared>, list: &[(u16, u32)]) -> End {
     let puts: Vec<Put> = list.iter().map(put).collect();
     match store.write_all(&puts) {
         Ok(written) => End::Done(Some(written)),
-        Err(WriteAllFault::Driver(PowerCut)) => End::Cut,
-        Err(WriteAllFault::Twice(place)) => {
+        Err(Error::Driver(_)) => End::Cut,
+        Err(Error::Duplicate(place)) => {
             assert!(is_twice(&list[..=place]) && !is_twice(&list[..place]));
             End::Refused
         }
-        Err(WriteAllFault::Full) => End::Refused,
+        Err(Error::Full) => End::Refused,
         Err(fault) => panic!("{list:?} is {fault:?}"),
     }
 }
@@ -381,20 +369,20 @@ fn made(store: &mut Store<Shared>, call: &Call) -> End {
         Call::WriteAll(list) => listed_end(store, list),
         Call::Write(address, value) => match store.write(named(*address), *value) {
             Ok(written) => End::Done(Some(written)),
-            Err(WriteFault::Driver(PowerCut)) => End::Cut,
-            Err(WriteFault::Full) => End::Refused,
+            Err(Error::Driver(_)) => End::Cut,
+            Err(Error::Full) => End::Refused,
             Err(fault) => panic!("{call:?} is {fault:?}"),
         },
         Call::Forget(address) => match store.forget(named(*address)) {
             Ok(written) => End::Done(Some(written)),
-            Err(ForgetFault::Driver(PowerCut)) => End::Cut,
-            Err(ForgetFault::Absent) => End::Refused,
+            Err(Error::Driver(_)) => End::Cut,
+            Err(Error::Absent) => End::Refused,
             Err(fault) => panic!("{call:?} is {fault:?}"),
         },
         Call::Clean => match store.clean_step() {
             Ok(true) => End::Done(None),
             Ok(false) => End::Refused,
-            Err(CleanFault::Driver(PowerCut)) => End::Cut,
+            Err(Error::Driver(_)) => End::Cut,
             Err(fault) => panic!("{call:?} is {fault:?}"),
         },
     }

@@ -7,8 +7,8 @@
 //! first difference ends the program with a panic; without one it ends with a line `N passed, 0 failed`, of N cuts.
 #![forbid(unsafe_code)]
 
-use ee_store::{open, Address, CleanFault, ForgetFault, Store, WriteFault};
-use ee_store_differ::{image, Part, PowerCut, Shared, Tear};
+use ee_store::{Address, Error, Store};
+use ee_store_differ::{image, Part, Shared, Tear};
 use std::fs;
 use std::io::{self, BufRead};
 
@@ -37,7 +37,7 @@ fn main() -> io::Result<()> {
 
 /// Plays the changes of a script, if the part holds a store. Gives how many cuts there were.
 fn play(mut part: Part, script: &str) -> u64 {
-    if open(Shared::new(part.clone())).is_err() {
+    if Store::open(Shared::new(part.clone())).is_err() {
         return 0;
     }
     let mut cuts = 0;
@@ -112,8 +112,8 @@ fn opened(part: &Part) -> (Store<Shared>, Shared) {
         fuse: None,
         ..part.clone()
     });
-    let store = open(shared.clone())
-        .unwrap_or_else(|failed| panic!("{part:?} opens as {:?}", failed.fault));
+    let store =
+        Store::open(shared.clone()).unwrap_or_else(|error| panic!("{part:?} opens as {error:?}"));
     (store, shared)
 }
 
@@ -121,10 +121,10 @@ fn opened(part: &Part) -> (Store<Shared>, Shared) {
 fn is_cut(store: &mut Store<Shared>, change: Change) -> bool {
     match change {
         Change::Write(address, value) => {
-            store.write(address, value) == Err(WriteFault::Driver(PowerCut))
+            matches!(store.write(address, value), Err(Error::Driver(_)))
         }
-        Change::Forget(address) => store.forget(address) == Err(ForgetFault::Driver(PowerCut)),
-        Change::Clean => store.clean_step() == Err(CleanFault::Driver(PowerCut)),
+        Change::Forget(address) => matches!(store.forget(address), Err(Error::Driver(_))),
+        Change::Clean => matches!(store.clean_step(), Err(Error::Driver(_))),
     }
 }
 

@@ -1,4 +1,4 @@
-//! As much of `embedded-storage-async` 0.4 as `ee-store-async` uses, by its documentation.
+//! As much of `embedded-storage-async` 0.4 as `ee-store` uses, by its documentation.
 #![no_std]
 #![forbid(unsafe_code)]
 #![allow(async_fn_in_trait)]

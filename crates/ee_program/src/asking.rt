@@ -1,0 +1,141 @@
+//! What is asked of the program by its words, and what is said where it is refused.
+use crate::running::{bad_command_line, eprint_bytes, out_of_memory, print, read_file, tell, work};
+use ee_command_line::{Job, job};
+use ee_explain::{
+    help_asked, push_help, push_line_cause, push_remedy, push_words_cause, why_bad_line,
+};
+use ee_faults::{Fault, File};
+use ee_files::FileLocks;
+use ee_text::next_line;
+use std::alloc::{AllocError, Global};
+use std::rt::Files;
+
+/// The first word that asks for what explains a refusal.
+const EXPLAIN: &str = "--explain";
+
+/// Does what the words ask for, and gives the status that the program ends with: 0 done, 2 bad
+/// command line, 3 bad file, 4 refused, 5 want of memory.
+///
+/// Files are read whole, in the order in which they are named, before anything is decided. An image
+/// is written only after all work succeeded, and its file is closed before anything is printed.
+pub fn run<R: FileLocks + Input + Print + Eprint + AllocGlobal>(rt: &R, words: &[String]) -> u8 {
+    run_for(rt, words, false)
+}
+
+/// The same. Behind the line of a refusal stands what explains it, where somebody reads it at a
+/// terminal or asks for it by a first word `--explain`.
+pub fn run_for<R: FileLocks + Input + Print + Eprint + AllocGlobal>(
+    rt: &R,
+    words: &[String],
+    is_terminal: bool,
+) -> u8 {
+    let mut texts: Vec<&str> = Vec::new(rt.alloc());
+    for word in words {
+        if texts.push(word.as_str()).is_err() {
+            return out_of_memory(rt);
+        }
+    }
+    if let Some((first, words)) = texts.split_first() {
+        if *first == EXPLAIN {
+            return do_words(rt, words, true);
+        }
+    }
+    do_words(rt, texts.as_slice(), is_terminal)
+}
+
+/// Does what the words ask for, and explains a refusal, if that is wanted.
+fn do_words<R: FileLocks + Input + Print + Eprint + AllocGlobal>(
+    rt: &R,
+    words: &[&str],
+    explains: bool,
+) -> u8 {
+    match job(words) {
+        None => refuse_words(rt, words, explains),
+        Some(job) => match work(rt, &job) {
+            Ok(()) => 0,
+            Err(fault) => {
+                let status = tell(rt, &fault);
+                if explains {
+                    explain(rt, &job, &fault);
+                }
+                status
+            }
+        },
+    }
+}
+
+/// Says that words are no command line, and why, if that is to be explained. Where they ask for the
+/// help of a command it is printed. Gives the status.
+fn refuse_words<R: Print + Eprint + AllocGlobal>(rt: &R, words: &[&str], explains: bool) -> u8 {
+    let mut text = Vec::new(rt.alloc());
+    if let Some(name) = help_asked(words) {
+        return match push_help(&mut text, name) {
+            Ok(()) => print_help(rt, &text),
+            Err(AllocError) => out_of_memory(rt),
+        };
+    }
+    let status = bad_command_line(rt);
+    if explains && push_words_cause(&mut text, words).is_ok() {
+        eprint_bytes(rt, &text);
+    }
+    status
+}
+
+/// Prints a help, and gives the status.
+fn print_help<R: Print + Eprint + AllocGlobal>(rt: &R, text: &[u8]) -> u8 {
+    match print(rt, text) {
+        Ok(()) => 0,
+        Err(fault) => tell(rt, &fault),
+    }
+}
+
+/// Says what is wrong in a job's files, and what to do. Where memory is refused nothing is said.
+fn explain<R: Files + Eprint + AllocGlobal>(rt: &R, job: &Job<'_>, fault: &Fault) {
+    let mut text = Vec::new(rt.alloc());
+    let told = match *fault {
+        Fault::BadLine {
+            file: File::Script,
+            line,
+        } => push_script_line(rt, &mut text, job, line),
+        _ => push_remedy(&mut text, fault),
+    };
+    if told.is_ok() {
+        eprint_bytes(rt, &text);
+    }
+}
+
+/// Writes why a line of a job's script is bad, where the script is in a file.
+fn push_script_line<R: Files + AllocGlobal>(
+    rt: &R,
+    out: &mut Vec<u8>,
+    job: &Job<'_>,
+    number: u64,
+) -> Result<(), AllocError> {
+    let path = match *job {
+        Job::Run { script, .. }
+        | Job::Plan { script, .. }
+        | Job::Check { script, .. }
+        | Job::Size { script, .. } => script,
+        _ => return Ok(()),
+    };
+    let Ok(script) = read_file(rt, File::Script, path) else {
+        return Ok(());
+    };
+    let (line, is_ended) = line_at(&script, number);
+    push_line_cause(out, line, why_bad_line(line, is_ended))
+}
+
+/// The line of this number, counted from 1, without its line feed, and whether it has one.
+fn line_at(text: &[u8], number: u64) -> (&[u8], bool) {
+    let mut rest = text;
+    'lines: for _ in 1..number {
+        rest = match next_line(rest) {
+            Some((_, behind)) => behind,
+            None => return (&[], false),
+        };
+    }
+    match next_line(rest) {
+        Some((line, _)) => (line, true),
+        None => (rest, false),
+    }
+}

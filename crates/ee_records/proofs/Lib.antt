@@ -1,0 +1,11 @@
+mod Places
+mod WordBytes
+mod CheckWords
+mod Held
+mod Puts
+mod RecordLaws
+mod Told
+mod Prepared
+mod Turning
+mod Rooms
+mod Trimmed

@@ -1,0 +1,66 @@
+//! The words of bytes, the lowest byte first, and the check of a record: CRC-32 over its length and
+//! these words.
+ghost use Rattle.std.specs.Prelude.{◌≡◌, ◌+◌, ◌*◌, ◌/◌, ◌^◌, ◌%◌, ◌<◌, ◌≤◌, ℕ, length, slice_index};
+ghost use Rattle.ee_records.specs.Check.{bytes_word, check_of, word_further, words_for};
+
+/// The polynomial of IEEE 802.3, its highest term in the lowest bit.
+const POLYNOMIAL: u32 = 0xEDB8_8320;
+
+/// How many words so many bytes take.
+pub(crate) fn words_for(bytes: usize) -> usize
+    requires { bytes < 65536 }
+    ensures { result ≡ words_for bytes }
+{
+    (bytes + 3) / 4
+}
+
+/// The byte at this place, 0 behind the end.
+fn byte_at(bytes: &[u8], at: usize) -> u32
+    ensures byte { result ≡ slice_index bytes.now at }
+    ensures fits { result < 256 }
+{
+    if at < bytes.len() {
+        u32::from(bytes[at])
+    } else {
+        0
+    }
+}
+
+/// The word of this number, with zeros behind the last byte.
+pub(crate) fn bytes_word(bytes: &[u8], word: usize) -> u32
+    requires { word < 65536 }
+    ensures { result ≡ bytes_word bytes.now word }
+{
+    let at = 4 * word;
+    byte_at(bytes, at)
+        + 256 * byte_at(bytes, at + 1)
+        + 65536 * byte_at(bytes, at + 2)
+        + 16777216 * byte_at(bytes, at + 3)
+}
+
+/// A remainder, a word further.
+fn word_further(before: u32, word: u32) -> u32
+    ensures { result ≡ word_further before word }
+{
+    let mut rest = before ^ word;
+    'bits: for _bit in 0..32_u32 {
+        rest = if rest % 2 == 1 {
+            (rest / 2) ^ POLYNOMIAL
+        } else {
+            rest / 2
+        };
+    }
+    rest
+}
+
+/// The check of these bytes.
+pub(crate) fn check_of(bytes: &[u8]) -> u32
+    requires { length bytes.now < 65536 }
+    ensures { result ≡ check_of bytes.now }
+{
+    let mut rest = word_further(u32::MAX, bytes.len() as u32);
+    'words: for word in 0..words_for(bytes.len()) {
+        rest = word_further(rest, bytes_word(bytes, word));
+    }
+    u32::MAX - rest
+}

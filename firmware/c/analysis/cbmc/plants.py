@@ -1,0 +1,47 @@
+"""Mistakes in ee.c that are no undefined behaviour. Name -> what is replaced, a regular expression
+that fits one place; what is put there; what that is; the case of by_cbmc that has to find it."""
+
+PLANTS = {
+    "oldest-first": (
+        r"(while \(left > 0u && address_in\([^;{]*\) != address\) \{\n        left -= 1u;\n    \}\n)",
+        r"\1    for (uint32_t at = 0u; at < left; at++) {\n"
+        r"        if (address_in(numbers.items[at]) == address) {\n            return at + 1u;\n"
+        r"        }\n    }\n",
+        "a read takes the oldest slot of an address", "read-words-1x6-0-2-nothing"),
+    "torn-ends": (
+        r"if \(ends > 0u\) (\{\n            const MaybeSaidValue maybe_said)", r"if (ends == count) \1",
+        "a read sees the newest slot alone", "read-words-1x6-0-2-nothing"),
+    "high-half": (
+        r"maybe_u32_some\(\(uint32_t\)\(number >> 32u\)\)",
+        "maybe_u32_some((uint32_t)(number >> 32u) & 0x7FFFFFFFu)",
+        "one value in two loses its top bit", "read-words-1x5-0-1-nothing"),
+    "commits-first": (
+        r"(    const CopyingPlaceOrCut filled_result = fill_set\([^;]*;\n.*?filled = [^;]*;\n)"
+        r"(    if \(commit\(.*?\n    \}\n)", r"\2\1",
+        "a move commits its set before that is filled", "write-words-1x5-0-1-steps"),
+    "erases-live": (
+        r"first_page\(flash, side_other\(layout->side\)\)(;\n[^}]*?erase_other\()",
+        r"first_page(flash, layout->side)\1",
+        "a move erases the live set", "forget_all-words-1x5-0-1-steps"),
+    "no-full": (
+        r"(return \w*live_count\([^;]*&self->layout\)) == slots;", r"\1 > slots;",
+        "a full store takes one more address", "write-words-1x5-0-1-steps"),
+    "spent-late": (
+        r"(GREATEST_GENERATION UINT32_C)\(4294967294\)", r"\1(4294967295)",
+        "a move to a generation that no set can name", "forget_all-words-1x5-0-1-steps"),
+    "erased-not-asked": (
+        r"return at < 3u( && number == expected)", r"return at < 2u\1",
+        "an opening refuses a page that is marked valid", "opens-words-1x5-0-1-steps"),
+    "equal-is-second": (
+        r"if \(second < first\)( \{\n        return live_set_result_ok)", r"if (first < second)\1",
+        "an opening takes the older of two sets", "opens-words-1x5-0-1-steps"),
+    "read-goes-on": (
+        r"(failed != 0u && failed != EE_TORN\) \{\n)        turn_off\(device\);\n", r"\1        (void)device;\n",
+        "a read that failed isn't noted", "bad_words-words-1x5-0-1-reads"),
+    "fill-goes-on": (
+        r"(turn_off\(device\);\n                fill_unread[^;]*;\n)                return;\n", r"\1",
+        "words are read behind a read that failed", "count-words-1x5-1-1-reads"),
+    "stays-on": (
+        r"(if \(failed != 0u\) \{\n)        turn_off\(device\);\n(        return CUT;)", r"\1\2",
+        "a step that failed isn't noted", "write-words-1x5-0-0-steps"),
+}

@@ -1,0 +1,3 @@
+/* The port for an STM32C0. */
+#define STM32C0
+#include "stm32_ecc.c"

@@ -1,0 +1,3 @@
+/* The port for an STM32L4. */
+#define STM32L4
+#include "stm32_ecc.c"

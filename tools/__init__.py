@@ -1,0 +1,1 @@
+"""What the tests and the makers of this repository share."""

@@ -1,0 +1,50 @@
+"""Where things lie, and which of the compilers and programs are here."""
+import os
+import re
+import shutil
+import subprocess
+from pathlib import Path
+
+TOP = Path(__file__).resolve().parent.parent
+CRATES = TOP / "crates"
+PROVED = CRATES / "ee" / "out" / "ee"
+RUST = "https://rustup.rs"
+KIT = "the Rattle toolchain: README.md"
+
+
+def text_of(*path):
+    """The text of a file of the repository."""
+    return (TOP / Path(*path)).read_text(encoding="utf-8")
+
+
+def is_here(*programs):
+    """Whether all of these programs can be run."""
+    return all(map(shutil.which, programs))
+
+
+def said_by(*words):
+    """What a command prints, or nothing where it can't be run or fails."""
+    try:
+        done = subprocess.run(words, capture_output=True, text=True, check=True)
+    except (OSError, subprocess.CalledProcessError):
+        return ""
+    return done.stdout.strip()
+
+
+def has_rust(minor):
+    """Whether cargo and rustc are here, in this version of Rust 1 or a later one."""
+    found = re.match(r"rustc 1\.(\d+)\.", said_by("rustc", "--version"))
+    return found is not None and int(found[1]) >= minor and is_here("cargo")
+
+
+def program(*how):
+    """The program `ee` to test with, or None: EE, else what `.ci/program` says to these words."""
+    found = os.environ.get("EE") or said_by(TOP / ".ci" / "program", *how)
+    return os.path.abspath(found) if found and os.access(found, os.X_OK) else None
+
+
+def built_by_rustc(source, made):
+    """Builds a program of one crate. Gives its path."""
+    made.parent.mkdir(exist_ok=True)
+    subprocess.run(["rustc", "-O", "--edition", "2021", source, "-o", made], check=True)
+    return str(made)
