@@ -1,5 +1,5 @@
 -- What is drawn where power was cut in setting marks, and in an append.
-use Rattle.ee_core.proofs.Base.{rules, ◌≡◌, inr, ℕ, ◌+◌, ◌-◌, ◌<◌, ◌≤◌, Bool, false, true, refl, sym, subst, ap, ◌∙◌, arith, ◌&&◌, nat_lt, not, Device, IsFormed, page_at, Size, Held, IsPageOf, IsLive, is_blank, is_marked, first_page, other, page_of_slot, place_of_slot, Side, Active, Erasing, Valid, IsSameBut, IsSameSet, KeepsMarks, SetsMark, Stays, IsDrawnPartly, PutsPartly, SetsPartly, IsOldMarked, last_used, ShowsCutMarks, IsDrawn, Picture, is_used, marked_to, picture_of, retired_pages, with_change}
+use Rattle.ee_core.proofs.Base.{rules, ◌≡◌, inl, inr, ℕ, ◌+◌, ◌-◌, ◌<◌, ◌≤◌, Bool, false, true, true≢false, refl, sym, subst, ap, ◌∙◌, arith, ◌&&◌, nat_lt, not, Device, IsFormed, page_at, Size, Held, IsPageOf, IsLive, is_blank, is_marked, is_written, place_of_mark, word_in, first_page, other, page_of_slot, place_of_slot, Side, Active, Erasing, Valid, IsSameBut, IsSameSet, KeepsMarks, SetsMark, Stays, IsDrawnPartly, PutsPartly, SetsPartly, IsOldMarked, last_used, ShowsCutMarks, IsDrawn, Picture, is_used, marked_to, picture_of, retired_pages, with_change}
 use Rattle.ee_core.proofs.Cuts.{IsOnTheWay, drawn_before, drawn_between, drawn_whole, mark_drawn_partly, put_partly}
 use Rattle.ee_core.proofs.Drawings.{active_last, mark_drawn, drawn_as, retired_more, same_drawn, valid_drawn, valid_more, valid_to, with_mark, with_word-elsewhere}
 use Rattle.ee_core.proofs.LiveMarks.{IsPageDone, MarksPage, done_more, stays_both}
@@ -258,6 +258,21 @@ module _ (side : Side) (generation : ℕ) (old : Device) (first pages : ℕ)
               begun) so_far.drawn,
           live_stays _ _ _ _ _ formed new_formed stays.keeps.same_size in_set others so_far.live,
         )
+
+    pub retired_still : is_blank (page_at mid page) ≡ false → IsOldMarked old (other side)
+        → is_marked mid page Erasing ≡ true
+    retired_still written marked =
+        let here : page ≡ first_page old.size (other side) + (page - first) = omega arith in
+        let same = so_far.rest page (omega arith) in
+        elim (marked (page - first) (omega arith)) [
+          | inl blank ↦
+              absurd (true≢false
+              (sym blank ∙ ap (λ n. is_blank (page_at old n)) (sym here)
+              ∙ ap is_blank (sym same) ∙ written))
+          | inr is ↦
+              ap (λ words. is_written (word_in words (place_of_mark Erasing))) same
+              ∙ ap (λ n. is_marked old n Erasing) here ∙ is
+        ]
 
     pub retired_cut : (new : Device) → IsFormed old → is_blank (page_at mid page) ≡ false
         → StopsAmong (steps_to_mark mid Erasing page) mid new

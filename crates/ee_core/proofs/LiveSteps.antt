@@ -1,5 +1,5 @@
 -- The steps that mark a live set, whose valid marks a loop sets first.
-use Rattle.ee_core.proofs.Base.{◌≡◌, ◌⊎◌, inl, inr, ℕ, ◌+◌, ◌-◌, ◌<◌, ◌≤◌, Bool, true, false, cond, List, [], ◌∷◌, ◌++◌, refl, sym, subst, ap, ◌∙◌, arith, suc, zero, flat_map, Device, IsFormed, page_at, Step, is_blank, marking, first_page, other, Side, Active, Erasing, Valid, IsMarked, last_used}
+use Rattle.ee_core.proofs.Base.{◌≡◌, ◌⊎◌, inl, inr, ℕ, ◌+◌, ◌-◌, ◌<◌, ◌≤◌, Bool, true, false, cond, List, [], ◌∷◌, ◌++◌, refl, sym, subst, ap, ◌∙◌, arith, suc, zero, flat_map, Device, IsFormed, page_at, Step, is_blank, is_marked, is_written, marking, place_of_mark, word_in, first_page, other, Side, Active, Erasing, Valid, IsLiveMarked, IsMarked, last_used}
 use Rattle.std.specs.List.{range_with_len}
 use Rattle.ee_core.specs.StepLists.{steps_to_finish, steps_to_mark, steps_to_mark_live, steps_to_retire}
 use Rattle.ee_flash.specs.Taking.{Completes, StopsAmong}
@@ -49,6 +49,28 @@ module _ (side : Side) (old mid new : Device) (first page last : ℕ)
         (completes_both (valids old first last) (steps_to_mark old Active page) so_far
         (subst (λ (list : List Step). Completes list mid new) active_is done))
 
+module _ (side : Side) (old mid : Device) (first page : ℕ) (first_is : first ≡ first_page old.size side)
+    (marked : IsLiveMarked old side) where
+  -- where each mark is set, a valid one that a loop comes to is
+  pub still_valid : first ≤ page → page < first + last_used old side
+      → Completes (valids old first (page - first)) old mid → is_marked mid page Valid ≡ true
+  still_valid from below so_far =
+      ap (λ words. is_written (word_in words (place_of_mark Valid)))
+      (same_words (mark_words Valid) (mark_below Valid) old mid mid first page from so_far)
+      ∙ ap (λ n. is_marked old n Valid) (omega arith)
+      ∙ marked.valid (page - first) (omega arith)
+
+  -- and the active one behind them
+  pub still_active : first + last_used old side ≡ page
+      → Completes (valids old first (last_used old side)) old mid
+      → is_marked mid page Active ≡ true
+  still_active at so_far =
+      ap (λ words. is_written (word_in words (place_of_mark Active)))
+      (same_words (mark_words Valid) (mark_below Valid) old mid mid first page (omega (arith, at))
+      (subst (λ n. Completes (valids old first n) old mid) (omega (arith, at)) so_far))
+      ∙ ap (λ n. is_marked old n Active) (omega (arith, at, first_is))
+      ∙ marked.active
+
 -- ---- where each mark is set there is none to set
 
 flat_none : (f : ℕ → List Step) (first count : ℕ) → ((k : ℕ) → k < count → f (first + k) ≡ [])
@@ -67,18 +89,18 @@ none_of_page true _ _ = refl
 none_of_page false _ (inl is) = absurd (cc is)
 none_of_page false _ (inr none) = none
 
+pub no_marks : (device : Device) (side : Side) → IsLiveMarked device side
+    → steps_to_mark_live device side (last_used device side) ≡ []
+no_marks device side marked =
+    let first = first_page device.size side in
+    let last = last_used device side in
+    ap (λ list. list ++ steps_to_mark device Active (first + last))
+    (flat_none (steps_to_mark device Valid) first last
+    (λ k h. ap (λ (b : Bool). cond b [] (marking (first + k) Valid ∷ [])) (marked.valid k h)))
+    ∙ ap (λ (b : Bool). cond b [] (marking (first + last) Active ∷ [])) marked.active
+
 module _ (device : Device) (side : Side) (formed : IsFormed device) (marked : IsMarked device side)
   where
-    no_marks : steps_to_mark_live device side (last_used device side) ≡ []
-    no_marks =
-        let first = first_page device.size side in
-        let last = last_used device side in
-        ap (λ list. list ++ steps_to_mark device Active (first + last))
-        (flat_none (steps_to_mark device Valid) first last
-        (λ k h. ap (λ (b : Bool). cond b [] (marking (first + k) Valid ∷ []))
-        (marked.live.valid k h)))
-        ∙ ap (λ (b : Bool). cond b [] (marking (first + last) Active ∷ [])) marked.live.active
-
     none_retired : (k : ℕ) → k < device.size.pages
         → retire_words (page_at device (first_page device.size (other side) + k))
         (first_page device.size (other side) + k)
@@ -94,7 +116,7 @@ module _ (device : Device) (side : Side) (formed : IsFormed device) (marked : Is
     pub none_to_finish : steps_to_finish device side (last_used device side) ≡ []
     none_to_finish =
         let first = first_page device.size (other side) in
-        ap (λ list. list ++ steps_to_retire device (other side)) no_marks
+        ap (λ list. list ++ steps_to_retire device (other side)) (no_marks device side marked.live)
         ∙ sym
         (in_set (steps_to_mark device Erasing) device (other side) first device.size.pages formed refl
         refl)

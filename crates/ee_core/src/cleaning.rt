@@ -1,6 +1,7 @@
 //! The set that isn't live: how many of its pages wait to be erased, and the erasing of one.
 ghost use Rattle.std.specs.Prelude.{◌≡◌, ◌<◌, ◌≤◌, ◌⊎◌, ℕ, ◌+◌, [], ◌∷◌, IfNone, IfSome, OnErr, OnOk, false, true};
 ghost use Rattle.ee_flash.specs.Device.{IsOn, page_at};
+ghost use Rattle.ee_flash.specs.Power.{Ends};
 ghost use Rattle.ee_pages.specs.Laws.{IsPageOf, KeepsLiveSet};
 ghost use Rattle.ee_pages.specs.Layout.{IsLayout};
 ghost use Rattle.ee_pages.specs.Page.{is_blank};
@@ -40,6 +41,7 @@ pub fn clean<F: Flash>(flash: &mut F, layout: &Layout) -> Result<bool, Cut>
         → KeepsAllButLowest (F.device flash.old) (F.device flash.new)) }
     ensures steps { Takes result (steps_of_clean (F.device flash.old))
         (F.device flash.old) (F.device flash.new) }
+    ensures power { Ends result (F.device flash.old) (F.device flash.new) }
 {
     let Some(page) = first_pending(flash, layout.side.other()) else {
         return Ok(false);

@@ -1,5 +1,6 @@
 //! A store with nothing in it: what is written is erased, and the first set becomes the live one.
 ghost use Rattle.std.specs.Prelude.{map};
+ghost use Rattle.ee_flash.specs.Power.{Ends};
 ghost use Rattle.ee_flash.specs.Step.{Erase};
 ghost use Rattle.ee_core.specs.Openings.{not_blank_pages};
 ghost use Rattle.ee_core.specs.Starts.{ErasesAll, WritesFormat};
@@ -16,6 +17,7 @@ pub fn write_format<F: Flash>(flash: &mut F) -> Result<Layout, Cut>
     ensures writes { WritesFormat result (F.device flash.old) (F.device flash.new) }
     ensures steps { Takes result (steps_of_format (F.device flash.old))
         (F.device flash.old) (F.device flash.new) }
+    ensures power { Ends result (F.device flash.old) (F.device flash.new) }
 {
     erase_all(flash)?;
     mark(flash, 0, Mark::Receive(1))?;

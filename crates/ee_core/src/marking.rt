@@ -1,6 +1,7 @@
 //! The marks that a transfer or a cut left to set: pages used up, the page in use,
 //! pages to be erased.
 ghost use Rattle.std.specs.Prelude.{◌≡◌, ◌<◌, ◌≤◌, ◌+◌, ◌-◌, OnErr, OnOk, false, not, true};
+ghost use Rattle.ee_flash.specs.Power.{Ends};
 ghost use Rattle.ee_flash.specs.Device.{page_at};
 ghost use Rattle.ee_pages.specs.Layout.{IsLayout};
 ghost use Rattle.ee_pages.specs.Page.{is_blank, is_marked};
@@ -34,6 +35,9 @@ pub fn finish<F: Flash>(flash: &mut F, layout: &Layout) -> Result<(), Cut>
         (steps_to_finish (F.device flash.old) layout.now.side
         (last_used (F.device flash.old) layout.now.side))
         (F.device flash.old) (F.device flash.new) }
+    ensures no_step { IsMarked (F.device flash.old) layout.now.side
+        → (result ≡ Ok tt) × (F.device flash.new ≡ F.device flash.old) }
+    ensures power { Ends result (F.device flash.old) (F.device flash.new) }
 {
     mark_live_set(flash, layout)?;
     mark_old_set(flash, layout)?;
@@ -63,6 +67,7 @@ fn mark_live_set<F: Flash>(flash: &mut F, layout: &Layout) -> Result<(), Cut>
         (steps_to_mark_live (F.device flash.old) layout.now.side
         (last_used (F.device flash.old) layout.now.side))
         (F.device flash.old) (F.device flash.new) }
+    ensures fails { OnErr result (¬ IsLiveMarked (F.device flash.old) layout.now.side) }
 {
     let first = first_page(flash, layout.side);
     'pages: for page in first..layout.current {
@@ -97,6 +102,7 @@ fn mark_old_set<F: Flash>(flash: &mut F, layout: &Layout) -> Result<(), Cut>
     ensures steps { Takes result
         (steps_to_retire (F.device flash.old) (other_of layout.now.side))
         (F.device flash.old) (F.device flash.new) }
+    ensures fails { OnErr result (¬ IsOldMarked (F.device flash.old) (other_of layout.now.side)) }
 {
     let first = first_page(flash, layout.side.other());
     'pages: for page in first..first + flash.shape().pages() {
@@ -127,6 +133,7 @@ pub(crate) fn mark_live<F: Flash>(
     ensures begun { OnErr result (SetsPartly page kind (F.device flash.old) (F.device flash.new)) }
     ensures steps { Takes result (steps_to_mark (F.device flash.old) kind page)
         (F.device flash.old) (F.device flash.new) }
+    ensures fails { OnErr result (¬ (is_marked (F.device flash.old) page kind ≡ true)) }
 {
     mark(flash, page, kind)?;
     Ok(())
@@ -148,6 +155,7 @@ fn mark_old<F: Flash>(flash: &mut F, layout: &Layout, page: usize) -> Result<(),
         (SetsPartly page Mark.Erasing (F.device flash.old) (F.device flash.new)) }
     ensures steps { Takes result (steps_to_mark (F.device flash.old) Mark.Erasing page)
         (F.device flash.old) (F.device flash.new) }
+    ensures fails { OnErr result (¬ (is_marked (F.device flash.old) page Mark.Erasing ≡ true)) }
 {
     mark(flash, page, Mark::Erasing)?;
     Ok(())

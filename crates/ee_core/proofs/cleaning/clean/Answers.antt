@@ -6,7 +6,7 @@ use Rattle.ee_core.proofs.Making.{always_on_err}
 use Rattle.ee_core.proofs.MovingFacts.{keeps_same}
 use Rattle.ee_core.proofs.ClearedPages.{clean_is, clean_none}
 use Rattle.ee_core.proofs.PublicSteps.{clean_of}
-use Rattle.ee_core.proofs.Taken.{takes_err, takes_ok}
+use Rattle.ee_core.proofs.Taken.{ends_taken, takes_err, takes_ok}
 use Rattle.ee_flash.specs.Taking.{Completes, StopsAmong}
 use Rattle.ee_core.proofs.cleaning.clean.Goals as goal
 
@@ -24,6 +24,9 @@ returns-in_default-clause-lowest g c = search (rules, keeps_same, not_both_ok, g
 
 pub returns-in_default-clause-marked : goal.returns-in_default-clause-marked
 returns-in_default-clause-marked g c = search (rules, keeps_same, not_both_ok, goes_on_same)
+
+pub returns-in_default-clause-power : goal.returns-in_default-clause-power
+returns-in_default-clause-power g c = search (rules, keeps_same, not_both_ok, goes_on_same)
 
 pub returns-in_default-clause-steps : goal.returns-in_default-clause-steps
 returns-in_default-clause-steps g c =
@@ -44,6 +47,11 @@ returns g c =
     let found = c.in-Some.ensures in
     let left = c.in_ok-erase_other.ensures.erases in
     let live = c.requires.layout.live in
+    let taken =
+    subst (λ list. Completes list old new)
+    (clean_is old layout.side c.other.result c.in-Some.page live.formed c.other.ensures
+    found.page found.not_blank found.lowest ∙ clean_of old layout c.requires.layout)
+    c.in_ok-erase_other.ensures.steps.done in
     record {
       keeps = kept_side_is_live old new layout.side layout.generation live left.keeps;
       none = λ is. absurd (not_both_ok _ is refl);
@@ -59,11 +67,8 @@ returns g c =
       some = tt;
       cut = tt;
       others = tt;
-      steps = takes_ok
-          (subst (λ list. Completes list old new)
-          (clean_is old layout.side c.other.result c.in-Some.page live.formed c.other.ensures
-          found.page found.not_blank found.lowest ∙ clean_of old layout c.requires.layout)
-          c.in_ok-erase_other.ensures.steps.done);
+      steps = takes_ok taken;
+      power = ends_taken _ _ (takes_ok taken);
     }
 
 pub returns-in_err-erase_other : goal.returns-in_err-erase_other
@@ -75,6 +80,12 @@ returns-in_err-erase_other g c =
     let cut = c.in_err-erase_other.ensures.erases in
     let failed = c.from_residual.ensures.0 in
     let is_err = err_from_is_err_and c.from_residual.result c.from_residual.ensures.1 in
+    let steps =
+    takes_err c.from_residual.result failed
+    (subst (λ list. StopsAmong list old new)
+    (clean_is old layout.side c.other.result c.in-Some.page c.requires.layout.live.formed
+    c.other.ensures found.page found.not_blank found.lowest ∙ clean_of old layout c.requires.layout)
+    c.in_err-erase_other.ensures.steps.cut) in
     record {
       keeps =
           kept_side_is_live old new layout.side layout.generation c.requires.layout.live cut.keeps;
@@ -90,10 +101,6 @@ returns-in_err-erase_other g c =
           (λ on. keeps_all_but_lowest old new layout.side c.other.result layout.generation
           c.in-Some.page c.requires.layout.live.live c.other.ensures found.page
           found.not_blank found.lowest cut.others (cut.wear on) cut.partly);
-      steps = takes_err _ failed
-          (subst (λ list. StopsAmong list old new)
-          (clean_is old layout.side c.other.result c.in-Some.page c.requires.layout.live.formed
-          c.other.ensures found.page found.not_blank found.lowest
-          ∙ clean_of old layout c.requires.layout)
-          c.in_err-erase_other.ensures.steps.cut);
+      steps = steps;
+      power = ends_taken _ _ steps;
     }

@@ -18,7 +18,7 @@ use Rattle.ee_core.proofs.MovedSets.{formats_first, formats_second}
 use Rattle.std.proofs.Common.{[], ◌∷◌}
 use Rattle.std.specs.Prelude.{map}
 use Rattle.ee_flash.specs.Step.{Erase}
-use Rattle.ee_core.proofs.Taken.{completes_both, completes_one, stops_first, stops_one, stops_then, takes_err, takes_ok}
+use Rattle.ee_core.proofs.Taken.{completes_both, completes_one, ends_taken, stops_first, stops_one, stops_then, takes_err, takes_ok}
 use Rattle.ee_core.proofs.formatting.write_format.Goals as goal
 
 pub returns : goal.returns
@@ -70,19 +70,23 @@ returns g c =
             (wears_still (not_blank_pages old) old blank new erased wear) all_steps;
       };
       steps = takes_ok all_steps;
+      power = ends_taken _ _ (takes_ok all_steps);
     }
 
 pub returns-in_err-erase_all : goal.returns-in_err-erase_all
 returns-in_err-erase_all g c =
     let cut = c.in_err-erase_all.ensures in
+    let steps =
+    takes_err c.from_residual.result c.from_residual.ensures.0
+    (stops_first (map Erase (not_blank_pages (g.F.Flash.device c.args.flash.now)))
+    (marking 0 (Receive 1) ∷ marking 0 Active ∷ []) cut.steps.cut) in
     record {
       writes = rw (err_from_is_err_and c.from_residual.result c.from_residual.ensures.1).1 (record {
         words = λ on. inl (cut.erases.partly on);
         starting = λ on startable. inl (cut.erases.startable startable);
       });
-      steps = takes_err _ c.from_residual.ensures.0
-          (stops_first (map Erase (not_blank_pages (g.F.Flash.device c.args.flash.now)))
-          (marking 0 (Receive 1) ∷ marking 0 Active ∷ []) cut.steps.cut);
+      steps = steps;
+      power = ends_taken _ _ steps;
     }
 
 pub returns-in_err-mark : goal.returns-in_err-mark
@@ -103,6 +107,12 @@ returns-in_err-mark g c =
     format_cut old blank mid (wears_still (not_blank_pages old) old blank mid erased same)
     formed (step_changes_one_page _ blank mid taken).same_size all
     (mark_partly 0 (Receive 1) blank mid formed h (λ set. (c.mark.ensures.present set).1) cut) in
+    let steps =
+    takes_err failed.result failed.ensures.0
+    (stops_then (map Erase (not_blank_pages old))
+    (marking 0 (Receive 1) ∷ marking 0 Active ∷ []) c.in_ok-erase_all.ensures.steps.done
+    (stops_first (marking 0 (Receive 1) ∷ []) (marking 0 Active ∷ [])
+    (stops_one (marking 0 (Receive 1)) cut))) in
     record {
       writes =
           rw (err_from_is_err_and failed.result failed.ensures.1).1
@@ -110,11 +120,8 @@ returns-in_err-mark g c =
             words = λ on. inr partly;
             starting = λ on startable. inl (received_startable blank mid formed all taken);
           });
-      steps = takes_err _ failed.ensures.0
-          (stops_then (map Erase (not_blank_pages old))
-          (marking 0 (Receive 1) ∷ marking 0 Active ∷ []) c.in_ok-erase_all.ensures.steps.done
-          (stops_first (marking 0 (Receive 1) ∷ []) (marking 0 Active ∷ [])
-          (stops_one (marking 0 (Receive 1)) cut)));
+      steps = steps;
+      power = ends_taken _ _ steps;
     }
 
 pub returns-in_err-mark-2 : goal.returns-in_err-mark-2
@@ -147,6 +154,12 @@ returns-in_err-mark-2 g c =
     (wears_still (not_blank_pages old) old blank new erased wear) formed mid_formed size
     (step_changes_one_page _ mid new taken).same_size all sets
     (mark_partly 0 Active mid new mid_formed still (λ set. (c.mark-2.ensures.present set).1) cut) in
+    let steps =
+    takes_err failed.result failed.ensures.0
+    (stops_then (map Erase (not_blank_pages old))
+    (marking 0 (Receive 1) ∷ marking 0 Active ∷ []) c.in_ok-erase_all.ensures.steps.done
+    (stops_then (marking 0 (Receive 1) ∷ []) (marking 0 Active ∷ [])
+    (completes_one (marking 0 (Receive 1)) blank on_mark whole) (stops_one (marking 0 Active) cut))) in
     record {
       writes = rw (err_from_is_err_and failed.result failed.ensures.1).1 (record {
         words = λ on. inr partly;
@@ -155,12 +168,8 @@ returns-in_err-mark-2 g c =
             (received_startable blank mid formed all
             (receiving blank mid formed all on_mark whole));
       });
-      steps = takes_err _ failed.ensures.0
-          (stops_then (map Erase (not_blank_pages old))
-          (marking 0 (Receive 1) ∷ marking 0 Active ∷ []) c.in_ok-erase_all.ensures.steps.done
-          (stops_then (marking 0 (Receive 1) ∷ []) (marking 0 Active ∷ [])
-          (completes_one (marking 0 (Receive 1)) blank on_mark whole)
-          (stops_one (marking 0 Active) cut)));
+      steps = steps;
+      power = ends_taken _ _ steps;
     }
 
 pub mark-requires : goal.mark-requires

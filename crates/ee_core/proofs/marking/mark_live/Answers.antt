@@ -20,6 +20,8 @@ returns-in_err-mark g c =
     marks c.args.page c.args.kind old new c.mark.result formed h proper c.mark.ensures.present
     c.mark.ensures.on c.mark.ensures.done c.mark.ensures.cut in
     let failed = c.from_residual.ensures.0 in
+    let unset : ¬ (is_marked old c.args.page c.args.kind ≡ true) =
+    λ set. not_ok (c.mark.ensures.present set).0 c.in_err-mark.was in
     record {
       stays =
           live_mark_stays c.args.page c.args.kind old new layout.side layout.generation
@@ -34,8 +36,8 @@ returns-in_err-mark g c =
           (λ set. (c.mark.ensures.present set).1) c.in_err-mark.ensures.cut);
       steps = takes_err _ failed
           (stops_unless (is_marked old c.args.page c.args.kind) (marking c.args.page c.args.kind)
-          (λ set. not_ok (c.mark.ensures.present set).0 c.in_err-mark.was)
-          c.in_err-mark.ensures.cut);
+          unset c.in_err-mark.ensures.cut);
+      fails = always_on_err _ unset;
     }
 
 pub returns : goal.returns
@@ -68,4 +70,5 @@ returns g c =
           (completes_unless (is_marked old c.args.page c.args.kind)
           (marking c.args.page c.args.kind) old same c.in_ok-mark.ensures.on
           c.in_ok-mark.ensures.done);
+      fails = tt;
     }

@@ -1,4 +1,4 @@
-use Rattle.ee_core.proofs.Base.{◌≡◌, ◌≤◌, ◌<◌, ◌+◌, ◌-◌, ap, arith, inl, refl, subst, Size, first_page, Active, Valid, last_used, IsDrawn, picture_of, SetsPartly, rules}
+use Rattle.ee_core.proofs.Base.{◌≡◌, ◌≤◌, ◌<◌, ◌+◌, ◌-◌, ap, arith, inl, refl, subst, Size, first_page, Active, Valid, IsLiveMarked, last_used, IsDrawn, picture_of, SetsPartly, rules}
 use Rattle.ee_core.proofs.AfterCalls.{never_on_ok}
 use Rattle.ee_core.proofs.Drawings.{valid_to}
 use Rattle.ee_core.proofs.MarkedSets.{active_then, other_stays, valid_next, valid_start}
@@ -9,7 +9,7 @@ use Rattle.ee_core.proofs.Making.{always_on_err}
 use Rattle.std.specs.List.{flat_map, range_with_len}
 use Rattle.ee_core.specs.StepLists.{steps_to_mark}
 use Rattle.ee_flash.specs.Taking.{Completes}
-use Rattle.ee_core.proofs.LiveSteps.{live_done, live_stops, live_stops_then}
+use Rattle.ee_core.proofs.LiveSteps.{live_done, live_stops, live_stops_then, still_active, still_valid}
 use Rattle.ee_core.proofs.Taken.{each_next, each_start, mark_below, mark_words, takes_err, takes_ok}
 use Rattle.ee_core.proofs.marking.mark_live_set.Goals as goal
 
@@ -102,6 +102,11 @@ returns-in_err-mark_live g c =
     omega (arith, last, c.first_page-first.ensures, c.pages.auto.page, c.pages-test.true) in
     let inside : k < mid.size.pages =
     omega (arith, before, last_in_range layout old c.requires, counted) in
+    let unmarked : ¬ IsLiveMarked old layout.side =
+    λ marked. c.in_err-mark_live.ensures.fails
+    (still_valid layout.side old mid c.first_page-first.result c.pages.page
+    c.first_page-first.ensures marked c.pages.auto.page
+    (omega (arith, last, c.first_page-first.ensures, c.pages-test.true)) c.pages.invariant.steps) in
     record {
       stays = stays_both _ _ _ _ _ c.pages.invariant.stays c.mark_live.ensures.stays;
       marked = never_on_ok _ _ failed;
@@ -124,6 +129,7 @@ returns-in_err-mark_live g c =
           (last_used old layout.side) c.first_page-first.ensures c.pages.auto.page
           (omega (arith, last, c.first_page-first.ensures, c.pages-test.true))
           c.pages.invariant.steps c.in_err-mark_live.ensures.steps.cut);
+      fails = always_on_err _ unmarked;
     }
 
 pub returns-in_err-mark_live-2 : goal.returns-in_err-mark_live-2
@@ -150,6 +156,15 @@ returns-in_err-mark_live-2 g c =
     c.pages.invariant.drawn in
     let at : layout.current ≡ first_page mid.size layout.side + last_used old layout.side =
     omega (arith, last, ap (λ (size : Size). first_page size layout.side) sizes) in
+    let so_far =
+    subst
+    (λ n. Completes
+    (flat_map (steps_to_mark old Valid) (range_with_len c.first_page-first.result n)) old mid)
+    reached c.pages.invariant.steps in
+    let unmarked : ¬ IsLiveMarked old layout.side =
+    λ marked. c.in_err-mark_live-2.ensures.fails
+    (still_active layout.side old mid c.first_page-first.result layout.current
+    c.first_page-first.ensures marked (omega (arith, last, c.first_page-first.ensures)) so_far) in
     record {
       stays = stays_both _ _ _ _ _ c.pages.invariant.stays c.mark_live-2.ensures.stays;
       marked = never_on_ok _ _ failed;
@@ -170,10 +185,8 @@ returns-in_err-mark_live-2 g c =
           (live_stops_then layout.side old mid new c.first_page-first.result layout.current
           (last_used old layout.side) c.first_page-first.ensures
           (omega (arith, last, c.first_page-first.ensures))
-          (subst
-          (λ n. Completes
-          (flat_map (steps_to_mark old Valid) (range_with_len c.first_page-first.result n)) old mid)
-          reached c.pages.invariant.steps) c.in_err-mark_live-2.ensures.steps.cut);
+          so_far c.in_err-mark_live-2.ensures.steps.cut);
+      fails = always_on_err _ unmarked;
     }
 
 pub returns : goal.returns
@@ -225,4 +238,5 @@ returns g c =
           (λ n. Completes
           (flat_map (steps_to_mark old Valid) (range_with_len c.first_page-first.result n)) old mid)
           reached c.pages.invariant.steps) done.steps.done);
+      fails = tt;
     }

@@ -20,6 +20,8 @@ returns-in_err-mark g c =
     marks c.args.page Erasing old new c.mark.result formed h proper_old c.mark.ensures.present
     c.mark.ensures.on c.mark.ensures.done c.mark.ensures.cut in
     let failed = c.from_residual.ensures.0 in
+    let unset : ¬ (is_marked old c.args.page Erasing ≡ true) =
+    λ set. not_ok (c.mark.ensures.present set).0 c.in_err-mark.was in
     record {
       stays =
           old_mark_stays c.args.page old new layout.side layout.generation c.requires.layout.live
@@ -34,8 +36,8 @@ returns-in_err-mark g c =
           (λ set. (c.mark.ensures.present set).1) c.in_err-mark.ensures.cut);
       steps = takes_err _ failed
           (stops_unless (is_marked old c.args.page Erasing) (marking c.args.page Erasing)
-          (λ set. not_ok (c.mark.ensures.present set).0 c.in_err-mark.was)
-          c.in_err-mark.ensures.cut);
+          unset c.in_err-mark.ensures.cut);
+      fails = always_on_err _ unset;
     }
 
 pub returns : goal.returns
@@ -66,4 +68,5 @@ returns g c =
       steps = takes_ok
           (completes_unless (is_marked old c.args.page Erasing) (marking c.args.page Erasing) old
           same c.in_ok-mark.ensures.on c.in_ok-mark.ensures.done);
+      fails = tt;
     }

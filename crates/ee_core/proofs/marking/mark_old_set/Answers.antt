@@ -1,6 +1,6 @@
-use Rattle.ee_core.proofs.Base.{◌≡◌, arith, false, ap, ◌∙◌, sym, page_at, Size, is_blank, first_page, other, rules}
+use Rattle.ee_core.proofs.Base.{◌≡◌, arith, false, ap, ◌∙◌, sym, page_at, Size, is_blank, first_page, other, IsOldMarked, rules}
 use Rattle.ee_core.proofs.AfterCalls.{never_on_ok}
-use Rattle.ee_core.proofs.CutMarks.{marked_all, marked_cut, marked_next, marked_start, retired_cut, retired_steps}
+use Rattle.ee_core.proofs.CutMarks.{marked_all, marked_cut, marked_next, marked_start, retired_cut, retired_still, retired_steps}
 use Rattle.ee_core.proofs.Taken.{takes_err}
 use Rattle.ee_core.proofs.LiveMarks.{MarksPage, layout_stays, marks_none, marks_one, stays_both}
 use Rattle.ee_core.proofs.Making.{always_on_err}
@@ -61,6 +61,10 @@ returns-in_err-mark_old g c =
     let written : is_blank (page_at mid c.pages.page) ≡ false =
     sym c.is_blank.ensures ∙ c.if-not-is_blank.true in
     let left = c.mark_old.ensures in
+    let unmarked : ¬ IsOldMarked old (other side) =
+    λ marked. c.in_err-mark_old.ensures.fails
+    (retired_still side generation old _ _ first pages mid c.pages.page formed
+    c.pages.auto.page c.pages-test.true c.pages.invariant written marked) in
     let cut =
     marked_cut side generation old _ _ first pages mid c.pages.page formed c.pages.auto.page
     c.pages-test.true c.pages.invariant new (g.met.F.Flash.formed c.mark_old.new.flash)
@@ -77,6 +81,7 @@ returns-in_err-mark_old g c =
           (retired_cut side generation old _ _ first pages mid c.pages.page formed
           c.pages.auto.page c.pages-test.true c.pages.invariant new c.requires.live.formed written
           c.in_err-mark_old.ensures.steps.cut);
+      fails = always_on_err _ unmarked;
     }
 
 pub returns-clause-marked : goal.returns-clause-marked
