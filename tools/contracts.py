@@ -9,12 +9,14 @@ from tools.places import TOP
 
 # The crates that are no part of the product.
 NO_PRODUCT = {"ee_cases", "ee_fakes", "ee_tests"}
-# A function: its crate, its file below `src`, the type or trait whose it is or "", its name,
-# whether others may call it, its comment, and the names of its clauses, "" for one that has none.
-Function = namedtuple("Function", "crate file owner name public comment clauses")
+# A function: its crate, its file below `src`, the type or trait whose it is or "", the trait that it
+# is of or "", its name, whether others may call it, its comment, and the names of its clauses, ""
+# for one that has none.
+Function = namedtuple("Function", "crate file owner of name public comment clauses")
 
 OWNER = re.compile(
-    r"(?:pub )?(?:unsafe )?(?:impl\b(?:<(?:[^<>]|<[^<>]*>)*>)? (?:.* for )?(?:\w+::)*(\w+)|trait (\w+))"
+    r"(?:pub )?(?:unsafe )?(?:impl\b(?:<(?:[^<>]|<[^<>]*>)*>)? (?:(?:\w+::)*(\w+).* for )?"
+    r"(?:\w+::)*(\w+)|trait (\w+))"
 )
 HEAD = re.compile(r"\s*(pub(?:\(\w+\))? )?(?:const )?(?:unsafe )?(?:extern \"C\" )?fn (\w+)")
 
@@ -22,18 +24,18 @@ HEAD = re.compile(r"\s*(pub(?:\(\w+\))? )?(?:const )?(?:unsafe )?(?:extern \"C\"
 def functions_of(crate, path):
     """The functions of a source file, in their order."""
     file = os.path.relpath(path, os.path.join(TOP, "crates", crate, "src"))
-    owner, is_trait, comment, found, in_head = "", False, [], [], False
+    owner, of, comment, found, in_head = "", "", [], [], False
     with open(path, encoding="utf-8") as opened:
         lines = opened.read().splitlines()
     for line in lines:
         block, head = OWNER.match(line), HEAD.match(line)
         if block:
-            owner, is_trait = block[1] or block[2], bool(block[2]) or " for " in line.split("{")[0]
+            owner, of = block[2] or block[3], block[1] or block[3] or ""
         elif line == "}":
-            owner, is_trait = "", False
+            owner, of = "", ""
         if head:
-            public = (head[1] or "").strip() == "pub" or is_trait
-            found.append(Function(crate, file, owner, head[2], public, " ".join(comment), []))
+            public = (head[1] or "").strip() == "pub" or bool(of)
+            found.append(Function(crate, file, owner, of, head[2], public, " ".join(comment), []))
             in_head = True
         elif in_head and re.fullmatch(r"\s*\{\}?", line):
             in_head = False
@@ -64,9 +66,9 @@ def public_contracts(left_out=()):
     """The public functions that have a contract, but for those of some crates. One of a trait has
     the trait's comment where it has none of its own."""
     found = functions()
-    told = {one.name: one.comment for one in found if one.comment and one.public}
+    told = {(one.of, one.name): one.comment for one in found if one.of and one.owner == one.of}
     return [
-        one._replace(comment=one.comment or told.get(one.name, ""))
+        one._replace(comment=one.comment or told.get((one.of, one.name), ""))
         for one in found
         if one.public and one.clauses and one.crate not in left_out
     ]

@@ -25,7 +25,7 @@
 //! both ways. `laws`: each schedule costs more than a certificate has stretches, or as much and
 //! ends with no more room; a start and a trace that keeps within the slots have one tight
 //! certificate, which is met, by the store that transfers exactly when each slot is used.
-//! docs/CERTIFICATE.md explains it.
+//! docs/GUIDE.md explains it.
 #![tactic(auto)]
 
 mod certificate;

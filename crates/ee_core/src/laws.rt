@@ -12,13 +12,14 @@ pub fn runs_go_on()
     ensures { RunsGoOn }
 {}
 
-/// Every transfer for one change costs the erases of one set, now or in a later clean step, and no
-/// other call costs any.
+/// In a run of single changes all wear and the pages that wait are together more by the pages of a
+/// set for each transfer, and by none for any other call. Here and in the next two no page has the
+/// greatest wear.
 pub fn each_transfer_erases_a_set()
     ensures { EachTransferErasesASet }
 {}
 
-/// With lists of several values and clears too no transfer costs more than the erases of one set.
+/// With lists of several values and clears too they are no more.
 pub fn no_transfer_erases_more()
     ensures { NoTransferErasesMore }
 {}
@@ -35,7 +36,7 @@ pub fn each_page_wears_every_second_transfer()
     ensures { EachPageWearsEverySecondTransfer }
 {}
 
-/// From an image in which no page waits to be erased, no page is erased more often than every
+/// From a legal image in which no page waits to be erased, no page is erased more often than every
 /// second transfer, rounded up.
 pub fn no_page_wears_more()
     ensures { NoPageWearsMore }
@@ -51,7 +52,7 @@ pub fn the_store_is_a_map()
     ensures { TheStoreIsAMap }
 {}
 
-/// A list that has each address once is there, all of it, in the map after it.
+/// A list that has each address once is there, all of it, in the map that its puts make.
 pub fn lists_are_there()
     ensures { ListsAreThere }
 {}
@@ -62,8 +63,9 @@ pub fn states_after_append()
     ensures { StatesAfterAppend }
 {}
 
-/// After a transfer the used pages of the new set are valid, the last of them is active and the
-/// others are erased; each page of the set that was left may be erased.
+/// After a transfer of changes with no address twice the used pages of the new set are valid, the
+/// last of them is active and the others are erased; each page of the set that was left may be
+/// erased, or is blank.
 pub fn states_after_transfer()
     ensures { StatesAfterTransfer }
 {}
@@ -84,7 +86,8 @@ pub fn states_after_format()
     ensures { StatesAfterFormat }
 {}
 
-/// A transfer writes one word for each address that has a value.
+/// A transfer of changes with no address twice moves one word for each address that has a value
+/// then.
 pub fn moved_words_are_live()
     ensures { MovedWordsAreLive }
 {}
@@ -94,8 +97,8 @@ pub fn pictures_tell_images()
     ensures { PicturesTellImages }
 {}
 
-/// A device with no word programmed gets an empty store by `start`, however often
-/// power is cut in it.
+/// A device with no word programmed gets an empty store by the first `start` that isn't cut; each
+/// that is takes one of the cuts that are left.
 pub fn starts_end()
     ensures { StartsEnd }
 {}
@@ -112,20 +115,23 @@ pub fn one_word_costs_no_more()
     ensures { OneWordCostsNoMore }
 {}
 
-/// One word of the set that waits costs nothing, by the same premise on its commit words.
+/// One word of the set that waits costs nothing; of its commit words this takes the same but that
+/// the bad one may read as erased.
 pub fn waiting_word_costs_no_more()
     ensures { WaitingWordCostsNoMore }
 {}
 
-/// On a legal image an opening programs 2 * P words at the most, where P is the pages of a set, an
-/// append 3, and a move one for each value that lives then and 3 * P + 1. A move erases P pages at
-/// the most, a clean step one, and no other of these calls any.
+/// On a legal image the steps of an opening program 2 * P words at the most, where P is the pages of
+/// a set, those of an append 3, those of a clear P + 2, and those of a move one for each value that
+/// lives then and 3 * P + 1: of changes with no address twice, behind which the values fit. A move
+/// and a clear erase P pages at the most, a clean step one, the others none.
 pub fn each_call_is_short()
     ensures { EachCallIsShort }
 {}
 
-/// On any device a format programs 2 words and erases each page once at the most; a rescue takes
-/// no more than a move of its values.
+/// On any device the steps of a format program 2 words at the most, and erase as many pages as there
+/// are. Those of a move of any words that fit, as a rescue makes, program one for each and
+/// 3 * P + 1, and erase P.
 pub fn formats_and_rescues_are_short()
     ensures { FormatsAndRescuesAreShort }
 {}

@@ -1,9 +1,9 @@
 //! As much of `embassy-stm32` as `firmware/rust/boards` uses, by its documentation: the last two pages of 512 KiB behind a
-//! data cache that keeps what it read.
-#![no_std]
+//! data cache that keeps what it read, and the ECC register, with the NMI that a torn word raises.
 #![forbid(unsafe_code)]
 
-use core::sync::atomic::{AtomicBool, AtomicU8, Ordering};
+use core::sync::atomic::{AtomicBool, AtomicU32, AtomicU8, Ordering};
+use std::sync::OnceLock;
 
 const FIRST: u32 = 508 * 1024;
 const SIZE: usize = 4096;
@@ -17,6 +17,15 @@ const ZERO: AtomicU8 = AtomicU8::new(0);
 #[allow(clippy::declare_interior_mutable_const)]
 const NO: AtomicBool = AtomicBool::new(false);
 static DCEN: AtomicBool = AtomicBool::new(true);
+/// The bytes that stand in a torn word, and those in one of all ones that takes a correction; the ECC register; and the handler of
+/// the NMI.
+static IS_TORN: [AtomicBool; SIZE] = [NO; SIZE];
+static IS_FAINT: [AtomicBool; SIZE] = [NO; SIZE];
+static ECCR: AtomicU32 = AtomicU32::new(0);
+const ECCIE: u32 = 1 << 24;
+const ECCC: u32 = 1 << 30;
+const ECCD: u32 = 1 << 31;
+static HANDLER: OnceLock<fn()> = OnceLock::new();
 
 /// A byte of the pages, by the cache where it is on.
 fn read_byte(at: usize) -> u8 {
@@ -30,10 +39,39 @@ fn read_byte(at: usize) -> u8 {
     KEPT[at].load(Ordering::Relaxed)
 }
 
+/// What the ECC does behind a read of these bytes.
+fn look_at_errors(from: usize, behind: usize) {
+    let is_any = |bytes: &[AtomicBool; SIZE]| {
+        bytes[from..behind]
+            .iter()
+            .any(|byte| byte.load(Ordering::Relaxed))
+    };
+    if is_any(&IS_FAINT) {
+        ECCR.fetch_or(ECCC, Ordering::Relaxed);
+    }
+    if is_any(&IS_TORN) {
+        ECCR.fetch_or(ECCD, Ordering::Relaxed);
+        HANDLER.get().expect("a handler of the NMI")();
+        assert_eq!(
+            ECCR.load(Ordering::Relaxed) & ECCD,
+            0,
+            "the NMI comes again"
+        );
+    }
+}
+
 /// The registers, which the feature `unstable-pac` shows.
 pub mod pac {
-    use super::{DCEN, IS_KEPT};
+    use super::{DCEN, ECCC, ECCD, ECCIE, ECCR, IS_KEPT};
     use core::sync::atomic::Ordering;
+
+    /// As the registers of the chips are named.
+    pub mod flash {
+        /// The values of registers.
+        pub mod regs {
+            pub use super::super::Eccr;
+        }
+    }
 
     /// The registers of the flash.
     pub const FLASH: Flash = Flash;
@@ -58,6 +96,75 @@ pub mod pac {
         #[must_use]
         pub fn acr(self) -> AcrRegister {
             AcrRegister
+        }
+
+        /// `FLASH_ECCR`.
+        #[must_use]
+        pub fn eccr(self) -> EccrRegister {
+            EccrRegister
+        }
+    }
+
+    /// `FLASH_ECCR`.
+    #[derive(Clone, Copy, Debug)]
+    pub struct EccrRegister;
+
+    /// What `FLASH_ECCR` has, or what is written to it.
+    #[derive(Clone, Copy, Debug)]
+    pub struct Eccr(u32);
+
+    impl EccrRegister {
+        /// Reads the register.
+        #[must_use]
+        pub fn read(self) -> Eccr {
+            Eccr(ECCR.load(Ordering::Relaxed))
+        }
+
+        /// Writes the register: a flag that is written as 1 is taken away.
+        pub fn write(self, change: impl FnOnce(&mut Eccr)) {
+            let mut written = Eccr(0);
+            change(&mut written);
+            let flags = self.read().0 & (ECCC | ECCD) & !written.0;
+            ECCR.store(flags | (written.0 & ECCIE), Ordering::Relaxed);
+        }
+    }
+
+    impl Eccr {
+        /// Whether an error was that can't be corrected.
+        #[must_use]
+        pub fn eccd(&self) -> bool {
+            self.0 & ECCD != 0
+        }
+
+        /// Writes that flag.
+        pub fn set_eccd(&mut self, is_set: bool) {
+            self.set(ECCD, is_set);
+        }
+
+        /// Whether an error was corrected.
+        #[must_use]
+        pub fn eccc(&self) -> bool {
+            self.0 & ECCC != 0
+        }
+
+        /// Writes that flag.
+        pub fn set_eccc(&mut self, is_set: bool) {
+            self.set(ECCC, is_set);
+        }
+
+        /// Whether a corrected error raises an interrupt.
+        #[must_use]
+        pub fn eccie(&self) -> bool {
+            self.0 & ECCIE != 0
+        }
+
+        /// Says whether it does.
+        pub fn set_eccie(&mut self, is_set: bool) {
+            self.set(ECCIE, is_set);
+        }
+
+        fn set(&mut self, flag: u32, is_set: bool) {
+            self.0 = self.0 & !flag | if is_set { flag } else { 0 };
         }
     }
 
@@ -106,7 +213,9 @@ pub mod pac {
 
 /// The flash of the part.
 pub mod flash {
-    use super::{read_byte, CELLS, FIRST};
+    use super::{
+        look_at_errors, read_byte, CELLS, DCEN, ECCD, ECCR, FIRST, HANDLER, IS_FAINT, IS_TORN,
+    };
     use core::marker::PhantomData;
     use core::sync::atomic::Ordering;
     use embedded_storage::nor_flash::{
@@ -137,6 +246,44 @@ pub mod flash {
         pub fn of_stub() -> Self {
             Flash(PhantomData)
         }
+
+        /// What is called where a torn word is read past the cache.
+        ///
+        /// # Panics
+        ///
+        /// There is a handler.
+        pub fn handle_nmi_by(handler: fn()) {
+            HANDLER.set(handler).expect("one handler");
+        }
+
+        /// A cut leaves the word torn that begins at this byte.
+        ///
+        /// # Panics
+        ///
+        /// The flash has no such word.
+        pub fn tear(byte: u32) {
+            let at = place(byte).expect("a word of the pages");
+            IS_TORN[at..at + 8]
+                .iter()
+                .for_each(|byte| byte.store(true, Ordering::Relaxed));
+        }
+
+        /// A cut leaves the word faint that begins at this byte: it reads as all ones by a correction.
+        ///
+        /// # Panics
+        ///
+        /// The flash has no such word.
+        pub fn fade(byte: u32) {
+            let at = place(byte).expect("a word of the pages");
+            IS_FAINT[at..at + 8]
+                .iter()
+                .for_each(|byte| byte.store(true, Ordering::Relaxed));
+        }
+
+        /// An error in the program's own code.
+        pub fn err_elsewhere() {
+            ECCR.fetch_or(ECCD, Ordering::Relaxed);
+        }
     }
 
     /// Where a byte stands among the cells.
@@ -160,6 +307,10 @@ pub mod flash {
             for (byte, at) in bytes.iter_mut().zip(offset..) {
                 *byte = read_byte(place(at)?);
             }
+            if !DCEN.load(Ordering::Relaxed) {
+                let from = place(offset)?;
+                look_at_errors(from, from + bytes.len());
+            }
             Ok(())
         }
 
@@ -175,6 +326,8 @@ pub mod flash {
         fn erase(&mut self, from: u32, to: u32) -> Result<(), Error> {
             for at in from..to {
                 CELLS[place(at)?].store(0, Ordering::Relaxed);
+                IS_TORN[place(at)?].store(false, Ordering::Relaxed);
+                IS_FAINT[place(at)?].store(false, Ordering::Relaxed);
             }
             Ok(())
         }
