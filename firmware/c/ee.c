@@ -10,11 +10,11 @@
 #include <stdint.h>
 
 /* By hand. A function that stands in the places where it is called, at every level of optimisation,
- * and one that stands in none of them, so that its stack is not theirs. C99 has no words for it. */
+ * and one that stands in none of them, so that its stack is not theirs. C99 has no words for it. An
+ * interrupt sees what stands before EE_IN_ORDER, and nothing of what stands behind it. */
 #if defined(__GNUC__)
 #define EE_IN_PLACE static inline __attribute__((always_inline))
 #define EE_APART static __attribute__((noinline))
-/* An interrupt sees what stands before this, and nothing of what stands behind it. */
 #define EE_IN_ORDER() __asm__ volatile("" : : : "memory")
 #else
 #define EE_IN_PLACE static inline
@@ -28,10 +28,12 @@
 #pragma GCC diagnostic ignored "-Wunused-function"
 #endif
 
-/* By hand. Whether a flash has numbers, two for each word. */
+/* By hand. What a flash may have, and whether it has numbers, two for each word. */
 #ifdef EE_NO_PAIRS
+#define EE_GREATEST_KIND EE_WORDS
 #define EE_IS_OF_PAIRS(flash) ((void)(flash), false)
 #else
+#define EE_GREATEST_KIND EE_PAIRS_CLEARING
 #define EE_IS_OF_PAIRS(flash) ((flash)->kind != EE_WORDS)
 #endif
 
@@ -173,24 +175,18 @@ enum {
 typedef struct ee_layout Layout;
 
 /* Why an image is not legal. */
-typedef uint8_t ScanFaultTag;
+typedef uint8_t ScanFault;
 enum {
     /* Every word of the device is erased. */
-    ScanFault_Unformatted,
+    ScanFault_Unformatted = EE_UNFORMATTED,
     /* No set is committed. */
-    ScanFault_NoLiveSet,
+    ScanFault_NoLiveSet = EE_NO_LIVE_SET,
     /* Both sets are committed, with equal generations. */
-    ScanFault_TwoLive,
+    ScanFault_TwoLive = EE_TWO_LIVE,
     /* The first word of the live set, by page and then place, that may not stand there. The page
      * is its number in the device. */
-    ScanFault_Foreign
+    ScanFault_Foreign = EE_FOREIGN
 };
-
-typedef struct ScanFault {
-    ScanFaultTag tag;
-    uint32_t page; /* of Foreign */
-    uint32_t at; /* of Foreign */
-} ScanFault;
 
 /* Addresses with their values, up to `BATCH`, in the value itself. While it is filled an address
  * may stand in it that has no value. */
@@ -253,70 +249,56 @@ typedef struct CopyingPlace {
     uint32_t at;
 } CopyingPlace;
 
-/* How a change was stored. */
-typedef uint8_t Written;
-enum {
-    /* In a free slot. */
-    Written_Appended,
-    /* No slot was free: in the other set, to which all live addresses were moved. */
-    Written_Moved
-};
-
 /* Why nothing is written, the first cause that applies. All but `Cut` leave the device as it
  * was. */
 typedef uint8_t WriteFault;
 enum {
     /* The device is off. */
-    WriteFault_Off,
+    WriteFault_Off = EE_NOT_OPEN,
     /* The address has no value, and as many addresses have one as there are slots. */
-    WriteFault_Full,
+    WriteFault_Full = EE_FULL,
     /* Every slot is used, and the generation is the greatest, 4294967294. */
-    WriteFault_Spent,
+    WriteFault_Spent = EE_SPENT,
     /* Memory ran out, in a store that keeps an index, for an address that has no value. */
-    WriteFault_Memory,
+    WriteFault_Memory = EE_FULL,
     /* Power failed in this call. The device is off; the change is held or not, and nothing else
      * changed for any reader. */
-    WriteFault_Cut
+    WriteFault_Cut = EE_DRIVER
 };
 
 /* Why no value of a list is written, the first cause that applies. All but `Cut` leave
  * the device as it was. */
-typedef uint8_t WriteAllFaultTag;
+typedef uint8_t WriteAllFault;
 enum {
     /* The device is off. */
-    WriteAllFault_Off,
+    WriteAllFault_Off = EE_NOT_OPEN,
     /* An address is listed twice: the first entry, counted from 0, whose address an earlier one
      * has. */
-    WriteAllFault_Twice,
+    WriteAllFault_Twice = EE_DUPLICATE,
     /* More addresses would have a value than there are slots. */
-    WriteAllFault_Full,
+    WriteAllFault_Full = EE_FULL,
     /* The generation is the greatest, 4294967294; of a list of one, and every slot is used. */
-    WriteAllFault_Spent,
+    WriteAllFault_Spent = EE_SPENT,
     /* Memory ran out, in a store that keeps an index, for an address that has no value. */
-    WriteAllFault_Memory,
+    WriteAllFault_Memory = EE_FULL,
     /* Power failed in this call. The device is off; all values of the list are held or none, and
      * nothing else changed for any reader. */
-    WriteAllFault_Cut
+    WriteAllFault_Cut = EE_DRIVER
 };
-
-typedef struct WriteAllFault {
-    WriteAllFaultTag tag;
-    uint32_t twice; /* of Twice */
-} WriteAllFault;
 
 /* Why nothing is forgotten, the first cause that applies. All but `Cut` leave the device as it
  * was. */
 typedef uint8_t ForgetFault;
 enum {
     /* The device is off. */
-    ForgetFault_Off,
+    ForgetFault_Off = EE_NOT_OPEN,
     /* The address has no value. */
-    ForgetFault_Absent,
+    ForgetFault_Absent = EE_ABSENT,
     /* Every slot is used, and the generation is the greatest, 4294967294. */
-    ForgetFault_Spent,
+    ForgetFault_Spent = EE_SPENT,
     /* Power failed in this call. The device is off; the address has its value still or has none,
      * and nothing else changed for any reader. */
-    ForgetFault_Cut
+    ForgetFault_Cut = EE_DRIVER
 };
 
 /* Why nothing is cleared, the first cause that applies. All but `Cut` leave the device as it
@@ -324,27 +306,17 @@ enum {
 typedef uint8_t ClearFault;
 enum {
     /* The device is off. */
-    ClearFault_Off,
+    ClearFault_Off = EE_NOT_OPEN,
     /* A slot is used, and the generation is the greatest, 4294967294. */
-    ClearFault_Spent,
+    ClearFault_Spent = EE_SPENT,
     /* Power failed in this call. The device is off; each address has its value still, or none has
      * one. */
-    ClearFault_Cut
+    ClearFault_Cut = EE_DRIVER
 };
 
-/* By hand. The device that the store works on, of words or of numbers. It is on while the pointer
- * to its flash, which stands in the memory that the caller lends, is not NULL. */
-typedef struct ee_device Device;
-
-/* By hand. The numbers of a device that was on: they are read and programmed in the flash that it
- * had then. */
-typedef struct Numbers {
-    const Device *device;
-    const ee_flash *flash;
-    Shape shape;
-} Numbers;
-
-/* By hand. Where the index stands that a store finds values by, NULL if it has none. */
+/* By hand. The device that the store works on, of words or of numbers, and where the index stands
+ * that it finds values by, NULL if it has none. */
+typedef struct ee_device Device, Numbers;
 typedef struct ee_index *Lookup;
 
 /* What a store keeps in memory beside its device. */
@@ -357,18 +329,11 @@ typedef struct ee_known Known;
 typedef struct ee_kept Store;
 
 /* Why a device can't be opened, the first cause that applies. */
-typedef uint8_t OpenFaultTag;
+typedef uint8_t OpenFault;
 enum {
-    /* The image is not legal. Nothing changed. */
-    OpenFault_Scan,
     /* Power failed in setting a mark. The device is off; its variables are as before. */
-    OpenFault_Cut
+    OpenFault_Cut = EE_DRIVER
 };
-
-typedef struct OpenFault {
-    OpenFaultTag tag;
-    ScanFault scan; /* of Scan */
-} OpenFault;
 
 typedef struct ee_room RoomOfEntry;
 
@@ -486,34 +451,10 @@ typedef struct MaybeIndex {
     uint32_t value;
 } MaybeIndex;
 
-typedef struct ClearResult {
-    bool ok;
-    bool value;
-    ClearFault error;
-} ClearResult;
-
-typedef struct ForgetResult {
-    bool ok;
-    Written value;
-    ForgetFault error;
-} ForgetResult;
-
 typedef struct ListOfPut {
     const Put *items;
     uint32_t len;
 } ListOfPut;
-
-typedef struct WriteAllResult {
-    bool ok;
-    Written value;
-    WriteAllFault error;
-} WriteAllResult;
-
-typedef struct WriteResult {
-    bool ok;
-    Written value;
-    WriteFault error;
-} WriteResult;
 
 typedef struct CopyingPlaceOrCut {
     bool ok;
@@ -539,23 +480,6 @@ typedef struct MaybeSide {
     bool some;
     Side value;
 } MaybeSide;
-
-typedef struct LayoutOrCut {
-    bool ok;
-    Layout value;
-} LayoutOrCut;
-
-typedef struct LayoutOrOpenFault {
-    bool ok;
-    Layout value;
-    OpenFault error;
-} LayoutOrOpenFault;
-
-typedef struct ScanResult {
-    bool ok;
-    Layout value;
-    ScanFault error;
-} ScanResult;
 
 typedef struct LiveSet {
     Side first;
@@ -642,7 +566,7 @@ static inline CleanResult clean_result_err(WriteFault error) {
 }
 
 static inline CleanResult clean_result_ok(bool value) {
-    return (CleanResult){ .ok = true, .value = value, .error = WriteFault_Off };
+    return (CleanResult){ .ok = true, .value = value, .error = EE_OK };
 }
 
 static inline BoolOrCut bool_or_cut_ok(bool value) {
@@ -661,14 +585,6 @@ static inline MaybeIndex maybe_index_none(void) {
     return (MaybeIndex){ .some = false, .value = 0u };
 }
 
-static inline ClearResult clear_result_err(ClearFault error) {
-    return (ClearResult){ .ok = false, .value = false, .error = error };
-}
-
-static inline ClearResult clear_result_ok(bool value) {
-    return (ClearResult){ .ok = true, .value = value, .error = ClearFault_Off };
-}
-
 static inline Mark mark_erasing(void) {
     return (Mark){ .tag = Mark_Erasing, .receive = 0u };
 }
@@ -685,57 +601,13 @@ static inline Mark mark_receive(uint32_t receive) {
     return (Mark){ .tag = Mark_Receive, .receive = receive };
 }
 
-static inline ForgetResult forget_result_err(ForgetFault error) {
-    return (ForgetResult){ .ok = false, .value = Written_Appended, .error = error };
-}
-
 static inline Change change_forget(Address address, uint32_t value) {
     return (Change){ .tag = Change_Forget, .address = address, .value = value };
 }
 
-static inline ForgetResult forget_result_ok(Written value) {
-    return (ForgetResult){ .ok = true, .value = value, .error = ForgetFault_Off };
-}
-
-static inline WriteAllFault write_all_fault_off(void) {
-    return (WriteAllFault){ .tag = WriteAllFault_Off, .twice = 0u };
-}
-
-static inline WriteAllResult write_all_result_err(WriteAllFault error) {
-    return (WriteAllResult){ .ok = false, .value = Written_Appended, .error = error };
-}
-
-static inline WriteAllResult write_all_result_ok(Written value) {
-    return (WriteAllResult){ .ok = true, .value = value, .error = { .tag = WriteAllFault_Off,
-            .twice = 0u } };
-}
-
 static inline WriteAllFault write_all_fault_twice(uint32_t twice) {
-    return (WriteAllFault){ .tag = WriteAllFault_Twice, .twice = twice };
-}
-
-static inline WriteAllFault write_all_fault_full(void) {
-    return (WriteAllFault){ .tag = WriteAllFault_Full, .twice = 0u };
-}
-
-static inline WriteAllFault write_all_fault_spent(void) {
-    return (WriteAllFault){ .tag = WriteAllFault_Spent, .twice = 0u };
-}
-
-static inline WriteAllFault write_all_fault_memory(void) {
-    return (WriteAllFault){ .tag = WriteAllFault_Memory, .twice = 0u };
-}
-
-static inline WriteAllFault write_all_fault_cut(void) {
-    return (WriteAllFault){ .tag = WriteAllFault_Cut, .twice = 0u };
-}
-
-static inline WriteResult write_result_err(WriteFault error) {
-    return (WriteResult){ .ok = false, .value = Written_Appended, .error = error };
-}
-
-static inline WriteResult write_result_ok(Written value) {
-    return (WriteResult){ .ok = true, .value = value, .error = WriteFault_Off };
+    (void)twice;
+    return WriteAllFault_Twice;
 }
 
 static inline Change change_put(Address address, uint32_t value) {
@@ -802,15 +674,6 @@ static inline Slot slot_foreign(void) {
     return (Slot){ .tag = Slot_Foreign, .address = 0u, .value = 0u };
 }
 
-static inline LayoutOrCut layout_or_cut_err(void) {
-    return (LayoutOrCut){ .ok = false, .value = { .side = Side_First, .generation = 0u, .fill = 0u,
-            .current = 0u } };
-}
-
-static inline LayoutOrCut layout_or_cut_ok(Layout value) {
-    return (LayoutOrCut){ .ok = true, .value = value };
-}
-
 static inline MaybeSide maybe_side_none(void) {
     return (MaybeSide){ .some = false, .value = Side_First };
 }
@@ -819,41 +682,14 @@ static inline MaybeSide maybe_side_some(Side value) {
     return (MaybeSide){ .some = true, .value = value };
 }
 
-static inline LayoutOrOpenFault layout_or_open_fault_ok(Layout value) {
-    return (LayoutOrOpenFault){ .ok = true, .value = value, .error = { .tag = OpenFault_Scan,
-            .scan = { .tag = ScanFault_Unformatted, .page = 0u, .at = 0u } } };
-}
-
-static inline LayoutOrOpenFault layout_or_open_fault_err(OpenFault error) {
-    return (LayoutOrOpenFault){ .ok = false, .value = { .side = Side_First, .generation = 0u,
-            .fill = 0u, .current = 0u }, .error = error };
-}
-
-static inline OpenFault open_fault_cut(void) {
-    return (OpenFault){ .tag = OpenFault_Cut, .scan = { .tag = ScanFault_Unformatted, .page = 0u,
-            .at = 0u } };
-}
-
 static inline OpenFault open_fault_scan(ScanFault scan) {
-    return (OpenFault){ .tag = OpenFault_Scan, .scan = scan };
-}
-
-static inline ScanFault scan_fault_unformatted(void) {
-    return (ScanFault){ .tag = ScanFault_Unformatted, .page = 0u, .at = 0u };
-}
-
-static inline ScanResult scan_result_err(ScanFault error) {
-    return (ScanResult){ .ok = false, .value = { .side = Side_First, .generation = 0u, .fill = 0u,
-            .current = 0u }, .error = error };
+    return scan;
 }
 
 static inline ScanFault scan_fault_foreign(uint32_t page, uint32_t at) {
-    return (ScanFault){ .tag = ScanFault_Foreign, .page = page, .at = at };
-}
-
-static inline ScanResult scan_result_ok(Layout value) {
-    return (ScanResult){ .ok = true, .value = value, .error = { .tag = ScanFault_Unformatted,
-            .page = 0u, .at = 0u } };
+    (void)page;
+    (void)at;
+    return ScanFault_Foreign;
 }
 
 static inline FrontResult front_result_err(IndexPair error) {
@@ -872,22 +708,13 @@ static inline PlaceResult place_result_ok(uint32_t value) {
     return (PlaceResult){ .ok = true, .value = value, .error = 0u };
 }
 
-static inline ScanFault scan_fault_no_live_set(void) {
-    return (ScanFault){ .tag = ScanFault_NoLiveSet, .page = 0u, .at = 0u };
-}
-
 static inline LiveSetResult live_set_result_err(ScanFault error) {
     return (LiveSetResult){ .ok = false, .value = { .first = Side_First, .second = 0u },
             .error = error };
 }
 
 static inline LiveSetResult live_set_result_ok(LiveSet value) {
-    return (LiveSetResult){ .ok = true, .value = value, .error = { .tag = ScanFault_Unformatted,
-            .page = 0u, .at = 0u } };
-}
-
-static inline ScanFault scan_fault_two_live(void) {
-    return (ScanFault){ .tag = ScanFault_TwoLive, .page = 0u, .at = 0u };
+    return (LiveSetResult){ .ok = true, .value = value, .error = EE_OK };
 }
 
 #ifdef EE_INDEX
@@ -908,6 +735,10 @@ static inline MaybePlaced maybe_placed_some(Placed value) {
     return (MaybePlaced){ .some = true, .value = value };
 }
 #endif
+
+static inline bool open_fault_is_scan(OpenFault fault) {
+    return fault != OpenFault_Cut;
+}
 
 /* By hand. The difference, 0 where it would be less. */
 static inline uint32_t u32_saturating_sub(uint32_t a, uint32_t b) {
@@ -970,7 +801,7 @@ static bool gives_value(uint64_t number);
 static TablePlace place_of(uint32_t page, uint32_t at);
 EE_IN_PLACE bool fits(uint32_t generation, TablePlace place, Word word);
 static bool fits_header(uint32_t generation, uint32_t at, Word word);
-static ScanResult scan(const Device *flash);
+static ScanFault scan(const Device *flash, Layout *made);
 static bool is_unformatted(const Device *flash);
 static LiveSetResult live_set(const Device *flash);
 static FrontResult front_of(const Device *flash, Side side, uint32_t generation);
@@ -1126,43 +957,44 @@ EE_IN_PLACE MaybeLive slots_next_live(const Device *flash, const Layout *layout,
 EE_IN_PLACE Step slots_make_ready(const Device *_flash, const Layout *_layout, Put _put);
 EE_IN_PLACE Step slots_make_room(const Device *_flash, const Layout *_layout,
         const Put *_puts_items, uint32_t _puts_len);
+EE_IN_PLACE void slots_find_nothing(void);
 EE_IN_PLACE Step slots_append(Device *flash, Layout *layout, Change change);
 EE_IN_PLACE Step slots_transfer(Device *flash, Layout *layout, const Put *puts_items,
         uint32_t puts_len, bool forgets);
 static ReadResult known_read(const Known *self, const Device *flash, Address address);
-EE_IN_PLACE WriteResult known_write(Known *self, Device *flash, Address address, uint32_t value);
-EE_IN_PLACE ForgetResult known_forget(Known *self, Device *flash, Address address);
+EE_IN_PLACE WriteFault known_write(Known *self, Device *flash, Address address, uint32_t value);
+EE_IN_PLACE ForgetFault known_forget(Known *self, Device *flash, Address address);
 static CleanResult known_clean_step(const Known *self, Device *flash);
-EE_IN_PLACE WriteResult known_append_value(Known *self, Device *flash, Address address,
+EE_IN_PLACE WriteFault known_append_value(Known *self, Device *flash, Address address,
         uint32_t value);
-static WriteResult known_move_value(Known *self, Device *flash, Address address, uint32_t value);
+static WriteFault known_move_value(Known *self, Device *flash, Address address, uint32_t value);
 static bool known_has_no_place(const Known *self, const Device *flash, Address address);
 static uint32_t store_torn_slots(const Store *self);
-static WriteAllResult store_write_one(Store *self, Put put);
-static WriteAllResult store_write_several(Store *self, const Put *puts_items, uint32_t puts_len);
+static WriteAllFault store_write_one(Store *self, Put put);
+static WriteAllFault store_write_several(Store *self, const Put *puts_items, uint32_t puts_len);
 static bool store_is_full_for_all(const Store *self, const Put *puts_items, uint32_t puts_len);
 static bool store_is_last(const Store *self);
 static uint32_t store_slots(const Store *self);
 static ReadResult store_read(const Store *self, Address address);
-EE_IN_PLACE WriteResult store_write(Store *self, Address address, uint32_t value);
-static WriteAllResult store_write_all(Store *self, const Put *changes_items, uint32_t changes_len);
-static ForgetResult store_forget(Store *self, Address address);
-static ClearResult store_clear(Store *self);
+EE_IN_PLACE WriteFault store_write(Store *self, Address address, uint32_t value);
+static WriteAllFault store_write_all(Store *self, const Put *changes_items, uint32_t changes_len);
+static ForgetFault store_forget(Store *self, Address address);
+static ClearFault store_clear(Store *self);
 static CleanResult store_clean_step(Store *self);
 static uint32_t store_pending(const Store *self);
 static uint32_t store_fill(const Store *self);
 static uint32_t store_generation(const Store *self);
 static uint32_t store_live_count(const Store *self);
 static MaybeLive store_next_live(const Store *self, MaybeAddress after);
-static LayoutOrCut write_format(Device *flash);
+static Step write_format(Device *flash, Layout *made);
 static Step erase_all(Device *flash);
-static LayoutOrOpenFault open_on(Device *flash);
-static LayoutOrOpenFault start_on(Device *flash);
+static OpenFault open_on(Device *flash, Layout *made);
+static OpenFault start_on(Device *flash, Layout *made);
 static bool is_startable(const Device *flash, ScanFault fault);
 static bool holds_none(const Device *flash);
 static bool page_holds(const Device *flash, uint32_t page);
-static LayoutOrOpenFault start_anew(Device *flash);
-static LayoutOrCut rescue_set(Device *flash, Side side, uint32_t generation);
+static OpenFault start_anew(Device *flash, Layout *made);
+static Step rescue_set(Device *flash, Side side, uint32_t generation, Layout *made);
 #ifdef EE_INDEX
 static void renumber(Entry *entries_items, uint32_t entries_len, const Put *puts_items,
         uint32_t puts_len);
@@ -1249,199 +1081,131 @@ static MaybeIndex low_in_window(const uint64_t *numbers_items, uint32_t numbers_
 static MaybeIndex low_read(const Numbers *nor, uint32_t page, uint32_t from, uint32_t count);
 static bool is_low(uint64_t number, uint64_t check);
 
-/* ---- By hand: the device over the three functions of an `ee_flash`. */
+/* ---- By hand: the device over the three functions of an `ee_flash`. It is on while the pointer to
+ * its flash, which stands in the memory that the caller lends, isn't NULL. */
 
-static bool device_is_on(const Device *device) {
-    return device->power->flash != NULL;
-}
+static bool device_is_on(const Device *device) { return device->power->flash != NULL; }
 
-static void turn_off(const Device *device) {
+/* A step ended with this number: where it failed the device is off from here on. */
+EE_IN_PLACE Step step_ended(const Device *device, uint32_t failed) {
+    if (failed == 0u) { return DONE; }
     device->power->flash = NULL;
+    return CUT;
 }
 
-/* C's flash, while it is on and has this page; else NULL, and the device is off. */
-static const ee_flash *flash_with(const Device *device, uint32_t page) {
+/* A read ended with this number, which isn't 0: the word is torn, or the read itself failed. */
+EE_APART void read_failed(const Device *device, uint32_t failed) {
+    if (failed != EE_TORN) { device->power->flash = NULL; }
+}
+
+/* The flash, while it is on and has this page; else NULL, and the device is off. The page is asked
+ * for with a page's first place alone: slots and pages are looked through within the shape, and
+ * only a move goes on from page to page, as far as words say that change from look to look. */
+EE_IN_PLACE const ee_flash *flash_with(const Device *device, uint32_t page, uint32_t at) {
     const ee_flash *const flash = device->power->flash;
-    if (flash != NULL && page < 2u * flash->pages) {
-        return flash;
-    }
-    turn_off(device);
+    if (flash != NULL && (at != 0u || page < 2u * flash->pages)) { return flash; }
+    device->power->flash = NULL;
     return NULL;
 }
 
-/* Reads a word or a number into `value`. `false` if it can't be read; and where the read itself
- * failed the device is off from here on. */
-static bool device_found(const Device *device, const ee_flash *flash, uint32_t page, uint32_t at,
-        uint64_t *value) {
-    const uint32_t failed = flash->word(flash->context, page, at, value);
-    if (failed != 0u && failed != EE_TORN) {
-        turn_off(device);
-    }
-    return failed == 0u;
-}
-
-/* A step ended with this number: where it failed the device is off from here on. */
-static Step step_ended(const Device *device, uint32_t failed) {
-    if (failed != 0u) {
-        turn_off(device);
-        return CUT;
-    }
-    return DONE;
+/* A number of a flash of numbers. One that can't be read is 0: no word of a store is 0, so none is
+ * made of it. No read follows one that failed. */
+EE_APART uint64_t numbers_read(const Numbers *numbers, uint32_t page, uint32_t at) {
+    const ee_flash *const flash = numbers->power->flash;
+    uint64_t number;
+    if (flash == NULL) { return 0u; }
+    const uint32_t failed = flash->word(flash->context, page, at, &number);
+    if (failed == 0u) { return number; }
+    read_failed(numbers, failed);
+    return 0u;
 }
 
 /* So many words or numbers of a page from a place on, where C has them in memory; else no items. */
-static const uint64_t *seen_at(const ee_flash *flash, uint32_t page, uint32_t at, uint32_t count) {
-    return flash->words == NULL ? NULL : flash->words(flash->context, page, at, count);
-}
-
-/* A read of a number gave this, which isn't 0: unless the number is torn the device is off from
- * here on. */
-EE_APART void number_failed(const Device *device, uint32_t failed) {
-    if (failed != EE_TORN) {
-        turn_off(device);
-    }
-}
-
-/* A number of a flash of numbers. One that can't be read is taken as 0: no word of a store is 0, so
- * none is made of it. No read follows one that failed. */
-EE_APART uint64_t number_at(const Device *device, uint32_t page, uint32_t at) {
-    const ee_flash *const flash = device->power->flash;
-    uint64_t number;
-    if (flash == NULL) {
-        return 0u;
-    }
-    const uint32_t failed = flash->word(flash->context, page, at, &number);
-    if (failed != 0u) {
-        number_failed(device, failed);
-        return 0u;
-    }
-    return number;
-}
-
-/* These two stand in place, so that nothing of what they take and give goes through memory. While
- * the device is on it has the flash that it had. */
-EE_IN_PLACE uint64_t numbers_read(const Numbers *numbers, uint32_t page, uint32_t at) {
-    return number_at(numbers->device, page, at);
-}
-
 EE_IN_PLACE ListOfU64 numbers_window(const Numbers *numbers, uint32_t page, uint32_t at,
         uint32_t count) {
-    return (ListOfU64){ .items = seen_at(numbers->flash, page, at, count), .len = count };
+    const ee_flash *const flash = numbers->power->flash;
+    const bool may_be = flash != NULL && flash->words != NULL;
+    const uint64_t *const items = may_be ? flash->words(flash->context, page, at, count) : NULL;
+    return (ListOfU64){ .items = items, .len = count };
 }
 
-static Step numbers_program(const Numbers *numbers, uint32_t page, uint32_t at, uint64_t number) {
-    const ee_flash *const flash = numbers->flash;
-    return step_ended(numbers->device, flash->program(flash->context, page, at, number));
+/* `device_program` alone leads here, and sees before that the device is on and has the page. */
+EE_IN_PLACE Step numbers_program(const Numbers *numbers, uint32_t page, uint32_t at,
+        uint64_t number) {
+    const ee_flash *const flash = numbers->power->flash;
+    return step_ended(numbers, flash->program(flash->context, page, at, number));
 }
 
-/* The numbers of a device with this flash. */
-static Numbers numbers_of(const Device *device, const ee_flash *flash) {
-    return (Numbers){ .device = device, .flash = flash, .shape = device->shape };
-}
-
-/* What a word holds. One that reads as all ones is erased, and one that can't be read is torn.
- *
- * Slots and pages are looked through within the shape. Only a move goes on from page to page, as
- * far as words say that change from look to look, and it asks for the first word of each page
- * first. */
+/* What a word holds. One that reads as all ones is erased, and one that can't be read is torn. */
 static Word device_word(const Device *device, uint32_t page, uint32_t at) {
-    const ee_flash *const flash = device->power->flash;
-    if (flash == NULL || (at == 0u && page >= 2u * flash->pages)) {
-        turn_off(device);
-        return word_torn();
-    }
-    if (EE_IS_OF_PAIRS(flash)) {
-        const Numbers numbers = numbers_of(device, flash);
-        return pairs_word(&numbers, page, at);
-    }
+    const ee_flash *const flash = flash_with(device, page, at);
+    if (flash == NULL) { return word_torn(); }
+    if (EE_IS_OF_PAIRS(flash)) { return pairs_word(device, page, at); }
     uint64_t number = 0u;
-    if (!device_found(device, flash, page, at, &number)) {
+    const uint32_t failed = flash->word(flash->context, page, at, &number);
+    if (failed != 0u) {
+        read_failed(device, failed);
         return word_torn();
     }
-    if (number == UINT64_MAX) {
-        return word_erased();
-    }
-    return word_held(number);
+    return number == UINT64_MAX ? word_erased() : word_held(number);
 }
 
 /* Nothing is read any more, and what a run gives then counts for nothing: it is the same each
  * time. */
 EE_APART void fill_unread(uint64_t *items, uint32_t len) {
-    for (uint32_t at = 0u; at < len; at++) {
-        items[at] = UNREAD;
-    }
+    for (uint32_t at = 0u; at < len; at++) { items[at] = UNREAD; }
 }
 
 /* Asks for each word of a run. One that can't be read is 0. No read follows one that failed. */
 static void device_fill(const Device *device, const ee_flash *flash, uint32_t page, uint32_t at,
-        RoomOfU64 room) {
-    for (uint32_t place = 0u; place < room.len; place++) {
-        const uint32_t failed = flash->word(flash->context, page, at + place, &room.items[place]);
-        if (failed != 0u) {
-            room.items[place] = 0u;
-            if (failed != EE_TORN) {
-                turn_off(device);
-                fill_unread(&room.items[place], room.len - place);
-                return;
-            }
+        uint64_t *items, uint32_t len) {
+    for (uint32_t place = 0u; place < len; place++) {
+        const uint32_t failed = flash->word(flash->context, page, at + place, &items[place]);
+        if (failed == 0u) { continue; }
+        items[place] = 0u;
+        read_failed(device, failed);
+        if (!device_is_on(device)) {
+            fill_unread(&items[place], len - place);
+            return;
         }
     }
 }
 
 /* The numbers of the words from a place on, as many as there is room for: all ones of an erased
- * word, 0 of a torn one. They stand in the room, or where C has them. It asks for pages as
- * `device_word` does. */
+ * word, 0 of a torn one. They stand in the room, or where C has them. */
 EE_APART const uint64_t *run_at(const Device *device, uint32_t page, uint32_t at, uint64_t *items,
         uint32_t len) {
-    const ee_flash *const flash = device->power->flash;
-    if (flash == NULL || (at == 0u && page >= 2u * flash->pages)) {
-        turn_off(device);
+    const ee_flash *const flash = flash_with(device, page, at);
+    if (flash == NULL) {
         fill_unread(items, len);
-        return items;
+    } else if (EE_IS_OF_PAIRS(flash)) {
+        pairs_run(device, page, at, items, len);
+    } else {
+        const uint64_t *const seen = numbers_window(device, page, at, len).items;
+        if (seen != NULL) { return seen; }
+        device_fill(device, flash, page, at, items, len);
     }
-    if (EE_IS_OF_PAIRS(flash)) {
-        const Numbers numbers = numbers_of(device, flash);
-        pairs_run(&numbers, page, at, items, len);
-        return items;
-    }
-    const uint64_t *const seen = seen_at(flash, page, at, len);
-    if (seen != NULL) {
-        return seen;
-    }
-    device_fill(device, flash, page, at, (RoomOfU64){ .items = items, .len = len });
     return items;
 }
 
 /* The same as a list, which has the room's length: in place, so that no list goes through
  * memory. */
-EE_IN_PLACE ListOfU64 device_run(const Device *device, uint32_t page, uint32_t at,
-        RoomOfU64 room) {
+EE_IN_PLACE ListOfU64 device_run(const Device *device, uint32_t page, uint32_t at, RoomOfU64 room) {
     return (ListOfU64){ .items = run_at(device, page, at, room.items, room.len), .len = room.len };
 }
 
-static Step device_program(const Device *device, uint32_t page, uint32_t at, uint64_t value) {
-    const ee_flash *const flash = flash_with(device, page);
-    if (flash == NULL) {
-        return CUT;
-    }
-    if (EE_IS_OF_PAIRS(flash)) {
-        Numbers numbers = numbers_of(device, flash);
-        return pairs_program(&numbers, page, at, value);
-    }
-    return step_ended(device, flash->program(flash->context, page, at, value));
+static Step device_program(Device *device, uint32_t page, uint32_t at, uint64_t value) {
+    const ee_flash *const flash = flash_with(device, page, 0u);
+    if (flash == NULL) { return CUT; }
+    return EE_IS_OF_PAIRS(flash) ? pairs_program(device, page, at, value)
+            : numbers_program(device, page, at, value);
 }
 
 /* A page is erased the same whatever it has. */
 static Step device_erase(const Device *device, uint32_t page) {
-    const ee_flash *const flash = flash_with(device, page);
-    if (flash == NULL) {
-        return CUT;
-    }
-    return step_ended(device, flash->erase(flash->context, page));
+    const ee_flash *const flash = flash_with(device, page, 0u);
+    return flash == NULL ? CUT : step_ended(device, flash->erase(flash->context, page));
 }
-
-/* ---- By hand: how a store finds values. By the index that its flash lends, if ee.c was compiled
- * with EE_INDEX and there is one; else it looks through its slots. */
 
 #ifdef EE_INDEX
 #ifdef __GNUC__
@@ -1451,7 +1215,7 @@ static Step device_erase(const Device *device, uint32_t page) {
 #define EE_MOVE memmove
 #endif
 
-/* The place of the entry of an address, or in an error the place where one would stand. */
+/* By hand. The place of the entry of an address, or in an error the place where one would stand. */
 static PlaceResult search(const Entry *entries, uint32_t count, Address address) {
     uint32_t from = 0u;
     uint32_t to = count;
@@ -1469,66 +1233,110 @@ static PlaceResult search(const Entry *entries, uint32_t count, Address address)
     return place_result_err(from);
 }
 
-/* Moves the entries from a place up to another, so that they begin at a third. */
+/* By hand. Moves the entries from a place up to another, so that they begin at a third. */
 static void copy_within(Entry *entries, uint32_t from, uint32_t end, uint32_t to) {
     EE_MOVE(&entries[to], &entries[from], (size_t)(end - from) * sizeof(Entry));
 }
-
-#define EE_FIND(self, name, ...) \
-    (*(self) == NULL ? slots_##name(__VA_ARGS__) : lent_index_##name(*(self), __VA_ARGS__))
-#else
-#define EE_FIND(self, name, ...) ((void)(self), slots_##name(__VA_ARGS__))
 #endif
 
+/* How a store finds values: by the index that its flash lends, if ee.c was compiled with
+ * EE_INDEX and there is one; else it looks through its slots. */
 EE_IN_PLACE MaybeU32 lookup_value_of(const Lookup *self, const Device *flash, const Layout *layout,
         Address address) {
-    return EE_FIND(self, value_of, flash, layout, address);
+#ifdef EE_INDEX
+    if (*self != NULL) {
+        return lent_index_value_of(*self, flash, layout, address);
+    }
+#endif
+    (void)self;
+    return slots_value_of(flash, layout, address);
 }
 
 EE_IN_PLACE uint32_t lookup_live_count(const Lookup *self, const Device *flash,
         const Layout *layout) {
-    return EE_FIND(self, live_count, flash, layout);
+#ifdef EE_INDEX
+    if (*self != NULL) {
+        return lent_index_live_count(*self, flash, layout);
+    }
+#endif
+    (void)self;
+    return slots_live_count(flash, layout);
 }
 
-EE_IN_PLACE uint32_t lookup_live_with(const Lookup *self, const Device *flash, const Layout *layout,
-        const Put *puts, uint32_t count) {
-    return EE_FIND(self, live_with, flash, layout, puts, count);
+EE_IN_PLACE uint32_t lookup_live_with(const Lookup *self, const Device *flash,
+        const Layout *layout, const Put *puts_items, uint32_t puts_len) {
+#ifdef EE_INDEX
+    if (*self != NULL) {
+        return lent_index_live_with(*self, flash, layout, puts_items, puts_len);
+    }
+#endif
+    (void)self;
+    return slots_live_with(flash, layout, puts_items, puts_len);
 }
 
 EE_IN_PLACE MaybeLive lookup_next_live(const Lookup *self, const Device *flash,
-        const Layout *layout,
-        MaybeAddress after) {
-    return EE_FIND(self, next_live, flash, layout, after);
+        const Layout *layout, MaybeAddress after) {
+#ifdef EE_INDEX
+    if (*self != NULL) {
+        return lent_index_next_live(*self, flash, layout, after);
+    }
+#endif
+    (void)self;
+    return slots_next_live(flash, layout, after);
 }
 
-EE_IN_PLACE Step lookup_make_ready(Lookup *self, const Device *flash, const Layout *layout,
+EE_IN_PLACE Step lookup_make_ready(Lookup *self, const Device *_flash, const Layout *layout,
         Put put) {
-    return EE_FIND(self, make_ready, flash, layout, put);
+#ifdef EE_INDEX
+    if (*self != NULL) {
+        return lent_index_make_ready(*self, _flash, layout, put);
+    }
+#endif
+    (void)self;
+    return slots_make_ready(_flash, layout, put);
 }
 
-EE_IN_PLACE Step lookup_make_room(Lookup *self, const Device *flash, const Layout *layout,
-        const Put *puts, uint32_t count) {
-    return EE_FIND(self, make_room, flash, layout, puts, count);
+EE_IN_PLACE Step lookup_make_room(Lookup *self, const Device *_flash, const Layout *layout,
+        const Put *puts_items, uint32_t puts_len) {
+#ifdef EE_INDEX
+    if (*self != NULL) {
+        return lent_index_make_room(*self, _flash, layout, puts_items, puts_len);
+    }
+#endif
+    (void)self;
+    return slots_make_room(_flash, layout, puts_items, puts_len);
 }
 
 EE_IN_PLACE Step lookup_append(Lookup *self, Device *flash, Layout *layout, Change change) {
-    return EE_FIND(self, append, flash, layout, change);
+#ifdef EE_INDEX
+    if (*self != NULL) {
+        return lent_index_append(*self, flash, layout, change);
+    }
+#endif
+    (void)self;
+    return slots_append(flash, layout, change);
 }
 
-EE_IN_PLACE Step lookup_transfer(Lookup *self, Device *flash, Layout *layout, const Put *puts,
-        uint32_t count, bool forgets) {
-    return EE_FIND(self, transfer, flash, layout, puts, count, forgets);
+EE_IN_PLACE Step lookup_transfer(Lookup *self, Device *flash, Layout *layout,
+        const Put *puts_items, uint32_t puts_len, bool forgets) {
+#ifdef EE_INDEX
+    if (*self != NULL) {
+        return lent_index_transfer(*self, flash, layout, puts_items, puts_len, forgets);
+    }
+#endif
+    (void)self;
+    return slots_transfer(flash, layout, puts_items, puts_len, forgets);
 }
 
-/* Slots that keep nothing have nothing to follow here. */
 EE_IN_PLACE void lookup_find_nothing(Lookup *self) {
 #ifdef EE_INDEX
     if (*self != NULL) {
         lent_index_find_nothing(*self);
+        return;
     }
-#else
-    (void)self;
 #endif
+    (void)self;
+    slots_find_nothing();
 }
 
 /* ---- ee_flash/shape.rs: How large a device is: two sets of as many pages, and each page a
@@ -1896,13 +1704,13 @@ static bool fits_header(uint32_t generation, uint32_t at, Word word) {
  * Errors:
  *
  * The first `ScanFault` that applies, exactly where the image is not legal. */
-static ScanResult scan(const Device *flash) {
+static ScanFault scan(const Device *flash, Layout *made) {
     if (is_unformatted(flash)) {
-        return scan_result_err(scan_fault_unformatted());
+        return ScanFault_Unformatted;
     }
     const LiveSetResult live_set_result = live_set(flash);
     if (!live_set_result.ok) {
-        return scan_result_err(live_set_result.error);
+        return live_set_result.error;
     }
     const LiveSet side_and_generation = live_set_result.value;
     const Side side = side_and_generation.first;
@@ -1912,12 +1720,13 @@ static ScanResult scan(const Device *flash) {
     if (!front_of_result.ok) {
         const uint32_t page = front_of_result.error.first;
         const uint32_t at = front_of_result.error.second;
-        return scan_result_err(scan_fault_foreign(start + page, at));
+        return scan_fault_foreign(start + page, at);
     }
     const uint32_t fill = front_of_result.value.first;
     const uint32_t page = front_of_result.value.second;
-    return scan_result_ok((Layout){ .side = side, .generation = generation, .fill = fill,
-            .current = start + page });
+    *made = (Layout){ .side = side, .generation = generation, .fill = fill,
+            .current = start + page };
+    return EE_OK;
 }
 
 /* Whether every word of the device is erased. */
@@ -1935,7 +1744,7 @@ static LiveSetResult live_set(const Device *flash) {
     const MaybeU32 maybe_committed = committed(flash, Side_First);
     const MaybeU32 maybe_committed_2 = committed(flash, Side_Second);
     if (!maybe_committed.some && !maybe_committed_2.some) {
-        return live_set_result_err(scan_fault_no_live_set());
+        return live_set_result_err(ScanFault_NoLiveSet);
     }
     if (maybe_committed.some && !maybe_committed_2.some) {
         const uint32_t first = maybe_committed.value;
@@ -1948,7 +1757,7 @@ static LiveSetResult live_set(const Device *flash) {
     const uint32_t first = maybe_committed.value;
     const uint32_t second = maybe_committed_2.value;
     if (first == second) {
-        return live_set_result_err(scan_fault_two_live());
+        return live_set_result_err(ScanFault_TwoLive);
     }
     if (second < first) {
         return live_set_result_ok((LiveSet){ .first = Side_First, .second = first });
@@ -3381,6 +3190,10 @@ EE_IN_PLACE Step slots_make_room(const Device *_flash, const Layout *_layout,
     return DONE;
 }
 
+/* Follows a clear: it finds nothing from here on. */
+EE_IN_PLACE void slots_find_nothing(void) {
+}
+
 /* Makes a change to which no refusal applies in the first free slot. The layout and
  * the look-up follow. */
 EE_IN_PLACE Step slots_append(Device *flash, Layout *layout, Change change) {
@@ -3407,9 +3220,9 @@ static ReadResult known_read(const Known *self, const Device *flash, Address add
 }
 
 /* `Variables::write` on the device of which this is known. */
-EE_IN_PLACE WriteResult known_write(Known *self, Device *flash, Address address, uint32_t value) {
+EE_IN_PLACE WriteFault known_write(Known *self, Device *flash, Address address, uint32_t value) {
     if (!device_is_on(flash)) {
-        return write_result_err(WriteFault_Off);
+        return WriteFault_Off;
     }
     if (self->layout.fill < shape_slots(flash->shape)) {
         return known_append_value(self, flash, address, value);
@@ -3418,33 +3231,33 @@ EE_IN_PLACE WriteResult known_write(Known *self, Device *flash, Address address,
 }
 
 /* `Variables::forget` on the device of which this is known. */
-EE_IN_PLACE ForgetResult known_forget(Known *self, Device *flash, Address address) {
+EE_IN_PLACE ForgetFault known_forget(Known *self, Device *flash, Address address) {
     if (!device_is_on(flash)) {
-        return forget_result_err(ForgetFault_Off);
+        return ForgetFault_Off;
     }
     const MaybeU32 maybe_value = lookup_value_of(&self->lookup, flash, &self->layout, address);
     if (!maybe_value.some) {
-        return forget_result_err(ForgetFault_Absent);
+        return ForgetFault_Absent;
     }
     const uint32_t value = maybe_value.value;
     if (self->layout.fill < shape_slots(flash->shape)) {
         const Change change = change_forget(address, value);
         const Step append_result = lookup_append(&self->lookup, flash, &self->layout, change);
         if (append_result == DONE) {
-            return forget_result_ok(Written_Appended);
+            return EE_OK;
         }
-        return forget_result_err(ForgetFault_Cut);
+        return ForgetFault_Cut;
     }
     if (self->layout.generation == GREATEST_GENERATION) {
-        return forget_result_err(ForgetFault_Spent);
+        return ForgetFault_Spent;
     }
     const Put put = (Put){ .address = address, .value = value };
     const Step transfer_result = lookup_transfer(&self->lookup, flash, &self->layout, &put, 1u,
             true);
     if (transfer_result == DONE) {
-        return forget_result_ok(Written_Moved);
+        return EE_OK;
     }
-    return forget_result_err(ForgetFault_Cut);
+    return ForgetFault_Cut;
 }
 
 /* `Variables::clean_step` on the device of which this is known. */
@@ -3460,40 +3273,40 @@ static CleanResult known_clean_step(const Known *self, Device *flash) {
 }
 
 /* Writes a value into the first free slot. */
-EE_IN_PLACE WriteResult known_append_value(Known *self, Device *flash, Address address,
+EE_IN_PLACE WriteFault known_append_value(Known *self, Device *flash, Address address,
         uint32_t value) {
     const Put put = (Put){ .address = address, .value = value };
     const Step make_ready_result = lookup_make_ready(&self->lookup, flash, &self->layout, put);
     if (make_ready_result != DONE) {
-        return write_result_err(WriteFault_Memory);
+        return WriteFault_Memory;
     }
     const Change change = change_put(address, value);
     const Step append_result = lookup_append(&self->lookup, flash, &self->layout, change);
     if (append_result == DONE) {
-        return write_result_ok(Written_Appended);
+        return EE_OK;
     }
-    return write_result_err(WriteFault_Cut);
+    return WriteFault_Cut;
 }
 
 /* Writes a value with the transfer that it needs, since every slot is used. */
-static WriteResult known_move_value(Known *self, Device *flash, Address address, uint32_t value) {
+static WriteFault known_move_value(Known *self, Device *flash, Address address, uint32_t value) {
     if (known_has_no_place(self, flash, address)) {
-        return write_result_err(WriteFault_Full);
+        return WriteFault_Full;
     }
     if (self->layout.generation == GREATEST_GENERATION) {
-        return write_result_err(WriteFault_Spent);
+        return WriteFault_Spent;
     }
     Put puts[1] = {(Put){ .address = address, .value = value }};
     const Step make_room_result = lookup_make_room(&self->lookup, flash, &self->layout, puts, 1u);
     if (make_room_result != DONE) {
-        return write_result_err(WriteFault_Memory);
+        return WriteFault_Memory;
     }
     const Step transfer_result = lookup_transfer(&self->lookup, flash, &self->layout, puts, 1u,
             false);
     if (transfer_result == DONE) {
-        return write_result_ok(Written_Moved);
+        return EE_OK;
     }
-    return write_result_err(WriteFault_Cut);
+    return WriteFault_Cut;
 }
 
 /* Whether the address has no value and there is no slot for one more. */
@@ -3516,50 +3329,50 @@ static uint32_t store_torn_slots(const Store *self) {
 }
 
 /* Writes the one value of a list. */
-static WriteAllResult store_write_one(Store *self, Put put) {
-    const WriteResult write_result = store_write(self, put.address, put.value);
-    if (write_result.ok) {
-        return write_all_result_ok(write_result.value);
+static WriteAllFault store_write_one(Store *self, Put put) {
+    const WriteFault write_fault = store_write(self, put.address, put.value);
+    if (write_fault == EE_OK) {
+        return EE_OK;
     }
-    if (!write_result.ok && write_result.error == WriteFault_Off) {
-        return write_all_result_err(write_all_fault_off());
+    if (write_fault == WriteFault_Off) {
+        return WriteAllFault_Off;
     }
-    if (!write_result.ok && write_result.error == WriteFault_Full) {
-        return write_all_result_err(write_all_fault_full());
+    if (write_fault == WriteFault_Full) {
+        return WriteAllFault_Full;
     }
-    if (!write_result.ok && write_result.error == WriteFault_Spent) {
-        return write_all_result_err(write_all_fault_spent());
+    if (write_fault == WriteFault_Spent) {
+        return WriteAllFault_Spent;
     }
-    if (!write_result.ok && write_result.error == WriteFault_Cut) {
-        return write_all_result_err(write_all_fault_cut());
+    if (write_fault == WriteFault_Cut) {
+        return WriteAllFault_Cut;
     }
-    return write_all_result_err(write_all_fault_memory());
+    return WriteAllFault_Memory;
 }
 
 /* Writes two values or more, with a transfer. */
-static WriteAllResult store_write_several(Store *self, const Put *puts_items, uint32_t puts_len) {
+static WriteAllFault store_write_several(Store *self, const Put *puts_items, uint32_t puts_len) {
     const ListOfPut puts = { .items = puts_items, .len = puts_len };
     const MaybeIndex maybe_place = first_twice(puts.items, puts.len);
     if (maybe_place.some) {
-        return write_all_result_err(write_all_fault_twice(maybe_place.value));
+        return write_all_fault_twice(maybe_place.value);
     }
     if (store_is_full_for_all(self, puts.items, puts.len)) {
-        return write_all_result_err(write_all_fault_full());
+        return WriteAllFault_Full;
     }
     if (store_is_last(self)) {
-        return write_all_result_err(write_all_fault_spent());
+        return WriteAllFault_Spent;
     }
     const Step make_room_result = lookup_make_room(&self->known.lookup, &self->flash,
             &self->known.layout, puts.items, puts.len);
     if (make_room_result != DONE) {
-        return write_all_result_err(write_all_fault_memory());
+        return WriteAllFault_Memory;
     }
     const Step transfer_result = lookup_transfer(&self->known.lookup, &self->flash,
             &self->known.layout, puts.items, puts.len, false);
     if (transfer_result == DONE) {
-        return write_all_result_ok(Written_Moved);
+        return EE_OK;
     }
-    return write_all_result_err(write_all_fault_cut());
+    return WriteAllFault_Cut;
 }
 
 /* Whether more addresses would have a value than there are slots, with these values, each of
@@ -3596,7 +3409,7 @@ static ReadResult store_read(const Store *self, Address address) {
  * Errors:
  *
  * The first `WriteFault` that applies. */
-EE_IN_PLACE WriteResult store_write(Store *self, Address address, uint32_t value) {
+EE_IN_PLACE WriteFault store_write(Store *self, Address address, uint32_t value) {
     return known_write(&self->known, &self->flash, address, value);
 }
 
@@ -3607,13 +3420,13 @@ EE_IN_PLACE WriteResult store_write(Store *self, Address address, uint32_t value
  * Errors:
  *
  * The first `WriteAllFault` that applies. */
-static WriteAllResult store_write_all(Store *self, const Put *changes_items, uint32_t changes_len) {
+static WriteAllFault store_write_all(Store *self, const Put *changes_items, uint32_t changes_len) {
     const ListOfPut changes = { .items = changes_items, .len = changes_len };
     if (!device_is_on(&self->flash)) {
-        return write_all_result_err(write_all_fault_off());
+        return WriteAllFault_Off;
     }
     if (changes.len == 0u) {
-        return write_all_result_ok(Written_Appended);
+        return EE_OK;
     }
     if (changes.len == 1u) {
         return store_write_one(self, changes.items[0u]);
@@ -3626,7 +3439,7 @@ static WriteAllResult store_write_all(Store *self, const Put *changes_items, uin
  * Errors:
  *
  * The first `ForgetFault` that applies. */
-static ForgetResult store_forget(Store *self, Address address) {
+static ForgetFault store_forget(Store *self, Address address) {
     return known_forget(&self->known, &self->flash, address);
 }
 
@@ -3638,22 +3451,22 @@ static ForgetResult store_forget(Store *self, Address address) {
  * Errors:
  *
  * The first `ClearFault` that applies. */
-static ClearResult store_clear(Store *self) {
+static ClearFault store_clear(Store *self) {
     if (!device_is_on(&self->flash)) {
-        return clear_result_err(ClearFault_Off);
+        return ClearFault_Off;
     }
     if (self->known.layout.fill == 0u) {
-        return clear_result_ok(false);
+        return EE_OK;
     }
     if (store_is_last(self)) {
-        return clear_result_err(ClearFault_Spent);
+        return ClearFault_Spent;
     }
     const Step empty_result = empty(&self->flash, &self->known.layout);
     if (empty_result == DONE) {
         lookup_find_nothing(&self->known.lookup);
-        return clear_result_ok(true);
+        return EE_OK;
     }
-    return clear_result_err(ClearFault_Cut);
+    return ClearFault_Cut;
 }
 
 /* Erases the lowest page of the other set that is not blank. `false` if there is none.
@@ -3696,18 +3509,18 @@ static MaybeLive store_next_live(const Store *self, MaybeAddress after) {
 
 /* Erases what is not blank, makes the first set the live one with generation 1, and gives the
  * layout. */
-static LayoutOrCut write_format(Device *flash) {
+static Step write_format(Device *flash, Layout *made) {
     if (erase_all(flash) == CUT) {
-        return layout_or_cut_err();
+        return CUT;
     }
     if (marking_mark(flash, 0u, mark_receive(1u)) == CUT) {
-        return layout_or_cut_err();
+        return CUT;
     }
     if (marking_mark(flash, 0u, mark_active()) == CUT) {
-        return layout_or_cut_err();
+        return CUT;
     }
-    return layout_or_cut_ok((Layout){ .side = Side_First, .generation = 1u, .fill = 0u,
-            .current = 0u });
+    *made = (Layout){ .side = Side_First, .generation = 1u, .fill = 0u, .current = 0u };
+    return DONE;
 }
 
 /* Erases each page that is not blank, by rising page. */
@@ -3726,45 +3539,42 @@ static Step erase_all(Device *flash) {
  * any device. */
 
 /* `open` in place: the layout of the store that the device becomes. */
-static LayoutOrOpenFault open_on(Device *flash) {
-    Layout layout;
-    const ScanResult scan_result = scan(flash);
-    if (scan_result.ok) {
-        layout = scan_result.value;
-    } else {
-        return layout_or_open_fault_err(open_fault_scan(scan_result.error));
+static OpenFault open_on(Device *flash, Layout *made) {
+    const ScanFault scan_fault = scan(flash, made);
+    if (scan_fault != EE_OK) {
+        return open_fault_scan(scan_fault);
     }
-    const Step finish_result = finish(flash, &layout);
+    const Step finish_result = finish(flash, made);
     if (finish_result == DONE) {
-        return layout_or_open_fault_ok(layout);
+        return EE_OK;
     }
-    return layout_or_open_fault_err(open_fault_cut());
+    return OpenFault_Cut;
 }
 
 /* ---- ee_core/first_start.rs: The call for whenever a device is switched on: it opens the
  * store, or makes the first one. */
 
 /* `start` in place: the layout of the store that the device becomes. */
-static LayoutOrOpenFault start_on(Device *flash) {
+static OpenFault start_on(Device *flash, Layout *made) {
     OpenFault fault;
-    const LayoutOrOpenFault open_on_result = open_on(flash);
-    if (open_on_result.ok) {
-        return layout_or_open_fault_ok(open_on_result.value);
+    const OpenFault open_on_fault = open_on(flash, made);
+    if (open_on_fault == EE_OK) {
+        return EE_OK;
     }
-    fault = open_on_result.error;
-    if (fault.tag != OpenFault_Scan) {
-        return layout_or_open_fault_err(fault);
+    fault = open_on_fault;
+    if (!open_fault_is_scan(fault)) {
+        return fault;
     }
-    const ScanFault scan_2 = fault.scan;
+    const ScanFault scan_2 = fault;
     if (!is_startable(flash, scan_2)) {
-        return layout_or_open_fault_err(fault);
+        return fault;
     }
-    return start_anew(flash);
+    return start_anew(flash, made);
 }
 
 /* Whether a device of which a scan says this can be started. */
 static bool is_startable(const Device *flash, ScanFault fault) {
-    switch (fault.tag) {
+    switch (fault) {
     case ScanFault_Unformatted:
         return true;
     case ScanFault_NoLiveSet:
@@ -3799,12 +3609,12 @@ static bool page_holds(const Device *flash, uint32_t page) {
 }
 
 /* Makes the first store. */
-static LayoutOrOpenFault start_anew(Device *flash) {
-    const LayoutOrCut write_format_result = write_format(flash);
-    if (write_format_result.ok) {
-        return layout_or_open_fault_ok(write_format_result.value);
+static OpenFault start_anew(Device *flash, Layout *made) {
+    const Step write_format_fault = write_format(flash, made);
+    if (write_format_fault == DONE) {
+        return EE_OK;
     }
-    return layout_or_open_fault_err(open_fault_cut());
+    return OpenFault_Cut;
 }
 
 /* ---- ee_core/rescuing.rs: A rescue: the map that a set says is moved to the other set,
@@ -3812,12 +3622,12 @@ static LayoutOrOpenFault start_anew(Device *flash) {
 
 /* Moves the map that a set says to the other set, in the generation above this one, which is no
  * smaller than the one that the set is committed with. Gives the layout there. */
-static LayoutOrCut rescue_set(Device *flash, Side side, uint32_t generation) {
-    Layout layout = (Layout){ .side = side, .generation = generation, .fill = 0u, .current = 0u };
-    if (transfer_by_slots(flash, &layout, NULL, 0u, false) == CUT) {
-        return layout_or_cut_err();
+static Step rescue_set(Device *flash, Side side, uint32_t generation, Layout *made) {
+    *made = (Layout){ .side = side, .generation = generation, .fill = 0u, .current = 0u };
+    if (transfer_by_slots(flash, made, NULL, 0u, false) == CUT) {
+        return CUT;
     }
-    return layout_or_cut_ok(layout);
+    return DONE;
 }
 
 #ifdef EE_INDEX
@@ -4563,461 +4373,232 @@ static struct ee_power *power_of(const ee_store *memory) {
     return &((ee_store *)memory)->memory.parts.power;
 }
 
-/* Begins a call on a store in memory that C lends: EE_OK, or why not. No call begins with another
- * pointer that is NULL, nor with a number that is no address. A copy of a store has the place of
- * that store, and is off. */
-static ee_result begun(const ee_store *memory, uint16_t address, const void *other) {
-    if (memory == NULL) {
-        return EE_NULL;
-    }
+/* Begins a call on a store, with an address of it; of a call that has none it is 1. EE_OK, or why
+ * not. A copy of a store has the place of that store, and is off. */
+static ee_result begun(const ee_store *memory, uint16_t address) {
+    if (memory == NULL) { return EE_NULL; }
     struct ee_power *const power = power_of(memory);
     if (power->idle != memory) {
         return power->idle == NULL &&
                 power->flash != NULL ? (ee_result)EE_BUSY : (ee_result)EE_NOT_OPEN;
     }
-    if (other == NULL) {
-        return EE_NULL;
-    }
-    if (!address_new(address).some) {
-        return EE_WRONG_NUMBER;
-    }
+    if (!address_new(address).some) { return EE_WRONG_NUMBER; }
     power->idle = NULL;
     EE_IN_ORDER();
     return EE_OK;
 }
 
-/* The address for `begun` of a call that has none. */
-#define EE_NO_ADDRESS 1u
+/* The same of a call with another pointer, which is refused before the address. */
+static ee_result begun_with(const ee_store *memory, uint16_t address, const void *other) {
+    const ee_result status = begun(memory, other == NULL ? 0u : address);
+    return status == EE_WRONG_NUMBER && other == NULL ? (ee_result)EE_NULL : status;
+}
 
-/* Ends a call whose flash didn't fail, and gives its status: the store takes a call again. */
-EE_IN_PLACE ee_result ended_well(ee_result status, const ee_store *memory) {
+/* Ends a call that answered this, and gives its status: the store takes a call again. What it says
+ * counts only where its flash didn't fail. */
+static ee_result ended(ee_result status, const ee_store *memory) {
+    struct ee_power *const power = power_of(memory);
+    if (power->flash == NULL) { return EE_DRIVER; }
     EE_IN_ORDER();
-    power_of(memory)->idle = memory;
+    power->idle = memory;
     return status;
 }
 
-/* Ends a call that answered this, and gives its status: what a store says counts only where its
- * flash didn't fail. */
-static ee_result ended(ee_result status, const ee_store *memory) {
-    return power_of(memory)->flash == NULL ? (ee_result)EE_DRIVER : ended_well(status, memory);
-}
-
-/* Whether the flash failed in a call. */
-static bool is_broken(const ee_store *memory) {
-    return memory->memory.parts.power.flash == NULL;
-}
-
-static ee_result scan_status(ScanFault fault) {
-    switch (fault.tag) {
-    case ScanFault_Unformatted:
-        return EE_UNFORMATTED;
-    case ScanFault_NoLiveSet:
-        return EE_NO_LIVE_SET;
-    case ScanFault_TwoLive:
-        return EE_TWO_LIVE;
-    case ScanFault_Foreign:
-    default:
-        return EE_FOREIGN;
-    }
-}
-
-#ifdef EE_NO_PAIRS
-#define EE_GREATEST_KIND EE_WORDS
-#else
-#define EE_GREATEST_KIND EE_PAIRS_CLEARING
-#endif
-
-/* The flash of C as a device in memory that is on, where its members are in range; else why not. */
-static ee_result device_in(ee_store *memory, const ee_flash *flash, Device *device) {
-    if (memory == NULL) {
-        return EE_NULL;
-    }
-    memory->memory.parts.power = (struct ee_power){ .flash = NULL, .idle = NULL };
+/* Makes the device of a flash, on where the members of that are in range; else says why not. */
+static ee_result device_in(ee_store *memory, const ee_flash *flash) {
+    if (memory == NULL) { return EE_NULL; }
+    struct ee_power *const power = power_of(memory);
+    *power = (struct ee_power){ .flash = NULL, .idle = NULL };
     if (flash == NULL || flash->word == NULL || flash->program == NULL || flash->erase == NULL) {
         return EE_NULL;
     }
     const MaybeShape shape = shape_new(flash->pages, flash->page_words);
-    if (!shape.some || flash->kind > EE_GREATEST_KIND) {
-        return EE_WRONG_SHAPE;
-    }
-    memory->memory.parts.power.flash = flash;
-    *device = (Device){ .power = &memory->memory.parts.power, .shape = shape.value };
+    if (!shape.some || flash->kind > EE_GREATEST_KIND) { return EE_WRONG_SHAPE; }
+    power->flash = flash;
+    memory->memory.parts.store.flash = (Device){ .power = power, .shape = shape.value };
     return EE_OK;
 }
 
 /* An opening ends with this status: the store is off unless it is EE_OK. */
 EE_APART ee_result opening_ended(ee_result status, ee_store *memory) {
-    const ee_result answer = ended(status, memory);
-    if (answer != EE_OK) {
-        memory->memory.parts.power = (struct ee_power){ .flash = NULL, .idle = NULL };
-    }
-    return answer;
-}
-
-/* Keeps the store of a device of which this is the layout, with the index that its flash lends. */
-static void keep_store(ee_store *memory, const Device *device, const Layout *layout) {
+    struct ee_power *const power = power_of(memory);
     Store *const store = &memory->memory.parts.store;
-    *store = (Store){ .flash = *device, .known = { .layout = *layout, .lookup = NULL } };
+    store->known.lookup = NULL;
 #ifdef EE_INDEX
-    const ee_flash *const flash = device->power->flash;
-    if (flash != NULL && flash->index != NULL) {
-        store->known.lookup = flash->index;
-        lent_index_read_anew(flash->index, &store->flash, &store->known.layout);
+    if (status == EE_OK && power->flash != NULL && power->flash->index != NULL) {
+        store->known.lookup = power->flash->index;
+        lent_index_read_anew(store->known.lookup, &store->flash, &store->known.layout);
     }
 #endif
-}
-
-/* Looks a flash of numbers through before it is opened, unless its erases clear first: EE_FOREIGN
- * where a word is no store's. */
-EE_APART ee_result looked_through(const Device *device) {
-    const ee_flash *const flash = device->power->flash;
-    if (EE_IS_OF_PAIRS(flash) && flash->kind == EE_PAIRS) {
-        const Numbers numbers = numbers_of(device, flash);
-        if (first_low(&numbers).some) {
-            return EE_FOREIGN;
-        }
-    }
-    return EE_OK;
+    const ee_result answer = ended(status, memory);
+    if (answer != EE_OK) { *power = (struct ee_power){ .flash = NULL, .idle = NULL }; }
+    return answer;
 }
 
 /* Whether a word is written that a first start which was cut doesn't leave: any but the first two
  * of page 0, or but those of page 0 where an erase clears first. */
 EE_APART bool holds_more(const Device *device, bool clears_first) {
     const uint32_t from = clears_first ? device->shape.words : 2u;
-    if (blank_to(device, 0u, from) != device->shape.words) {
-        return true;
+    bool found = blank_to(device, 0u, from) != device->shape.words;
+    for (uint32_t page = 1u; !found && page < 2u * device->shape.pages; page++) {
+        found = !state_is_blank(device, page);
     }
-    for (uint32_t page = 1u; page < 2u * device->shape.pages; page++) {
-        if (!state_is_blank(device, page)) {
-            return true;
-        }
-    }
-    return false;
+    return found;
 }
 
-/* How a store is opened. */
-enum {
-    HOW_OPEN,
-    HOW_START,
-    HOW_FORMAT
-};
-#ifdef EE_NO_OPEN
-#define EE_IS_HOW(how, it) ((void)(how), (it) == HOW_START)
-#else
-#define EE_IS_HOW(how, it) ((how) == (it))
-#endif
-
-/* Opens the store of a device, or makes one, in this way; gives the status, and the layout where
- * that is EE_OK. Where a flash of numbers holds more than a first start leaves it is opened, and no
- * first store made there. A format itself erases each page that isn't blank, by rising page. */
-EE_IN_PLACE ee_result layout_of(Device *device, uint32_t how, Layout *layout) {
-    if (EE_IS_HOW(how, HOW_FORMAT)) {
-        const LayoutOrCut made = write_format(device);
-        *layout = made.value;
-        return made.ok ? (ee_result)EE_OK : (ee_result)EE_DRIVER;
+/* Opens a store, or makes the first one where that may be. A flash of numbers is looked through
+ * before, unless its erases clear first: EE_FOREIGN where a word is no store's. Where it holds more
+ * than a first start leaves it is opened, and no first store made there. */
+static ee_result started(ee_store *memory, const ee_flash *flash, bool may_be_new) {
+    ee_result status = device_in(memory, flash);
+    if (status != EE_OK) { return status; }
+    Device *const device = &memory->memory.parts.store.flash;
+    Layout *const layout = &memory->memory.parts.store.known.layout;
+    if (EE_IS_OF_PAIRS(flash) && flash->kind == EE_PAIRS && first_low(device).some) {
+        status = EE_FOREIGN;
+    } else if (may_be_new && !(EE_IS_OF_PAIRS(flash) &&
+            holds_more(device, flash->kind == EE_PAIRS_CLEARING))) {
+        status = start_on(device, layout);
+    } else {
+        status = open_on(device, layout);
     }
-    const ee_result refused = looked_through(device);
-    if (refused != EE_OK) {
-        return refused;
-    }
-    const ee_flash *const flash = device->power->flash;
-    const bool starts = EE_IS_HOW(how, HOW_START) && !(flash != NULL && EE_IS_OF_PAIRS(flash) &&
-            holds_more(device, flash->kind == EE_PAIRS_CLEARING));
-    const LayoutOrOpenFault answer = starts ? start_on(device) : open_on(device);
-    *layout = answer.value;
-    if (answer.ok) {
-        return EE_OK;
-    }
-    return answer.error.tag ==
-            OpenFault_Scan ? scan_status(answer.error.scan) : (ee_result)EE_DRIVER;
+    return opening_ended(status, memory);
 }
 
-/* Opens a store in the memory that the caller lends, in this way. */
-EE_APART ee_result opened(ee_store *store, const ee_flash *flash, uint32_t how) {
-    Device device;
-    Layout layout;
-    ee_result status = device_in(store, flash, &device);
-    if (status != EE_OK) {
-        return status;
-    }
-    status = layout_of(&device, how, &layout);
-    if (status == EE_OK) {
-        keep_store(store, &device, &layout);
-    }
-    return opening_ended(status, store);
-}
-
-ee_result ee_start(ee_store *store, const ee_flash *flash) {
-    return opened(store, flash, HOW_START);
-}
+ee_result ee_start(ee_store *store, const ee_flash *flash) { return started(store, flash, true); }
 
 #ifndef EE_NO_OPEN
-ee_result ee_open(ee_store *store, const ee_flash *flash) {
-    return opened(store, flash, HOW_OPEN);
-}
+ee_result ee_open(ee_store *store, const ee_flash *flash) { return started(store, flash, false); }
 
+/* A format itself erases each page that isn't blank, by rising page. */
 ee_result ee_format(ee_store *store, const ee_flash *flash) {
-    return opened(store, flash, HOW_FORMAT);
+    const ee_result refused = device_in(store, flash);
+    if (refused != EE_OK) { return refused; }
+    Store *const kept = &store->memory.parts.store;
+    const Step step = write_format(&kept->flash, &kept->known.layout);
+    return opening_ended(step == DONE ? EE_OK : EE_DRIVER, store);
 }
 #endif
 
 #ifndef EE_NO_RESCUE
 /* A pair of numbers that no store wrote is torn here, where an opening refuses it. */
 ee_result ee_rescue(ee_store *store, const ee_flash *flash) {
-    Device device;
-    const ee_result status = device_in(store, flash, &device);
-    if (status != EE_OK) {
-        return status;
-    }
-    const MaybeSide side = rescued_side(&device);
-    if (!side.some) {
-        return opening_ended(EE_NOTHING, store);
-    }
-    const uint32_t generation = named_generation(&device, side.value);
-    if (generation == GREATEST_GENERATION) {
-        return opening_ended(EE_SPENT, store);
-    }
-    const LayoutOrCut answer = rescue_set(&device, side.value, generation);
-    if (!answer.ok) {
-        return opening_ended(EE_DRIVER, store);
-    }
-    keep_store(store, &device, &answer.value);
-    return opening_ended(EE_OK, store);
+    const ee_result refused = device_in(store, flash);
+    if (refused != EE_OK) { return refused; }
+    Store *const kept = &store->memory.parts.store;
+    const MaybeSide side = rescued_side(&kept->flash);
+    if (!side.some) { return opening_ended(EE_NOTHING, store); }
+    const uint32_t generation = named_generation(&kept->flash, side.value);
+    if (generation == GREATEST_GENERATION) { return opening_ended(EE_SPENT, store); }
+    const Step step = rescue_set(&kept->flash, side.value, generation, &kept->known.layout);
+    return opening_ended(step == DONE ? EE_OK : EE_DRIVER, store);
 }
 
 ee_result ee_bad_words(const ee_flash *flash, uint32_t *count) {
     ee_store looked;
-    Device device;
-    const ee_result status = device_in(&looked, flash, &device);
-    if (status != EE_OK) {
-        return status;
+    ee_result status = device_in(&looked, flash);
+    if (status == EE_OK && count == NULL) { status = EE_NULL; }
+    if (status != EE_OK) { return status; }
+    const uint32_t bad = bad_words(&looked.memory.parts.store.flash);
+    status = ended(EE_OK, &looked);
+    if (status == EE_OK) { *count = bad; }
+    return status;
+}
+
+/* It looks for what an opening is refused for. */
+ee_result ee_foreign_word(const ee_flash *flash, uint32_t *page, uint32_t *word) {
+    ee_store looked;
+    ee_result status = device_in(&looked, flash);
+    if (status == EE_OK && (page == NULL || word == NULL)) { status = EE_NULL; }
+    if (status != EE_OK) { return status; }
+    const Device *const device = &looked.memory.parts.store.flash;
+    MaybeLowPair found = { .some = false };
+    if (EE_IS_OF_PAIRS(flash) && flash->kind == EE_PAIRS) { found = first_low(device); }
+    const LiveSetResult live = live_set(device);
+    if (!found.some && live.ok) {
+        const FrontResult front = front_of(device, live.value.first, live.value.second);
+        found.some = !front.ok;
+        found.value.page = first_page(device, live.value.first) + front.error.first;
+        found.value.word = front.error.second;
     }
-    if (count == NULL) {
-        return EE_NULL;
+    status = ended(found.some ? EE_OK : EE_NOTHING, &looked);
+    if (status == EE_OK) {
+        *page = found.value.page;
+        *word = found.value.word;
     }
-    const uint32_t bad = bad_words(&device);
-    if (is_broken(&looked)) {
-        return EE_DRIVER;
-    }
-    *count = bad;
-    return EE_OK;
+    return status;
 }
 #endif
 
-/* The first pair of numbers that no store wrote, for which `looked_through` refuses a flash. */
-static bool low_found(const Device *device, uint32_t *page, uint32_t *word) {
-    const Numbers numbers = numbers_of(device, device->power->flash);
-    for (*page = 0u; *page < 2u * device->shape.pages; *page += 1u) {
-        for (*word = 0u; *word < device->shape.words; *word += 1u) {
-            const uint64_t number = numbers_read(&numbers, *page, 2u * *word);
-            if (is_low(number, numbers_read(&numbers, *page, 2u * *word + 1u))) {
-                return true;
-            }
-        }
-    }
-    return false;
-}
-
-static uint32_t no_program(void *context, uint32_t page, uint32_t place, uint64_t value) {
-    (void)context, (void)page, (void)place, (void)value;
-    return 0u;
-}
-
-/* An opening tells the place. What it programs then is not. */
-ee_result ee_foreign_word(const ee_flash *flash, uint32_t *page, uint32_t *word) {
-    ee_store looked;
-    Device device;
-    const ee_result status = device_in(&looked, flash, &device);
-    if (status != EE_OK || page == NULL || word == NULL) {
-        return status != EE_OK ? status : (ee_result)EE_NULL;
-    }
-    ee_flash read_only = *flash;
-    read_only.program = no_program;
-    looked.memory.parts.power.flash = &read_only;
-    ScanFault found = scan_fault_foreign(0u, 0u);
-    if (flash->kind != EE_PAIRS || !low_found(&device, &found.page, &found.at)) {
-        const LayoutOrOpenFault answer = open_on(&device);
-        found = answer.ok ? scan_fault_unformatted() : answer.error.scan;
-    }
-    if (is_broken(&looked)) {
-        return EE_DRIVER;
-    }
-    if (found.tag != ScanFault_Foreign) {
-        return EE_NOTHING;
-    }
-    *page = found.page;
-    *word = found.at;
-    return EE_OK;
-}
-
-static ee_result write_status(WriteFault fault) {
-    switch (fault) {
-    case WriteFault_Off:
-        return EE_NOT_OPEN;
-    case WriteFault_Full:
-    case WriteFault_Memory: /* This store keeps no index, and never says it. */
-        return EE_FULL;
-    case WriteFault_Spent:
-        return EE_SPENT;
-    case WriteFault_Cut:
-    default:
-        return EE_DRIVER;
-    }
-}
-
 ee_result ee_write(ee_store *store, uint16_t address, uint32_t value) {
-    const ee_result refused = begun(store, address, store);
-    if (refused != EE_OK) {
-        return refused;
-    }
-    const WriteResult answer = store_write(&store->memory.parts.store, address, value);
-    if (answer.ok && answer.value == Written_Appended) {
-        return ended_well(EE_OK, store); /* Its last step was made, so nothing failed before. */
-    }
-    return ended(answer.ok ? (ee_result)EE_OK : write_status(answer.error), store);
+    const ee_result refused = begun(store, address);
+    if (refused != EE_OK) { return refused; }
+    return ended(store_write(&store->memory.parts.store, address, value), store);
 }
 
 #ifndef EE_NO_LISTS
-static ee_result write_all_status(WriteAllFault fault) {
-    switch (fault.tag) {
-    case WriteAllFault_Off:
-        return EE_NOT_OPEN;
-    case WriteAllFault_Twice:
-        return EE_DUPLICATE;
-    case WriteAllFault_Full:
-    case WriteAllFault_Memory: /* As of `write_status`. */
-        return EE_FULL;
-    case WriteAllFault_Spent:
-        return EE_SPENT;
-    case WriteAllFault_Cut:
-    default:
-        return EE_DRIVER;
-    }
-}
-
 ee_result ee_write_all(ee_store *store, const ee_value *values, uint32_t count) {
-    const ee_result refused = begun(store, EE_NO_ADDRESS, values);
-    if (refused != EE_OK) {
-        return refused;
-    }
+    const ee_result refused = begun_with(store, 1u, values);
+    if (refused != EE_OK) { return refused; }
     for (uint32_t at = 0u; at < count; at++) {
-        if (!address_new(values[at].address).some) {
-            return ended_well(EE_WRONG_NUMBER, store);
-        }
+        if (!address_new(values[at].address).some) { return ended(EE_WRONG_NUMBER, store); }
     }
-    const WriteAllResult answer = store_write_all(&store->memory.parts.store, values, count);
-    return ended(answer.ok ? (ee_result)EE_OK : write_all_status(answer.error), store);
+    return ended(store_write_all(&store->memory.parts.store, values, count), store);
 }
 #endif
 
 #ifndef EE_NO_FORGET
-static ee_result forget_status(ForgetFault fault) {
-    switch (fault) {
-    case ForgetFault_Off:
-        return EE_NOT_OPEN;
-    case ForgetFault_Absent:
-        return EE_ABSENT;
-    case ForgetFault_Spent:
-        return EE_SPENT;
-    case ForgetFault_Cut:
-    default:
-        return EE_DRIVER;
-    }
-}
-
 ee_result ee_forget(ee_store *store, uint16_t address) {
-    const ee_result refused = begun(store, address, store);
-    if (refused != EE_OK) {
-        return refused;
-    }
-    const ForgetResult answer = store_forget(&store->memory.parts.store, address);
-    return ended(answer.ok ? (ee_result)EE_OK : forget_status(answer.error), store);
-}
-
-static ee_result clear_status(ClearFault fault) {
-    switch (fault) {
-    case ClearFault_Off:
-        return EE_NOT_OPEN;
-    case ClearFault_Spent:
-        return EE_SPENT;
-    case ClearFault_Cut:
-    default:
-        return EE_DRIVER;
-    }
+    const ee_result refused = begun(store, address);
+    if (refused != EE_OK) { return refused; }
+    return ended(store_forget(&store->memory.parts.store, address), store);
 }
 
 ee_result ee_forget_all(ee_store *store) {
-    const ee_result refused = begun(store, EE_NO_ADDRESS, store);
-    if (refused != EE_OK) {
-        return refused;
-    }
-    const ClearResult answer = store_clear(&store->memory.parts.store);
-    return ended(answer.ok ? (ee_result)EE_OK : clear_status(answer.error), store);
+    const ee_result refused = begun(store, 1u);
+    return refused != EE_OK ? refused : ended(store_clear(&store->memory.parts.store), store);
 }
 #endif
 
 ee_result ee_clean(ee_store *store) {
-    const ee_result refused = begun(store, EE_NO_ADDRESS, store);
-    if (refused != EE_OK) {
-        return refused;
-    }
+    const ee_result refused = begun(store, 1u);
+    if (refused != EE_OK) { return refused; }
     const CleanResult answer = store_clean_step(&store->memory.parts.store);
-    return ended(answer.ok && answer.value ? (ee_result)EE_OK : (ee_result)EE_NOTHING, store);
+    return ended(answer.ok && answer.value ? EE_OK : EE_NOTHING, store);
 }
 
 ee_result ee_read(const ee_store *store, uint16_t address, uint32_t *value) {
-    const ee_result refused = begun(store, address, value);
-    if (refused != EE_OK) {
-        return refused;
-    }
+    ee_result status = begun_with(store, address, value);
+    if (status != EE_OK) { return status; }
     const ReadResult answer = store_read(&store->memory.parts.store, address);
-    if (is_broken(store)) {
-        return EE_DRIVER;
-    }
-    if (!answer.ok || !answer.value.some) {
-        return ended_well(EE_NOTHING, store);
-    }
-    *value = answer.value.value;
-    return ended_well(EE_OK, store);
+    status = ended(answer.ok && answer.value.some ? EE_OK : EE_NOTHING, store);
+    if (status == EE_OK) { *value = answer.value.value; }
+    return status;
 }
 
 ee_result ee_next(const ee_store *store, uint16_t *address, uint32_t *value) {
-    const ee_result refused = begun(store, EE_NO_ADDRESS, value);
-    if (refused != EE_OK) {
-        return refused;
+    const uint16_t after = address == NULL ? 0u : *address;
+    ee_result status = begun_with(store, after == 0u ? 1u : after, address == NULL ? NULL : value);
+    if (status != EE_OK) { return status; }
+    const MaybeLive found = store_next_live(&store->memory.parts.store, address_new(after));
+    status = ended(found.some ? EE_OK : EE_NOTHING, store);
+    if (status == EE_OK) {
+        *address = found.value.first;
+        *value = found.value.second;
     }
-    if (address == NULL) {
-        return ended_well(EE_NULL, store);
-    }
-    const MaybeAddress after = address_new(*address);
-    if (*address != 0u && !after.some) {
-        return ended_well(EE_WRONG_NUMBER, store);
-    }
-    const MaybeLive found = store_next_live(&store->memory.parts.store, after);
-    if (is_broken(store)) {
-        return EE_DRIVER;
-    }
-    if (!found.some) {
-        return ended_well(EE_NOTHING, store);
-    }
-    *address = found.value.first;
-    *value = found.value.second;
-    return ended_well(EE_OK, store);
+    return status;
 }
 
 ee_result ee_counts(const ee_store *store, ee_numbers *numbers) {
-    const ee_result refused = begun(store, EE_NO_ADDRESS, numbers);
-    if (refused != EE_OK) {
-        return refused;
-    }
+    ee_result status = begun_with(store, 1u, numbers);
+    if (status != EE_OK) { return status; }
     const Store *const it = &store->memory.parts.store;
-    const uint32_t live = store_live_count(it);
-    const uint32_t torn = store_torn_slots(it);
-    const uint32_t pending = store_pending(it);
-    if (is_broken(store)) {
-        return EE_DRIVER;
-    }
-    *numbers = (ee_numbers){ .slots = store_slots(it), .fill = store_fill(it), .live = live,
-        .pending = pending, .torn = torn, .generation = store_generation(it) };
-    return ended_well(EE_OK, store);
+    ee_numbers found = { .slots = store_slots(it), .fill = store_fill(it),
+            .generation = store_generation(it) };
+    found.live = store_live_count(it);
+    found.torn = store_torn_slots(it);
+    found.pending = store_pending(it);
+    status = ended(EE_OK, store);
+    if (status == EE_OK) { *numbers = found; }
+    return status;
 }

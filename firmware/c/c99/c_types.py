@@ -1,9 +1,9 @@
 """The types of C that the functions need, and what makes values of them."""
 import re
 
-from .program import is_flat
+from .program import FAULTS, INNER, STATUSES, is_flat
 from .lexing import Refused
-from .types import NUMBERS, is_ref, known
+from .types import NUMBERS, UNIT, Type, is_ref, known
 
 C_NUMBERS = {"u8": "uint8_t", "u16": "uint16_t", "u32": "uint32_t", "u64": "uint64_t",
              "usize": "uint32_t"}
@@ -37,6 +37,8 @@ SHORT = {
     "AddressAndU16AndListOfEntry": "Shown", "MaybeAddressAndIndex": "MaybePlaced",
     "AddressAndIndex": "Placed",
 }
+# What a call that may fail makes where its caller says, and what no caller asks for.
+PLACED, DROPPED = {"Layout"}, {"Written"}
 # Types that are written by hand.
 HAND = {"Device", "Numbers", "Lookup"}
 # Names of those in ee.h that no item has: a tuple, and a list of such.
@@ -68,7 +70,7 @@ class Types:
 
     def __init__(self, program):
         self.program = program
-        self.used, self.makers = {}, {}
+        self.used, self.makers, self.tests = {}, {}, {}
 
     def is_unit(self, it):
         """Whether a type has one value alone, so that nothing of it is kept."""
@@ -83,6 +85,25 @@ class Types:
     def is_step(self, it):
         it = known(it)
         return it.name == "Result" and all(self.is_unit(a) for a in it.args)
+
+    def is_told(self, it):
+        """Whether a Result is a number: why it isn't good, EE_OK where it is; DONE or CUT where a
+        cut alone can be why."""
+        it = known(it)
+        if it.name != "Result" or self.is_step(it):
+            return False
+        fault, good = self.program.item_of(known(it.args[1])), known(it.args[0])
+        is_fault = self.is_unit(it.args[1]) or fault is not None and fault.name in FAULTS
+        dropped = good.name in DROPPED or fault is not None and fault.name == "ClearFault"
+        return is_fault and (self.is_unit(good) or good.name in PLACED or dropped)
+
+    def is_placed(self, it):
+        """Whether the value of such a Result is made where the caller says."""
+        return self.is_told(it) and known(known(it).args[0]).name in PLACED
+
+    def good(self, it):
+        """The number of a good one."""
+        return "DONE" if self.is_unit(known(it).args[1]) else "EE_OK"
 
     def is_large(self, it):
         """Whether a list stands in a type: such a value is made where it stays."""
@@ -117,6 +138,11 @@ class Types:
             return C_NUMBERS[it.name]
         if it.name in ("bool", *HAND):
             return it.name
+        if self.is_told(it):
+            if known(it.args[0]).name in PLACED:
+                self.name(it.args[0])
+            return self.name(Type("Result", [UNIT, it.args[1]])) if self.is_unit(it.args[1]) \
+                else self.name(it.args[1])
         if it.name == "Pairs":
             return "Numbers"
         if is_ref(it):
@@ -218,9 +244,11 @@ class Types:
         tag = name if is_flat(item) else name + "Tag"
         width = 32 if name in IN_STORE else 8
         lines = [*doc, f"typedef uint{width}_t {tag};", "enum {"]
-        for place, (variant, _, variant_doc) in enumerate(item.variants):
+        variants = [it for it in item.variants if (item.name, it[0]) not in INNER]
+        for place, (variant, _, variant_doc) in enumerate(variants):
             lines += comment_of(variant_doc, "    ")
-            lines.append(f"    {name}_{variant}{',' if place + 1 < len(item.variants) else ''}")
+            value = f" = {STATUSES[variant]}" if item.name in FAULTS else ""
+            lines.append(f"    {name}_{variant}{value}{',' if place + 1 < len(variants) else ''}")
         lines.append("};")
         if is_flat(item):
             return lines, []

@@ -6,459 +6,231 @@ static struct ee_power *power_of(const ee_store *memory) {
     return &((ee_store *)memory)->memory.parts.power;
 }
 
-/* Begins a call on a store in memory that C lends: EE_OK, or why not. No call begins with another
- * pointer that is NULL, nor with a number that is no address. A copy of a store has the place of
- * that store, and is off. */
-static ee_result begun(const ee_store *memory, uint16_t address, const void *other) {
-    if (memory == NULL) {
-        return EE_NULL;
-    }
+/* Begins a call on a store, with an address of it; of a call that has none it is 1. EE_OK, or why
+ * not. A copy of a store has the place of that store, and is off. */
+static ee_result begun(const ee_store *memory, uint16_t address) {
+    if (memory == NULL) { return EE_NULL; }
     struct ee_power *const power = power_of(memory);
     if (power->idle != memory) {
         return power->idle == NULL && power->flash != NULL ? (ee_result)EE_BUSY : (ee_result)EE_NOT_OPEN;
     }
-    if (other == NULL) {
-        return EE_NULL;
-    }
-    if (!address_new(address).some) {
-        return EE_WRONG_NUMBER;
-    }
+    if (!address_new(address).some) { return EE_WRONG_NUMBER; }
     power->idle = NULL;
     EE_IN_ORDER();
     return EE_OK;
 }
 
-/* The address for `begun` of a call that has none. */
-#define EE_NO_ADDRESS 1u
+/* The same of a call with another pointer, which is refused before the address. */
+static ee_result begun_with(const ee_store *memory, uint16_t address, const void *other) {
+    const ee_result status = begun(memory, other == NULL ? 0u : address);
+    return status == EE_WRONG_NUMBER && other == NULL ? (ee_result)EE_NULL : status;
+}
 
-/* Ends a call whose flash didn't fail, and gives its status: the store takes a call again. */
-EE_IN_PLACE ee_result ended_well(ee_result status, const ee_store *memory) {
+/* Ends a call that answered this, and gives its status: the store takes a call again. What it says
+ * counts only where its flash didn't fail. */
+static ee_result ended(ee_result status, const ee_store *memory) {
+    struct ee_power *const power = power_of(memory);
+    if (power->flash == NULL) { return EE_DRIVER; }
     EE_IN_ORDER();
-    power_of(memory)->idle = memory;
+    power->idle = memory;
     return status;
 }
 
-/* Ends a call that answered this, and gives its status: what a store says counts only where its
- * flash didn't fail. */
-static ee_result ended(ee_result status, const ee_store *memory) {
-    return power_of(memory)->flash == NULL ? (ee_result)EE_DRIVER : ended_well(status, memory);
-}
-
-/* Whether the flash failed in a call. */
-static bool is_broken(const ee_store *memory) {
-    return memory->memory.parts.power.flash == NULL;
-}
-
-static ee_result scan_status(ScanFault fault) {
-    switch (fault.tag) {
-    case ScanFault_Unformatted:
-        return EE_UNFORMATTED;
-    case ScanFault_NoLiveSet:
-        return EE_NO_LIVE_SET;
-    case ScanFault_TwoLive:
-        return EE_TWO_LIVE;
-    case ScanFault_Foreign:
-    default:
-        return EE_FOREIGN;
-    }
-}
-
-#ifdef EE_NO_PAIRS
-#define EE_GREATEST_KIND EE_WORDS
-#else
-#define EE_GREATEST_KIND EE_PAIRS_CLEARING
-#endif
-
-/* The flash of C as a device in memory that is on, where its members are in range; else why not. */
-static ee_result device_in(ee_store *memory, const ee_flash *flash, Device *device) {
-    if (memory == NULL) {
-        return EE_NULL;
-    }
-    memory->memory.parts.power = (struct ee_power){ .flash = NULL, .idle = NULL };
+/* Makes the device of a flash, on where the members of that are in range; else says why not. */
+static ee_result device_in(ee_store *memory, const ee_flash *flash) {
+    if (memory == NULL) { return EE_NULL; }
+    struct ee_power *const power = power_of(memory);
+    *power = (struct ee_power){ .flash = NULL, .idle = NULL };
     if (flash == NULL || flash->word == NULL || flash->program == NULL || flash->erase == NULL) {
         return EE_NULL;
     }
     const MaybeShape shape = shape_new(flash->pages, flash->page_words);
-    if (!shape.some || flash->kind > EE_GREATEST_KIND) {
-        return EE_WRONG_SHAPE;
-    }
-    memory->memory.parts.power.flash = flash;
-    *device = (Device){ .power = &memory->memory.parts.power, .shape = shape.value };
+    if (!shape.some || flash->kind > EE_GREATEST_KIND) { return EE_WRONG_SHAPE; }
+    power->flash = flash;
+    memory->memory.parts.store.flash = (Device){ .power = power, .shape = shape.value };
     return EE_OK;
 }
 
 /* An opening ends with this status: the store is off unless it is EE_OK. */
 EE_APART ee_result opening_ended(ee_result status, ee_store *memory) {
-    const ee_result answer = ended(status, memory);
-    if (answer != EE_OK) {
-        memory->memory.parts.power = (struct ee_power){ .flash = NULL, .idle = NULL };
-    }
-    return answer;
-}
-
-/* Keeps the store of a device of which this is the layout, with the index that its flash lends. */
-static void keep_store(ee_store *memory, const Device *device, const Layout *layout) {
+    struct ee_power *const power = power_of(memory);
     Store *const store = &memory->memory.parts.store;
-    *store = (Store){ .flash = *device, .known = { .layout = *layout, .lookup = NULL } };
+    store->known.lookup = NULL;
 #ifdef EE_INDEX
-    const ee_flash *const flash = device->power->flash;
-    if (flash != NULL && flash->index != NULL) {
-        store->known.lookup = flash->index;
-        lent_index_read_anew(flash->index, &store->flash, &store->known.layout);
+    if (status == EE_OK && power->flash != NULL && power->flash->index != NULL) {
+        store->known.lookup = power->flash->index;
+        lent_index_read_anew(store->known.lookup, &store->flash, &store->known.layout);
     }
 #endif
-}
-
-/* Looks a flash of numbers through before it is opened, unless its erases clear first: EE_FOREIGN
- * where a word is no store's. */
-EE_APART ee_result looked_through(const Device *device) {
-    const ee_flash *const flash = device->power->flash;
-    if (EE_IS_OF_PAIRS(flash) && flash->kind == EE_PAIRS) {
-        const Numbers numbers = numbers_of(device, flash);
-        if (first_low(&numbers).some) {
-            return EE_FOREIGN;
-        }
-    }
-    return EE_OK;
+    const ee_result answer = ended(status, memory);
+    if (answer != EE_OK) { *power = (struct ee_power){ .flash = NULL, .idle = NULL }; }
+    return answer;
 }
 
 /* Whether a word is written that a first start which was cut doesn't leave: any but the first two of
  * page 0, or but those of page 0 where an erase clears first. */
 EE_APART bool holds_more(const Device *device, bool clears_first) {
     const uint32_t from = clears_first ? device->shape.words : 2u;
-    if (blank_to(device, 0u, from) != device->shape.words) {
-        return true;
+    bool found = blank_to(device, 0u, from) != device->shape.words;
+    for (uint32_t page = 1u; !found && page < 2u * device->shape.pages; page++) {
+        found = !state_is_blank(device, page);
     }
-    for (uint32_t page = 1u; page < 2u * device->shape.pages; page++) {
-        if (!state_is_blank(device, page)) {
-            return true;
-        }
-    }
-    return false;
+    return found;
 }
 
-/* How a store is opened. */
-enum {
-    HOW_OPEN,
-    HOW_START,
-    HOW_FORMAT
-};
-#ifdef EE_NO_OPEN
-#define EE_IS_HOW(how, it) ((void)(how), (it) == HOW_START)
-#else
-#define EE_IS_HOW(how, it) ((how) == (it))
-#endif
-
-/* Opens the store of a device, or makes one, in this way; gives the status, and the layout where that
- * is EE_OK. Where a flash of numbers holds more than a first start leaves it is opened, and no first
- * store made there. A format itself erases each page that isn't blank, by rising page. */
-EE_IN_PLACE ee_result layout_of(Device *device, uint32_t how, Layout *layout) {
-    if (EE_IS_HOW(how, HOW_FORMAT)) {
-        const LayoutOrCut made = write_format(device);
-        *layout = made.value;
-        return made.ok ? (ee_result)EE_OK : (ee_result)EE_DRIVER;
+/* Opens a store, or makes the first one where that may be. A flash of numbers is looked through
+ * before, unless its erases clear first: EE_FOREIGN where a word is no store's. Where it holds more
+ * than a first start leaves it is opened, and no first store made there. */
+static ee_result started(ee_store *memory, const ee_flash *flash, bool may_be_new) {
+    ee_result status = device_in(memory, flash);
+    if (status != EE_OK) { return status; }
+    Device *const device = &memory->memory.parts.store.flash;
+    Layout *const layout = &memory->memory.parts.store.known.layout;
+    if (EE_IS_OF_PAIRS(flash) && flash->kind == EE_PAIRS && first_low(device).some) {
+        status = EE_FOREIGN;
+    } else if (may_be_new && !(EE_IS_OF_PAIRS(flash) &&
+            holds_more(device, flash->kind == EE_PAIRS_CLEARING))) {
+        status = start_on(device, layout);
+    } else {
+        status = open_on(device, layout);
     }
-    const ee_result refused = looked_through(device);
-    if (refused != EE_OK) {
-        return refused;
-    }
-    const ee_flash *const flash = device->power->flash;
-    const bool starts = EE_IS_HOW(how, HOW_START) && !(flash != NULL && EE_IS_OF_PAIRS(flash) &&
-            holds_more(device, flash->kind == EE_PAIRS_CLEARING));
-    const LayoutOrOpenFault answer = starts ? start_on(device) : open_on(device);
-    *layout = answer.value;
-    if (answer.ok) {
-        return EE_OK;
-    }
-    return answer.error.tag == OpenFault_Scan ? scan_status(answer.error.scan) : (ee_result)EE_DRIVER;
+    return opening_ended(status, memory);
 }
 
-/* Opens a store in the memory that the caller lends, in this way. */
-EE_APART ee_result opened(ee_store *store, const ee_flash *flash, uint32_t how) {
-    Device device;
-    Layout layout;
-    ee_result status = device_in(store, flash, &device);
-    if (status != EE_OK) {
-        return status;
-    }
-    status = layout_of(&device, how, &layout);
-    if (status == EE_OK) {
-        keep_store(store, &device, &layout);
-    }
-    return opening_ended(status, store);
-}
-
-ee_result ee_start(ee_store *store, const ee_flash *flash) {
-    return opened(store, flash, HOW_START);
-}
+ee_result ee_start(ee_store *store, const ee_flash *flash) { return started(store, flash, true); }
 
 #ifndef EE_NO_OPEN
-ee_result ee_open(ee_store *store, const ee_flash *flash) {
-    return opened(store, flash, HOW_OPEN);
-}
+ee_result ee_open(ee_store *store, const ee_flash *flash) { return started(store, flash, false); }
 
+/* A format itself erases each page that isn't blank, by rising page. */
 ee_result ee_format(ee_store *store, const ee_flash *flash) {
-    return opened(store, flash, HOW_FORMAT);
+    const ee_result refused = device_in(store, flash);
+    if (refused != EE_OK) { return refused; }
+    Store *const kept = &store->memory.parts.store;
+    const Step step = write_format(&kept->flash, &kept->known.layout);
+    return opening_ended(step == DONE ? EE_OK : EE_DRIVER, store);
 }
 #endif
 
 #ifndef EE_NO_RESCUE
 /* A pair of numbers that no store wrote is torn here, where an opening refuses it. */
 ee_result ee_rescue(ee_store *store, const ee_flash *flash) {
-    Device device;
-    const ee_result status = device_in(store, flash, &device);
-    if (status != EE_OK) {
-        return status;
-    }
-    const MaybeSide side = rescued_side(&device);
-    if (!side.some) {
-        return opening_ended(EE_NOTHING, store);
-    }
-    const uint32_t generation = named_generation(&device, side.value);
-    if (generation == GREATEST_GENERATION) {
-        return opening_ended(EE_SPENT, store);
-    }
-    const LayoutOrCut answer = rescue_set(&device, side.value, generation);
-    if (!answer.ok) {
-        return opening_ended(EE_DRIVER, store);
-    }
-    keep_store(store, &device, &answer.value);
-    return opening_ended(EE_OK, store);
+    const ee_result refused = device_in(store, flash);
+    if (refused != EE_OK) { return refused; }
+    Store *const kept = &store->memory.parts.store;
+    const MaybeSide side = rescued_side(&kept->flash);
+    if (!side.some) { return opening_ended(EE_NOTHING, store); }
+    const uint32_t generation = named_generation(&kept->flash, side.value);
+    if (generation == GREATEST_GENERATION) { return opening_ended(EE_SPENT, store); }
+    const Step step = rescue_set(&kept->flash, side.value, generation, &kept->known.layout);
+    return opening_ended(step == DONE ? EE_OK : EE_DRIVER, store);
 }
 
 ee_result ee_bad_words(const ee_flash *flash, uint32_t *count) {
     ee_store looked;
-    Device device;
-    const ee_result status = device_in(&looked, flash, &device);
-    if (status != EE_OK) {
-        return status;
+    ee_result status = device_in(&looked, flash);
+    if (status == EE_OK && count == NULL) { status = EE_NULL; }
+    if (status != EE_OK) { return status; }
+    const uint32_t bad = bad_words(&looked.memory.parts.store.flash);
+    status = ended(EE_OK, &looked);
+    if (status == EE_OK) { *count = bad; }
+    return status;
+}
+
+/* It looks for what an opening is refused for. */
+ee_result ee_foreign_word(const ee_flash *flash, uint32_t *page, uint32_t *word) {
+    ee_store looked;
+    ee_result status = device_in(&looked, flash);
+    if (status == EE_OK && (page == NULL || word == NULL)) { status = EE_NULL; }
+    if (status != EE_OK) { return status; }
+    const Device *const device = &looked.memory.parts.store.flash;
+    MaybeLowPair found = { .some = false };
+    if (EE_IS_OF_PAIRS(flash) && flash->kind == EE_PAIRS) { found = first_low(device); }
+    const LiveSetResult live = live_set(device);
+    if (!found.some && live.ok) {
+        const FrontResult front = front_of(device, live.value.first, live.value.second);
+        found.some = !front.ok;
+        found.value.page = first_page(device, live.value.first) + front.error.first;
+        found.value.word = front.error.second;
     }
-    if (count == NULL) {
-        return EE_NULL;
+    status = ended(found.some ? EE_OK : EE_NOTHING, &looked);
+    if (status == EE_OK) {
+        *page = found.value.page;
+        *word = found.value.word;
     }
-    const uint32_t bad = bad_words(&device);
-    if (is_broken(&looked)) {
-        return EE_DRIVER;
-    }
-    *count = bad;
-    return EE_OK;
+    return status;
 }
 #endif
 
-/* The first pair of numbers that no store wrote, for which `looked_through` refuses a flash. */
-static bool low_found(const Device *device, uint32_t *page, uint32_t *word) {
-    const Numbers numbers = numbers_of(device, device->power->flash);
-    for (*page = 0u; *page < 2u * device->shape.pages; *page += 1u) {
-        for (*word = 0u; *word < device->shape.words; *word += 1u) {
-            const uint64_t number = numbers_read(&numbers, *page, 2u * *word);
-            if (is_low(number, numbers_read(&numbers, *page, 2u * *word + 1u))) {
-                return true;
-            }
-        }
-    }
-    return false;
-}
-
-static uint32_t no_program(void *context, uint32_t page, uint32_t place, uint64_t value) {
-    (void)context, (void)page, (void)place, (void)value;
-    return 0u;
-}
-
-/* An opening tells the place. What it programs then is not. */
-ee_result ee_foreign_word(const ee_flash *flash, uint32_t *page, uint32_t *word) {
-    ee_store looked;
-    Device device;
-    const ee_result status = device_in(&looked, flash, &device);
-    if (status != EE_OK || page == NULL || word == NULL) {
-        return status != EE_OK ? status : (ee_result)EE_NULL;
-    }
-    ee_flash read_only = *flash;
-    read_only.program = no_program;
-    looked.memory.parts.power.flash = &read_only;
-    ScanFault found = scan_fault_foreign(0u, 0u);
-    if (flash->kind != EE_PAIRS || !low_found(&device, &found.page, &found.at)) {
-        const LayoutOrOpenFault answer = open_on(&device);
-        found = answer.ok ? scan_fault_unformatted() : answer.error.scan;
-    }
-    if (is_broken(&looked)) {
-        return EE_DRIVER;
-    }
-    if (found.tag != ScanFault_Foreign) {
-        return EE_NOTHING;
-    }
-    *page = found.page;
-    *word = found.at;
-    return EE_OK;
-}
-
-static ee_result write_status(WriteFault fault) {
-    switch (fault) {
-    case WriteFault_Off:
-        return EE_NOT_OPEN;
-    case WriteFault_Full:
-    case WriteFault_Memory: /* This store keeps no index, and never says it. */
-        return EE_FULL;
-    case WriteFault_Spent:
-        return EE_SPENT;
-    case WriteFault_Cut:
-    default:
-        return EE_DRIVER;
-    }
-}
-
 ee_result ee_write(ee_store *store, uint16_t address, uint32_t value) {
-    const ee_result refused = begun(store, address, store);
-    if (refused != EE_OK) {
-        return refused;
-    }
-    const WriteResult answer = store_write(&store->memory.parts.store, address, value);
-    if (answer.ok && answer.value == Written_Appended) {
-        return ended_well(EE_OK, store); /* Its last step was made, so nothing failed before. */
-    }
-    return ended(answer.ok ? (ee_result)EE_OK : write_status(answer.error), store);
+    const ee_result refused = begun(store, address);
+    if (refused != EE_OK) { return refused; }
+    return ended(store_write(&store->memory.parts.store, address, value), store);
 }
 
 #ifndef EE_NO_LISTS
-static ee_result write_all_status(WriteAllFault fault) {
-    switch (fault.tag) {
-    case WriteAllFault_Off:
-        return EE_NOT_OPEN;
-    case WriteAllFault_Twice:
-        return EE_DUPLICATE;
-    case WriteAllFault_Full:
-    case WriteAllFault_Memory: /* As of `write_status`. */
-        return EE_FULL;
-    case WriteAllFault_Spent:
-        return EE_SPENT;
-    case WriteAllFault_Cut:
-    default:
-        return EE_DRIVER;
-    }
-}
-
 ee_result ee_write_all(ee_store *store, const ee_value *values, uint32_t count) {
-    const ee_result refused = begun(store, EE_NO_ADDRESS, values);
-    if (refused != EE_OK) {
-        return refused;
-    }
+    const ee_result refused = begun_with(store, 1u, values);
+    if (refused != EE_OK) { return refused; }
     for (uint32_t at = 0u; at < count; at++) {
-        if (!address_new(values[at].address).some) {
-            return ended_well(EE_WRONG_NUMBER, store);
-        }
+        if (!address_new(values[at].address).some) { return ended(EE_WRONG_NUMBER, store); }
     }
-    const WriteAllResult answer = store_write_all(&store->memory.parts.store, values, count);
-    return ended(answer.ok ? (ee_result)EE_OK : write_all_status(answer.error), store);
+    return ended(store_write_all(&store->memory.parts.store, values, count), store);
 }
 #endif
 
 #ifndef EE_NO_FORGET
-static ee_result forget_status(ForgetFault fault) {
-    switch (fault) {
-    case ForgetFault_Off:
-        return EE_NOT_OPEN;
-    case ForgetFault_Absent:
-        return EE_ABSENT;
-    case ForgetFault_Spent:
-        return EE_SPENT;
-    case ForgetFault_Cut:
-    default:
-        return EE_DRIVER;
-    }
-}
-
 ee_result ee_forget(ee_store *store, uint16_t address) {
-    const ee_result refused = begun(store, address, store);
-    if (refused != EE_OK) {
-        return refused;
-    }
-    const ForgetResult answer = store_forget(&store->memory.parts.store, address);
-    return ended(answer.ok ? (ee_result)EE_OK : forget_status(answer.error), store);
-}
-
-static ee_result clear_status(ClearFault fault) {
-    switch (fault) {
-    case ClearFault_Off:
-        return EE_NOT_OPEN;
-    case ClearFault_Spent:
-        return EE_SPENT;
-    case ClearFault_Cut:
-    default:
-        return EE_DRIVER;
-    }
+    const ee_result refused = begun(store, address);
+    if (refused != EE_OK) { return refused; }
+    return ended(store_forget(&store->memory.parts.store, address), store);
 }
 
 ee_result ee_forget_all(ee_store *store) {
-    const ee_result refused = begun(store, EE_NO_ADDRESS, store);
-    if (refused != EE_OK) {
-        return refused;
-    }
-    const ClearResult answer = store_clear(&store->memory.parts.store);
-    return ended(answer.ok ? (ee_result)EE_OK : clear_status(answer.error), store);
+    const ee_result refused = begun(store, 1u);
+    return refused != EE_OK ? refused : ended(store_clear(&store->memory.parts.store), store);
 }
 #endif
 
 ee_result ee_clean(ee_store *store) {
-    const ee_result refused = begun(store, EE_NO_ADDRESS, store);
-    if (refused != EE_OK) {
-        return refused;
-    }
+    const ee_result refused = begun(store, 1u);
+    if (refused != EE_OK) { return refused; }
     const CleanResult answer = store_clean_step(&store->memory.parts.store);
-    return ended(answer.ok && answer.value ? (ee_result)EE_OK : (ee_result)EE_NOTHING, store);
+    return ended(answer.ok && answer.value ? EE_OK : EE_NOTHING, store);
 }
 
 ee_result ee_read(const ee_store *store, uint16_t address, uint32_t *value) {
-    const ee_result refused = begun(store, address, value);
-    if (refused != EE_OK) {
-        return refused;
-    }
+    ee_result status = begun_with(store, address, value);
+    if (status != EE_OK) { return status; }
     const ReadResult answer = store_read(&store->memory.parts.store, address);
-    if (is_broken(store)) {
-        return EE_DRIVER;
-    }
-    if (!answer.ok || !answer.value.some) {
-        return ended_well(EE_NOTHING, store);
-    }
-    *value = answer.value.value;
-    return ended_well(EE_OK, store);
+    status = ended(answer.ok && answer.value.some ? EE_OK : EE_NOTHING, store);
+    if (status == EE_OK) { *value = answer.value.value; }
+    return status;
 }
 
 ee_result ee_next(const ee_store *store, uint16_t *address, uint32_t *value) {
-    const ee_result refused = begun(store, EE_NO_ADDRESS, value);
-    if (refused != EE_OK) {
-        return refused;
+    const uint16_t after = address == NULL ? 0u : *address;
+    ee_result status = begun_with(store, after == 0u ? 1u : after, address == NULL ? NULL : value);
+    if (status != EE_OK) { return status; }
+    const MaybeLive found = store_next_live(&store->memory.parts.store, address_new(after));
+    status = ended(found.some ? EE_OK : EE_NOTHING, store);
+    if (status == EE_OK) {
+        *address = found.value.first;
+        *value = found.value.second;
     }
-    if (address == NULL) {
-        return ended_well(EE_NULL, store);
-    }
-    const MaybeAddress after = address_new(*address);
-    if (*address != 0u && !after.some) {
-        return ended_well(EE_WRONG_NUMBER, store);
-    }
-    const MaybeLive found = store_next_live(&store->memory.parts.store, after);
-    if (is_broken(store)) {
-        return EE_DRIVER;
-    }
-    if (!found.some) {
-        return ended_well(EE_NOTHING, store);
-    }
-    *address = found.value.first;
-    *value = found.value.second;
-    return ended_well(EE_OK, store);
+    return status;
 }
 
 ee_result ee_counts(const ee_store *store, ee_numbers *numbers) {
-    const ee_result refused = begun(store, EE_NO_ADDRESS, numbers);
-    if (refused != EE_OK) {
-        return refused;
-    }
+    ee_result status = begun_with(store, 1u, numbers);
+    if (status != EE_OK) { return status; }
     const Store *const it = &store->memory.parts.store;
-    const uint32_t live = store_live_count(it);
-    const uint32_t torn = store_torn_slots(it);
-    const uint32_t pending = store_pending(it);
-    if (is_broken(store)) {
-        return EE_DRIVER;
-    }
-    *numbers = (ee_numbers){ .slots = store_slots(it), .fill = store_fill(it), .live = live,
-        .pending = pending, .torn = torn, .generation = store_generation(it) };
-    return ended_well(EE_OK, store);
+    ee_numbers found = { .slots = store_slots(it), .fill = store_fill(it),
+            .generation = store_generation(it) };
+    found.live = store_live_count(it);
+    found.torn = store_torn_slots(it);
+    found.pending = store_pending(it);
+    status = ended(EE_OK, store);
+    if (status == EE_OK) { *numbers = found; }
+    return status;
 }

@@ -2,9 +2,13 @@
 import re
 
 from .c_types import snake
-from .program import is_flat
+from .program import INNER, is_flat
 from .text import Text
 from .types import is_ref, is_slice, known
+
+
+# What a function makes where its caller keeps it.
+GIVEN = "(*made)"
 
 
 class First(str):
@@ -84,12 +88,23 @@ class Cases(Text):
         good = it.what == "Ok"
         if self.types.is_step(of_type):
             return [f"{held} == {'DONE' if good else 'CUT'}"], []
+        if self.types.is_told(of_type):
+            value = (GIVEN if self.types.is_placed(of_type) else "") if good else held
+            more, binds = self.pattern(it.parts[0], value, of_type.args[not good])
+            sign = "==" if good else "!="
+            return more or [f"{held} {sign} {self.types.good(of_type)}"], binds
         field = "value" if good else "error"
         more, binds = self.pattern(it.parts[0], f"{held}.{field}", of_type.args[not good])
         return [f"{held}.ok" if good else f"!{held}.ok", *more], binds
 
     def case_of_variant(self, it, held, of_type):
         item, name = it.item, it.path[-1]
+        if (item.name, name) in INNER:
+            test = f"{snake(item.cname)}_is_{snake(name)}"
+            others = [f"{item.cname}_{of[0]}" for of in item.variants if of[0] != name]
+            self.types.tests[test] = item.cname, " && ".join(f"fault != {it}" for it in others)
+            inner = self.pattern(it.parts[0], held, self.program.variant_fields(item, name)[0][1])
+            return [f"{test}({held})", *inner[0]], inner[1]
         tag = held if is_flat(item) else member(held, "tag")
         conditions, binds = [f"{tag} == {item.cname}_{name}"], []
         fields = self.program.variant_fields(item, name)
@@ -109,7 +124,7 @@ class Cases(Text):
         if len(conditions) != 1:
             self.fail(it, "a pattern of several parts that may not hold")
         condition = conditions[0]
-        if re.fullmatch(r"!?[\w.>\-]+", condition):
+        if re.fullmatch(r"!?[\w.>\-]+(\(\w+\))?", condition):
             return condition[1:] if condition.startswith("!") else "!" + condition
         for sign, other in ((" == ", " != "), (" != ", " == ")):
             if sign in condition:

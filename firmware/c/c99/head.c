@@ -10,11 +10,11 @@
 #include <stdint.h>
 
 /* By hand. A function that stands in the places where it is called, at every level of optimisation,
- * and one that stands in none of them, so that its stack is not theirs. C99 has no words for it. */
+ * and one that stands in none of them, so that its stack is not theirs. C99 has no words for it. An
+ * interrupt sees what stands before EE_IN_ORDER, and nothing of what stands behind it. */
 #if defined(__GNUC__)
 #define EE_IN_PLACE static inline __attribute__((always_inline))
 #define EE_APART static __attribute__((noinline))
-/* An interrupt sees what stands before this, and nothing of what stands behind it. */
 #define EE_IN_ORDER() __asm__ volatile("" : : : "memory")
 #else
 #define EE_IN_PLACE static inline
@@ -28,10 +28,11 @@
 #pragma GCC diagnostic ignored "-Wunused-function"
 #endif
 
-/* By hand. Whether a flash has numbers, two for each word. */
+/* By hand. What a flash may have, and whether it has numbers, two for each word. */
 #ifdef EE_NO_PAIRS
+#define EE_GREATEST_KIND EE_WORDS
 #define EE_IS_OF_PAIRS(flash) ((void)(flash), false)
 #else
+#define EE_GREATEST_KIND EE_PAIRS_CLEARING
 #define EE_IS_OF_PAIRS(flash) ((flash)->kind != EE_WORDS)
 #endif
-

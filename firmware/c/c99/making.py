@@ -6,7 +6,7 @@ from pathlib import Path
 from .c_types import HAND, IN_HEADER, comment_of
 from .items import Source
 from .lexing import Refused
-from .program import Module, Program, is_flat
+from .program import FAULTS, INNER, Module, Program, is_flat
 from .writer import Writer
 
 HERE = Path(__file__).resolve().parent
@@ -23,7 +23,7 @@ ORDER = {
     "ee_index": "entries listing lent_list entering reading lent_cursor index_changing lent_index",
     "ee_pairs": "nor pairs runs low_pair wiping",
 }
-LOOKUPS = "value_of live_count live_with next_live make_ready make_room append transfer".split()
+LOOKUPS = "value_of live_count live_with next_live make_ready make_room append transfer find_nothing".split()
 # What the parts by hand call.
 ROOTS = [
     ("opening", "open_on"), ("formatting", "write_format"), ("first_start", "start_on"),
@@ -36,7 +36,7 @@ ROOTS = [
     ("Shape", "new"), ("Address", "new"),
 ]
 # What they call with an index.
-INDEX_ROOTS = [("LentIndex", name) for name in [*LOOKUPS, "find_nothing", "read_anew"]]
+INDEX_ROOTS = [("LentIndex", name) for name in [*LOOKUPS, "read_anew"]]
 # Methods of Rust's own, where a source uses them.
 HELPERS = {
     "u32_saturating_sub": ["/* By hand. The difference, 0 where it would be less. */",
@@ -149,7 +149,7 @@ class Making:
         lines += ["/* The functions below, by their sources. */"]
         lines += [line for fn, args, (head, _, _) in self.found
                   for line in self.conditional((fn, args), [head + ";"])] + [""]
-        lines += part("device.c") + part("lookup.c") + functions + part("calls.c")
+        lines += part("device.c") + part("lookup.c") + self.lookups() + functions + part("calls.c")
         lines = self.joined(lines)
         lines = [more for line in lines for more in wrapped(line)]
         return "\n".join(filled(lines)).rstrip("\n") + "\n"
@@ -190,6 +190,8 @@ class Making:
     def zero(self, of_type):
         """What a member has that its variant doesn't use."""
         item = self.program.by_cname.get(of_type)
+        if of_type in FAULTS:
+            return "EE_OK"
         if of_type == "bool":
             return "false"
         if of_type.endswith("*"):
@@ -221,6 +223,9 @@ class Making:
         """What makes a value of a type with a tag. Each member is said."""
         lines = ["/* What makes a value of a type with a tag. */"]
         for name, (in_c, (flag, value), params) in self.types.makers.items():
+            if in_c in FAULTS:
+                lines += self.conditional(name, self.fault_maker(name, in_c, value, params))
+                continue
             members = self.types.fields_of(in_c)
             typed = ", ".join(self.declared(members[field], field) for field in params) or "void"
             fields = [(flag, value)]
@@ -229,7 +234,20 @@ class Making:
             said = ", ".join(f".{field} = {text}" for field, text in fields)
             lines += self.conditional(name, [f"static inline {in_c} {name}({typed}) {{",
                                              f"    return ({in_c}){{ {said} }};", "}", ""])
+        for name, (in_c, condition) in self.types.tests.items():
+            lines += [f"static inline bool {name}({in_c} fault) {{", f"    return {condition};", "}", ""]
         return lines
+
+    def fault_maker(self, name, in_c, value, params):
+        """What makes a fault of what isn't kept of it, or of one that stands in it."""
+        item, variant = self.program.by_cname[in_c], value.rsplit("_", 1)[1]
+        fields = self.program.variant_fields(item, variant)
+        typed = [self.declared(self.types.name(of_type), field or param)
+                 for (field, of_type), param in zip(fields, params)]
+        inner = (item.name, variant) in INNER
+        return [f"static inline {in_c} {name}({', '.join(typed)}) {{",
+                *([] if inner else [f"    (void){param};" for param in params]),
+                f"    return {params[0] if inner else value};", "}", ""]
 
     @staticmethod
     def declared(of_type, name):
@@ -249,6 +267,26 @@ class Making:
                 title = [*upper, f"{last} */", ""]
             function = [*title, *doc, head + " {", *body, "}", ""]
             lines += self.conditional((fn, args), function)
+        return lines
+
+    def lookups(self):
+        """How a store finds values: a function for each that the two kinds of look-up have."""
+        heads = {fn.name: (head, fn) for fn, _, (head, _, _) in self.found
+                 if fn.owner and fn.owner.name == "LentIndex"}
+        lines = ["/* How a store finds values: by the index that its flash lends, if ee.c was compiled with",
+                 " * EE_INDEX and there is one; else it looks through its slots. */"]
+        for name in LOOKUPS:
+            head, fn = heads[name]
+            gives, params = re.fullmatch(r"\S+ (.*?)lent_index_\w+\((.*)\)", head).groups()
+            its, *others = params.split(", ")
+            args = [re.search(r"\w+$", param)[0] for param in others]
+            its = its.replace("LentIndex", "Lookup")
+            result = "" if gives == "void " else "return "
+            lines += [f"EE_IN_PLACE {gives}lookup_{name}({', '.join([its, *others])}) {{", WITH_INDEX,
+                      "    if (*self != NULL) {",
+                      f"        {result}lent_index_{name}({', '.join(['*self', *args])});",
+                      *([] if result else ["        return;"]), "    }", WITHOUT, "    (void)self;",
+                      f"    {result}slots_{name}({', '.join(args)});", "}", ""]
         return lines
 
     def conditional(self, what, lines):

@@ -10,6 +10,14 @@ GIVEN_BY_CALLS = ("Copy", "LiveCursor")
 BY_HAND = ("Flash", "Nor", "Lookup")
 # Constants of types that stand outside of the sources, with their values.
 BY_VALUE = {"Address::LEAST": "1u"}
+# The enums that say why a call isn't made: in C each is the status of ee.h that tells it, and what
+# else it holds isn't kept. One that stands in another is that other's number too.
+STATUSES = {"Off": "EE_NOT_OPEN", "Full": "EE_FULL", "Memory": "EE_FULL", "Spent": "EE_SPENT",
+            "Cut": "EE_DRIVER", "Twice": "EE_DUPLICATE", "Absent": "EE_ABSENT",
+            "Unformatted": "EE_UNFORMATTED", "NoLiveSet": "EE_NO_LIVE_SET",
+            "TwoLive": "EE_TWO_LIVE", "Foreign": "EE_FOREIGN"}
+FAULTS = ("ScanFault", "OpenFault", "WriteFault", "WriteAllFault", "ForgetFault", "ClearFault")
+INNER = {("OpenFault", "Scan")}
 # The parameters of a generic struct of the sources, with their bounds.
 PARAMETERS = {"F": "Flash", "N": "Nor", "L": "Lookup"}
 
@@ -168,5 +176,6 @@ class Program:
 
 
 def is_flat(item):
-    """Whether a struct or enum is an enum whose variants have no fields."""
-    return item is not None and item.kind == "enum" and all(not f for _, f, _ in item.variants)
+    """Whether a struct or enum is an enum whose variants have no fields, or keep none in C."""
+    return item is not None and item.kind == "enum" and (
+        item.name in FAULTS or all(not f for _, f, _ in item.variants))

@@ -232,7 +232,7 @@ FORMS = [
     (r"\(uint16_t\)\(\(uint32_t\)", "("),
     # `?`
     (r"(\w+|\))( == CUT\)) \{\s*return (?:CUT|\w+_err\(\));\s*\}", r"\1 TRY);"),
-    (r"if \(!(\w+_result)\.ok\) \{\s*return (?:CUT|\w+_err\((?:\1\.error)?\));\s*\}", ""),
+    (r"if \(!(\w+_result)\.ok\) \{\s*return (?:CUT|\1\.error|\w+_err\((?:\1\.error)?\));\s*\}", ""),
     (r"if \(!(maybe_\w+)\.some\) \{\s*return \w+_none\(\);\s*\}\s*const \w+ \w+ = \1\.value;",
      "TRY_OPTION"),
     # Parts of a pattern that C asks for one by one.
@@ -249,8 +249,13 @@ LIST_LOOP_END = r"\b{0}\+\+;\s*\}} while \({0} != {1}\);\s*\}}"
 # A list as two parameters and as two arguments.
 PAIRED = re.compile(r"\{ \.items = (\w+)_items, \.len = (\w+)_len \}"
                     r"|([\w.>-]+)\.items,\s+([\w.>-]+)\.len\b(?! [-+*/])")
-FUNCTION = re.compile(r"(?m)^(?:static|EE_IN_PLACE|EE_APART) (?:const )?\w+ \*?(\w+)"
+FUNCTION = re.compile(r"(?m)^(?:static|EE_IN_PLACE|EE_APART) (?:const )?(\w+) \*?(\w+)"
                       r"\(([^;{]*)\) \{\n(.*?)^\}\n", re.S)
+# What makes a fault of what isn't kept of it, or of one that stands in it; and what tells the latter.
+FAULT_MAKER = re.compile(r"static inline (\w+Fault) (\w+)\((\w+ \w+(?:, \w+ \w+)*)\) "
+                         r"\{(?:\s*\(void\)\w+;)*\s*return (\w+);\s*\}")
+FAULT_TEST = re.compile(r"static inline bool (\w+)_is_(\w+)\((\w+Fault) fault\) "
+                        r"\{\s*return ([^;]*);\s*\}")
 FLAGS = {("some", "true"): "Some", ("some", "false"): "None", ("ok", "true"): "Ok",
          ("ok", "false"): "Err"}
 
@@ -263,6 +268,10 @@ class C:
         self.makers, self.faults = {}, []
         for found in MAKER.finditer(self.text):
             self.add_maker(found)
+        for found in FAULT_MAKER.finditer(self.text):
+            self.add_fault_maker(*found.groups())
+        for found in FAULT_TEST.finditer(self.text):
+            self.add_fault_test(*found.groups())
 
     def add_maker(self, found):
         """What a maker makes; it has to give each argument to the member of its name."""
@@ -281,17 +290,33 @@ class C:
             self.faults.append((name, "makes another value than it is named for"))
         self.makers[name] = kind
 
+    def add_fault_maker(self, of_type, name, params, made):
+        """Such a maker gives the variant that it is named for, or its one parameter."""
+        variant = name.removeprefix(snake(of_type) + "_").title().replace("_", "")
+        if made not in (f"{of_type}_{variant}", snake(variant)) or "," in params and made in params:
+            self.faults.append((name, "makes another value than it is named for"))
+        self.makers[name] = ("variant", (of_type, variant))
+
+    def add_fault_test(self, owner, variant, of_type, condition):
+        """Such a test asks that it is none of the others."""
+        name = variant.title().replace("_", "")
+        others = [it for it in self.rust.variants.get(of_type, []) if it != name]
+        if owner != snake(of_type) or condition != " && ".join(f"fault != {of_type}_{it}"
+                                                                for it in others):
+            self.faults.append((f"{owner}_is_{variant}", "asks for another than it is named for"))
+        self.makers[f"{owner}_is_{variant}"] = ("variant", (of_type, name))
+
     def functions(self, begin, end):
-        """The name and the body of each function between two texts."""
+        """The name and the body of each function between two texts, and whether it gives a fault."""
         text = self.text[self.text.index(begin):self.text.index(end)]
-        return [(it[1], it[3]) for it in FUNCTION.finditer(text)]
+        return [(it[2], it[4], it[1].endswith("Fault")) for it in FUNCTION.finditer(text)]
 
     def keys(self, name):
         """The functions of the sources that a name of C may be."""
         keys = self.rust.names.get(name)
         return keys or self.rust.names.get(re.sub(r"_(bool|live|address_and_u32|lent_cursor)$", "", name), [])
 
-    def rows(self, body):
+    def rows(self, body, gives_fault):
         body = re.sub(r"\n\s+", " ", body)
         if any(it[1] != it[2] or it[3] != it[4] for it in PAIRED.finditer(body)):
             return None
@@ -310,6 +335,12 @@ class C:
                 self.count_call(tokens, at, rows)
             elif token in ("DONE", "CUT") and before == "return":
                 rows.made.append("Ok" if token == "DONE" else "Err")
+            elif token == "EE_OK":
+                rows.made.extend(["Ok"] if before == "return" else [])
+            elif token == "return" and gives_fault:
+                # What another function answers is given on.
+                is_call = tokens[at + 2] == "(" and after not in self.makers
+                rows.made.extend([] if is_call or after == "EE_OK" else ["Err"])
             else:
                 self.count_number(token, before, rows)
             if token in OPERATORS and not self.is_mark(tokens, at):
@@ -391,12 +422,12 @@ def look(folder_of_all, text):
     rust = Rust(folder_of_all)
     c = C(text, rust)
     faults, count = list(c.faults), 0
-    for name, body in c.functions("EE_IN_PLACE void lookup_find_nothing(Lookup *self) {",
-                                  "static struct ee_power *power_of"):
+    for name, body, gives_fault in c.functions("EE_IN_PLACE void lookup_find_nothing(Lookup *self) {",
+                                               "static struct ee_power *power_of"):
         if name == "lookup_find_nothing":
             continue
         count += 1
-        rows, keys = c.rows(body), c.keys(name)
+        rows, keys = c.rows(body, gives_fault), c.keys(name)
         if rows is None or not keys:
             faults.append((name, "a form that isn't known" if keys else "no such function"))
             continue

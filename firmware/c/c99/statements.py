@@ -58,7 +58,9 @@ class Statements(Values):
 
     def let_name(self, s):
         value, local = s.value, s.pat.local
-        if value.kind in ("match", "if"):
+        if local is self.given and self.types.is_placed(self.ret):
+            self.let_placed(local, value)
+        elif value.kind in ("match", "if"):
             self.declare(local)
             self.to(value, ("assign", [local.cname]))
         elif value.kind == "repeat":
@@ -71,6 +73,23 @@ class Statements(Values):
             self.let_large(local, value)
         else:
             self.bind(local, self.value(value, hint=s.pat.name).text)
+
+    def let_placed(self, local, value):
+        """The local that the function gives in a Result stands where its caller says."""
+        local.cname = GIVEN
+        if value.kind == "match" and self.types.is_placed(value.e.ty):
+            held, (first, other) = self.stable(value.e), value.arms
+            if first.pat.what != "Ok" or first.body.kind != "path" or first.pat.parts[0].kind != "bind" \
+                    or first.body.local is not first.pat.parts[0].local:
+                self.fail(value, "a Result that isn't taken as it is")
+            conditions, binds = self.pattern(other.pat, held, value.e.ty)
+            self.emit(f"if ({' && '.join(conditions)}) {{")
+            self.bound(other.body, binds, ("return",), other.note)
+            self.emit("}")
+        elif value.kind == "struct":
+            self.emit(f"*made = {self.value(value).text};")
+        else:
+            self.fail(value, "what isn't made in the place of the caller")
 
     def let_large(self, local, value):
         """A local with a list in it; that which the function gives stands with its caller."""

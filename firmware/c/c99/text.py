@@ -109,7 +109,7 @@ class Text:
         if of_type.name == "Option":
             return "maybe_" + base
         if of_type.name == "Result":
-            return base + "_result"
+            return base + ("_fault" if self.types.is_told(of_type) else "_result")
         if not names and self.program.item_of(of_type) is not None:
             return snake(of_type.name)
         return base + ("_read" if not names and it.kind in ("call", "method") else "")

@@ -2,7 +2,7 @@
 import re
 
 from .c_types import ALIASES, C_NUMBERS, HAND, snake
-from .cases import Cases, First
+from .cases import GIVEN, Cases, First
 from .lexing import UNKNOWN
 from .program import BY_VALUE, is_flat
 from .text import nodes_of
@@ -30,10 +30,6 @@ class Piece:
 
     def at(self, level):
         return self.text if self.level >= level else f"({self.text})"
-
-
-# A struct with a list that a function gives, which it makes where its caller keeps it.
-GIVEN = "(*made)"
 
 
 def member_of(piece, field):
@@ -201,11 +197,17 @@ class Values(Cases):
             if made_by is not it:
                 self.fail(it, "a list that is copied")
             args = [*args, place]
+        if self.types.is_placed(it.ty):
+            if not self.types.is_placed(self.ret):
+                self.fail(it, "what is made in the place of no caller")
+            args = [*args, "made"]
         return Piece(f"{self.writer.request(it.target, it.given)}({', '.join(args)})")
 
     def wrapped(self, it):
         of_type, value = known(it.ty), self.value(it.args[0]).text
         good = it.what != "Err"
+        if self.types.is_told(of_type):
+            return self.told(it, of_type, value)
         if self.types.is_step(of_type):
             if value:
                 self.emit(f"(void){value};")
@@ -214,6 +216,16 @@ class Values(Cases):
         if self.types.is_unit(of_type.args[not good]):
             return self.made(of_type, it.what, flag)
         return self.made(of_type, it.what, flag, [("value" if good else "error", value)])
+
+    def told(self, it, of_type, value):
+        """A Result that is a number. Its value is made where the caller says, if it is kept."""
+        if self.types.name(of_type) != self.types.name(self.ret):
+            self.fail(it, "a Result of another function")
+        if it.what == "Err":
+            return Piece("CUT" if self.types.is_unit(of_type.args[1]) else value)
+        if self.types.is_placed(of_type) and value != GIVEN:
+            self.emit(f"*made = {value};")
+        return Piece(self.types.good(of_type))
 
     def value_of_method(self, it):
         if it.what in ("builtin", "same"):
@@ -514,6 +526,8 @@ class Values(Cases):
         inner, held = it.e, None
         if self.types.is_step(inner.ty):
             condition = f"{self.value(inner).at(EQUAL + 1)} == CUT"
+        elif self.types.is_told(inner.ty):
+            self.fail(it, "? of a Result that is a number")
         else:
             name = hint or self.hint(inner).replace("_result", "").replace("maybe_", "")
             prefix, suffix = ("maybe_", "") if is_named(inner.ty, "Option") else ("", "_result")
@@ -529,6 +543,8 @@ class Values(Cases):
         ret = known(self.ret)
         if self.types.is_step(ret):
             return "CUT"
+        if self.types.is_told(ret):
+            return "CUT" if self.types.is_unit(ret.args[1]) else f"{held}.error"
         if ret.name == "Option":
             return self.made(ret, "none", ("some", "false")).text
         fault = [] if self.types.is_unit(ret.args[1]) else [("error", f"{held}.error")]

@@ -113,6 +113,13 @@ class FunctionWriter(Statements):
                 self.fail(self.fn.node, "a parameter of this name")
             gives, tail = "void", self.fn.node.body.tail
             self.given = tail.local if tail.kind == "path" else None
+        if self.types.is_placed(self.ret):
+            params.append(self.spaced(self.types.name(known(self.ret).args[0]) + " *", "made"))
+            if self.fresh("made") != "made":
+                self.fail(self.fn.node, "a parameter of this name")
+            given = [node.args[0].local for node in nodes_of(self.fn.node.body)
+                     if node.kind == "call" and node.what == "Ok" and node.args[0].kind == "path"]
+            self.given = given[0] if given else None
         inline = INLINE.get((self.fn.module, self.fn.name), self.fn.node.inline)
         mark = MARKS[inline or ("always" if self.is_short() else None)]
         head = f"{mark} {self.spaced(gives, self.name)}({', '.join(params) or 'void'})"

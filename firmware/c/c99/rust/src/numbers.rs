@@ -38,7 +38,7 @@ impl Nor for Numbers<'_> {
     }
 
     fn window(&self, page: usize, at: usize, count: usize) -> Option<&[u64]> {
-        self.device.seen(self.flash, page, at, count)
+        self.device.seen(self.device.flash()?, page, at, count)
     }
 
     fn program(&mut self, page: usize, at: usize, number: u64) -> Result<(), Cut> {
