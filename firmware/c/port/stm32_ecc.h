@@ -55,6 +55,11 @@
 extern "C" {
 #endif
 
+/* The program and the port have to be compiled for one family, since a struct's size follows from it. */
+#if !defined(STM32C0) && !defined(STM32G0) && !defined(STM32G4) && !defined(STM32L4) && !defined(STM32U0) && !defined(STM32WB) && \
+    !defined(STM32WL)
+#error "define the family for all of the program, as -DSTM32G4: STM32C0, STM32G0, STM32G4, STM32L4, STM32U0, STM32WB or STM32WL"
+#endif
 #if (defined(STM32C0) || defined(STM32U0)) && !defined(STM32_ECC_WORDS)
 #define STM32_ECC_PAIRS 1
 #else
