@@ -1,3 +1,4 @@
+/* SPDX-License-Identifier: MIT OR Apache-2.0 */
 /* An example of a port: a store in the flash of an STM32 that programs 64 bits with ECC, by its registers: G0, G4, L4, WB, WL,
  * and C0, U0. It was tested on a computer against a model of the registers, the caches and the NMI (tests/stm32_ecc.c), and never
  * on a board. Nothing of it is proved. The family is defined for all of the program, as -DSTM32G4: the port includes none of ST's headers.
