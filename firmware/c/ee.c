@@ -1,3 +1,4 @@
+/* SPDX-License-Identifier: MIT OR Apache-2.0 */
 /* ee: variables in flash, the library of ee.h as one file of C99.
  *
  * Made by firmware/c/to_c of firmware/rust/ee-store, which is made of proved sources, and of parts

@@ -1,3 +1,4 @@
+/* SPDX-License-Identifier: MIT OR Apache-2.0 */
 /* ee: variables in flash, after ST's AN4894. The store for firmware: ee.c, made from proved sources, see README.md.
  *
  * The flash is two sets of `pages` pages (1 to 64), each of `page_words` words of 64 bits (5 to 512). Pages are numbered

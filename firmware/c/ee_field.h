@@ -1,3 +1,4 @@
+/* SPDX-License-Identifier: MIT OR Apache-2.0 */
 /* What a program in the field may need beside the calls of ee.h: the flash as a text, and which page waits to be erased. Both are
  * made of the functions of an `ee_flash` and of ee_counts: a program that calls neither is the same without them. */
 #ifndef EE_FIELD_H

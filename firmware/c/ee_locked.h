@@ -1,3 +1,4 @@
+/* SPDX-License-Identifier: MIT OR Apache-2.0 */
 /* The calls of ee.h, each between EE_LOCK() and EE_UNLOCK(), for a program of several threads. Define these two and include this
  * in place of ee.h. All stores in one flash, and whatever else writes there, share the lock. No call is made from an interrupt.
  *

@@ -1,3 +1,4 @@
+/* SPDX-License-Identifier: MIT OR Apache-2.0 */
 /* Records over the calls of ee.h, by hand: each function as in the proved crate ee_records. */
 #include "ee_records.h"
 

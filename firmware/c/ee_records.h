@@ -1,3 +1,4 @@
+/* SPDX-License-Identifier: MIT OR Apache-2.0 */
 /* Records: bytes of any length in a store of ee.h, each record kept as a whole, with a check. By hand over the calls of ee.h,
  * step by step as the proved crate ee_records does it; docs/FORMATS.md has the layout.
  *

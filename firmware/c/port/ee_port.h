@@ -1,3 +1,4 @@
+/* SPDX-License-Identifier: MIT OR Apache-2.0 */
 /* What the ports share: how they reach registers, and what is yours to define. */
 #ifndef EE_PORT_H
 #define EE_PORT_H

@@ -1,3 +1,4 @@
+/* SPDX-License-Identifier: MIT OR Apache-2.0 */
 /* An example of a port: a store in the flash of an nRF51 or an nRF52, by its registers (NVMC). It has no error correction, so its
  * words are pairs of numbers. It was tested on a computer against a model of the registers (tests/nrf5.c) and on QEMU's microbit,
  * whose controller others wrote (firmware/microbit), and never on a board. Nothing of it is proved.

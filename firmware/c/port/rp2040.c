@@ -1,3 +1,4 @@
+/* SPDX-License-Identifier: MIT OR Apache-2.0 */
 #include "rp2040.h"
 
 /* How often the chip is asked whether it is ready, each time some 100 cycles of at most 133 MHz: a sector takes 400 ms. */

@@ -1,3 +1,4 @@
+/* SPDX-License-Identifier: MIT OR Apache-2.0 */
 /* An example of a port: a store in the flash of an RP2040's board, which has no error correction, so its words are pairs of
  * numbers. It was tested on a computer against a model of the boot ROM's functions, of the flash and of the XIP cache
  * (tests/rp2040.c), and never on a board: rp2040_find_rom was never run. Nothing of it is proved. A flash chip that has

@@ -1,3 +1,4 @@
+/* SPDX-License-Identifier: MIT OR Apache-2.0 */
 /* An example of a port: a store in serial flash with sectors of 4 KB, by the functions of a vendor: of the Pico SDK (RP2040,
  * RP2350), or of ESP-IDF where that defines ESP_PLATFORM (ESP32, C3, S3 and others). Such flash has no error correction that the
  * program sees, so the store's words are pairs of numbers. It was tested on a computer against a model of these functions

@@ -1,3 +1,4 @@
+/* SPDX-License-Identifier: MIT OR Apache-2.0 */
 #include "stm32_ecc.h"
 
 #include <stddef.h>
@@ -28,7 +29,7 @@ static const uint32_t ECCR_BK = 0, ECCR_SYSF = 1u << 20;
 enum { BASE = 0x40022000, SR_BUSY = 1 << 16, CR_BKER_SHIFT = 11, COUNTS_WORDS = 0 };
 static const uint32_t CACHE_ON = 1u << 10, CACHE_RESET = 1u << 12; /* DCEN, DCRST */
 static const uint32_t ECCR_BK = 1u << 21, ECCR_SYSF = 1u << 22;
-#elif defined(STM32L4) || defined(STM32WB) || defined(STM32WL)
+#else /* STM32L4, STM32WB, STM32WL */
 #ifdef STM32L4
 enum { BASE = 0x40022000, COUNTS_WORDS = 0 };
 #else
@@ -38,8 +39,6 @@ enum { BASE = 0x58004000, COUNTS_WORDS = 1 };
 enum { SR_BUSY = 1 << 16 | 1 << 18 | 1 << 19, CR_BKER_SHIFT = 11 };
 static const uint32_t CACHE_ON = 1u << 10, CACHE_RESET = 1u << 12; /* DCEN, DCRST */
 static const uint32_t ECCR_BK = COUNTS_WORDS ? 0 : 1u << 19, ECCR_SYSF = 1u << 20;
-#else
-#error "define the family, as STM32G4: STM32C0, STM32G0, STM32G4, STM32L4, STM32U0, STM32WB or STM32WL"
 #endif
 
 /* The flags of an error that was corrected, and of one that can't be: of a word, and of the upper half of 128 bits. */

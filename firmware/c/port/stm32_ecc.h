@@ -1,3 +1,4 @@
+/* SPDX-License-Identifier: MIT OR Apache-2.0 */
 /* An example of a port: a store in the flash of an STM32 that programs 64 bits with ECC, by its registers: G0, G4, L4, WB, WL,
  * and C0, U0. It was tested on a computer against a model of the registers, the caches and the NMI (tests/stm32_ecc.c), and never
  * on a board. Nothing of it is proved. The family is defined for all of the program, as -DSTM32G4: the port includes none of ST's headers.
@@ -55,6 +56,11 @@
 extern "C" {
 #endif
 
+/* The program and the port have to be compiled for one family, since a struct's size follows from it. */
+#if !defined(STM32C0) && !defined(STM32G0) && !defined(STM32G4) && !defined(STM32L4) && !defined(STM32U0) && !defined(STM32WB) && \
+    !defined(STM32WL)
+#error "define the family for all of the program, as -DSTM32G4: STM32C0, STM32G0, STM32G4, STM32L4, STM32U0, STM32WB or STM32WL"
+#endif
 #if (defined(STM32C0) || defined(STM32U0)) && !defined(STM32_ECC_WORDS)
 #define STM32_ECC_PAIRS 1
 #else

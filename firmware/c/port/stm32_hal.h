@@ -1,3 +1,4 @@
+/* SPDX-License-Identifier: MIT OR Apache-2.0 */
 /* An example of a port: a store in the flash of an STM32, written by ST's HAL (HAL_FLASH_Program, HAL_FLASHEx_Erase). It was
  * tested on a computer against a model of the HAL, of the caches and of the NMI (tests/stm32_hal.c), and compiled against
  * declarations written for that. It was never compiled against ST's own files, and never on a board. Nothing of it is

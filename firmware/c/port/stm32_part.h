@@ -1,3 +1,4 @@
+/* SPDX-License-Identifier: MIT OR Apache-2.0 */
 /* What the ports to the registers of an STM32's flash share: the frame of a step. A port includes it behind its constants: the
  * offsets KEYR, SR, SR_CLEAR and CR, the bits SR_BUSY, SR_ERRORS, SR_EOP and CR_LOCK. */
 #ifndef STM32_PART_H

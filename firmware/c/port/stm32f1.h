@@ -1,3 +1,4 @@
+/* SPDX-License-Identifier: MIT OR Apache-2.0 */
 /* An example of a port: a store in the flash of an STM32F0, F1 or F3, which has no error correction, so its words are pairs of
  * numbers. It was tested on a computer against a model of the registers (tests/stm32f1.c), and never on a board. Nothing of it is
  * proved. The internal oscillator (HSI) is on while flash is written.

@@ -1,3 +1,4 @@
+/* SPDX-License-Identifier: MIT OR Apache-2.0 */
 #include "stm32f4.h"
 
 /* What a test puts in place of the part, beside what stm32_part.h has: a unit of the flash. */

@@ -1,3 +1,4 @@
+/* SPDX-License-Identifier: MIT OR Apache-2.0 */
 /* An example of a port: a store in two sectors of the flash of an STM32F2, F4 or F7, which has no error correction, so its words
  * are pairs of numbers. It was tested on a computer against a model of the registers and of the data cache (tests/stm32f4.c,
  * stm32f4_f7.c), and never on a board. Nothing of it is proved. It programs by 32 bits, which takes a supply of 2.7 V at least.

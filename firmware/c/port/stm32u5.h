@@ -1,3 +1,4 @@
+/* SPDX-License-Identifier: MIT OR Apache-2.0 */
 /* An example of a port: a store in the flash of an STM32U5, H5 or WBA, which programs 128 bits at once, with error correction over
  * them. So each word of the store takes a unit of 16 bytes, with its complement in the second half; the store knows nothing
  * of it (`kind` is EE_WORDS). It was tested on a computer against a model of the registers, the cache and the NMI

@@ -1,3 +1,4 @@
+/* SPDX-License-Identifier: MIT OR Apache-2.0 */
 /* An example of a port: a store in a partition of Zephyr's flash, by its flash API. It was tested on a computer against a model
  * of that API and of the flash behind it (tests/zephyr.c), and compiled against declarations written for that. It was never
  * compiled against Zephyr's own files, and never on a board. Nothing of it is proved. The names are those of Zephyr 3.2 and

@@ -1,3 +1,4 @@
+/* SPDX-License-Identifier: MIT OR Apache-2.0 */
 /* A flash in memory, for tests on a computer: it keeps the rules that the store is proved on, and its power can be cut in
  * any step, in each of the ways that a script of `ee run` knows (docs/FORMATS.md, the line `x N T`). C99, and no more. It asks
  * for ee.h, in the same folder or by -I.

@@ -1,3 +1,4 @@
+// SPDX-License-Identifier: MIT OR Apache-2.0
 // The page has programs over each feature.
 #![cfg_attr(
     all(feature = "defmt", feature = "embedded-storage", feature = "embedded-storage-async"),
