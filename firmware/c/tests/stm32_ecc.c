@@ -25,7 +25,7 @@ static uint32_t waited; /* turns of the port's loop */
 enum { FIRST = 60, MOST_WORDS = 1024, LATEST = 6, CACHE_LINES = 8, CACHE_WORDS = 4 /* of a line: 32 bytes */ };
 enum fault { NONE, WRITE_PROTECTED, POWER, SILENT, LAZY, STAYS_BUSY, STAYS_LOCKED, HELD_OFF };
 enum state { FINE, CORRECTED, TORN }; /* of a double word */
-static const uint32_t PROGERR = 1u << 3, PGSERR = 1u << 7, C = 1u << 30, D = 1u << 31;
+static const uint32_t PROGERR = 1u << 3, PGSERR = 1u << 7, ECCC = 1u << 30, ECCD = 1u << 31;
 
 /* What a family has: a part whose banks can be exchanged, or the only kind; where its flags and registers are. */
 #if defined(STM32G0)
@@ -51,9 +51,9 @@ enum { IS_PAIRED = 1 };
 enum { IS_PAIRED = 0 };
 #endif
 #ifdef STM32G4
-static const uint32_t C2 = 1u << 28, D2 = 1u << 29;
+static const uint32_t ECCC2 = 1u << 28, ECCD2 = 1u << 29;
 #else
-static const uint32_t C2 = 0, D2 = 0;
+static const uint32_t ECCC2 = 0, ECCD2 = 0;
 #endif
 static const uint32_t AFTER_RESET = 0x40600 & ~(1u << (19 - ON)) /* the other cache's bit is none of the port's */;
 
@@ -81,7 +81,7 @@ static enum fault fault;
 static uint32_t lines[CACHE_LINES][2 * CACHE_WORDS], line_of[CACHE_LINES], next_line, buffer[4], buffer_of;
 enum { NO_LINE = UINT16_MAX };
 
-static int is_of_128(void) { return D2 != 0 && part.page_words == 512; }
+static int is_of_128(void) { return ECCD2 != 0 && part.page_words == 512; }
 static int is_cached(void) { return registers.acr >> ON & 1; }
 
 /* The register of the bank's errors. The other bank's stays as it is. */
@@ -110,23 +110,23 @@ static void empty_caches(void) {
 /* An error with its flag, and where no flag stands its address, or another one. */
 static void tell(uint32_t address, uint32_t flag) {
     static uint32_t kept;
-    if ((*ecc() & (C | C2 | D | D2) & ~flag) != 0 && hides && kept != address) return;
-    if ((*ecc() & (C | C2 | D | D2)) == 0) {
+    if ((*ecc() & (ECCC | ECCC2 | ECCD | ECCD2) & ~flag) != 0 && hides && kept != address) return;
+    if ((*ecc() & (ECCC | ECCC2 | ECCD | ECCD2)) == 0) {
         kept = address;
         uint32_t told = is_lying && below(4) == 0 ? told_of(below(1 << 16)) : address;
         lies += told != address;
         *ecc() = (*ecc() & 1u << 24) | in_bank() | told;
     }
     *ecc() |= flag;
-    if ((flag & (D | D2)) != 0 && raised_for == 0) raised_for = 1 + (is_late ? below(LATEST) : 0);
+    if ((flag & (ECCD | ECCD2)) != 0 && raised_for == 0) raised_for = 1 + (is_late ? below(LATEST) : 0);
 }
 
 /* The flash reads one double word, or two, and tells what is wrong. */
 static void sense(uint32_t i) {
     uint32_t count = is_of_128() ? 2 : 1, from = i / count * count, address = told_of(FIRST * part.page_words + from);
     for (uint32_t k = 0; k < count; k++) {
-        if (states[from + k] == CORRECTED) tell(address, k ? C2 : C);
-        if (states[from + k] == TORN) tell(address, k ? D2 : D);
+        if (states[from + k] == CORRECTED) tell(address, k ? ECCC2 : ECCC);
+        if (states[from + k] == TORN) tell(address, k ? ECCD2 : ECCD);
     }
 }
 
@@ -294,8 +294,8 @@ static void set(volatile uint32_t *address, uint32_t value) {
     } else if (address == &registers.sr) {
         registers.sr &= ~value;
     } else if (address == ecc()) {
-        CHECK(!is_in_nmi || (value & (C | C2)) == 0); /* the handler leaves the flags of corrected errors */
-        *ecc() = (*ecc() & ~(value & (C | C2 | D | D2)) & ~(1u << 24)) | (value & 1u << 24);
+        CHECK(!is_in_nmi || (value & (ECCC | ECCC2)) == 0); /* the handler leaves the flags of corrected errors */
+        *ecc() = (*ecc() & ~(value & (ECCC | ECCC2 | ECCD | ECCD2)) & ~(1u << 24)) | (value & 1u << 24);
     } else if (address == &registers.acr) {
         set_access(value);
     } else if (address == &registers.cr) {
@@ -348,7 +348,7 @@ static void read_by_others(uint32_t most) {
         CHECK(fetched(half) == memory[half]);
         do barrier();
         while (raised_for > 0);
-        if (others) *ecc() &= ~(C | C2 | D | D2), others = 0; /* beside one that was corrected: the product's own handler */
+        if (others) *ecc() &= ~(ECCC | ECCC2 | ECCD | ECCD2), others = 0; /* beside one that was corrected: the product's own handler */
     }
 }
 
@@ -427,7 +427,7 @@ static void raised(uint32_t eccr, int is_claimed, uint32_t flags) {
     is_settled = 1, is_in_nmi = 1;
     CHECK(stm32_ecc_nmi(&part) == is_claimed && is_settled);
     is_in_nmi = 0;
-    CHECK((*ecc() & (C | C2 | D | D2)) == flags && (*ecc() & 1u << 24) != 0);
+    CHECK((*ecc() & (ECCC | ECCC2 | ECCD | ECCD2)) == flags && (*ecc() & 1u << 24) != 0);
     *ecc() = 1u << 24;
 }
 
@@ -435,27 +435,27 @@ static void raised(uint32_t eccr, int is_claimed, uint32_t flags) {
 static void addresses(uint32_t number, uint32_t two_banks, uint32_t is_second) {
     memset(&part, 0, sizeof part);
     bank = 0;
-    raised(D, 0, D); /* before there is a store */
+    raised(ECCD, 0, ECCD); /* before there is a store */
     new_part(number, two_banks, 0, is_second, 1);
     uint32_t begin = FIRST * part.page_words, end = begin + 2 * part.page_words, in = is_of_128() ? 0 : in_bank();
-    raised(D | in | told_of(begin), 1, 0);
-    raised(D | in | told_of(end - 1), 1, 0);
-    raised(D | C | in | told_of(begin), 0, D | C); /* the address may be that of the corrected one, and the error anywhere */
-    if (D2) raised(D2 | C2 | in | told_of(begin), 0, D2 | C2);
+    raised(ECCD | in | told_of(begin), 1, 0);
+    raised(ECCD | in | told_of(end - 1), 1, 0);
+    raised(ECCD | ECCC | in | told_of(begin), 0, ECCD | ECCC); /* the address may be that of the corrected one, and the error anywhere */
+    if (ECCD2) raised(ECCD2 | ECCC2 | in | told_of(begin), 0, ECCD2 | ECCC2);
     part.is_reading = 1;
-    raised(D | C | in | told_of(begin), 1, C);
-    if (D2) raised(D2 | C2 | in | told_of(begin), 1, C2);
-    raised(D, 1, 0);
+    raised(ECCD | ECCC | in | told_of(begin), 1, ECCC);
+    if (ECCD2) raised(ECCD2 | ECCC2 | in | told_of(begin), 1, ECCC2);
+    raised(ECCD, 1, 0);
     part.is_reading = 0;
-    raised(C | in | told_of(begin), 0, C); /* another cause */
+    raised(ECCC | in | told_of(begin), 0, ECCC); /* another cause */
     raised(in | told_of(begin), 0, 0);
     uint32_t far[] = {0, begin - 1, end, 0x7fff};
-    for (int i = 0; i < 4; i++) raised(D | in | told_of(far[i]), 0, D);
-    raised(D | 1u << SYSF | in | told_of(begin), 0, D); /* the system's flash */
-    if (BK < 32 && two_banks) raised(D | (in ^ 1u << (BK % 32)) | told_of(begin), 0, D); /* the other bank */
-    *(ecc() == &registers.eccr ? &registers.ecc2r : &registers.eccr) = D | told_of(begin);
+    for (int i = 0; i < 4; i++) raised(ECCD | in | told_of(far[i]), 0, ECCD);
+    raised(ECCD | 1u << SYSF | in | told_of(begin), 0, ECCD); /* the system's flash */
+    if (BK < 32 && two_banks) raised(ECCD | (in ^ 1u << (BK % 32)) | told_of(begin), 0, ECCD); /* the other bank */
+    *(ecc() == &registers.eccr ? &registers.ecc2r : &registers.eccr) = ECCD | told_of(begin);
     raised(0, 0, 0); /* the other bank's own register */
-    if (is_of_128()) raised(D2 | told_of(begin), 1, 0), raised(D2 | 16, 0, D2);
+    if (is_of_128()) raised(ECCD2 | told_of(begin), 1, 0), raised(ECCD2 | 16, 0, ECCD2);
 }
 
 /* An address and so many pages of a set; whether they fit, and then the bank and the number of the first page. */
@@ -557,16 +557,16 @@ static void torn(uint32_t number, uint32_t banks, uint32_t is_second) {
     states[6] = states[9] = states[11] = CORRECTED; /* 9 and 11 are all ones */
     for (uint32_t n = 0; n < 1500; n++) {
         uint32_t place = below(12), is_torn = (place >= 3 && place <= 5) || place == 9 || place == 11;
-        if (below(4) == 0) tell(told_of(below(100)), C);
+        if (below(4) == 0) tell(told_of(below(100)), ECCC);
         if (below(4) == 0) empty_caches(), read_by_others(12);
         for (uint32_t again = below(3); again < 3; again++) {
             uint32_t status = flash.word(&part, 0, place, &value);
             CHECK(status == (is_torn && !IS_PAIRED ? EE_TORN : 0));
             CHECK(status != 0 || value == (is_torn ? NO_NUMBER : place < 8 ? 7 + place : UINT64_MAX));
-            CHECK((*ecc() & (D | D2)) == 0);
+            CHECK((*ecc() & (ECCD | ECCD2)) == 0);
         }
     }
-    tell(told_of(6), C);
+    tell(told_of(6), ECCC);
     uint32_t stood = *ecc();
     CHECK(flash.word(&part, 0, 0, &value) == 0 && part.corrected == stood);
     CHECK(is_as_before());

@@ -36,12 +36,12 @@ PLANTS = {
         r"if \(second < first\)( \{\n        return live_set_result_ok)", r"if (first < second)\1",
         "an opening takes the older of two sets", "opens-words-1x5-0-1-steps"),
     "read-goes-on": (
-        r"(failed != 0u && failed != EE_TORN\) \{\n)        turn_off\(device\);\n", r"\1        (void)device;\n",
+        r"(if \(failed != EE_TORN\)) \{ device->power->flash = NULL; \}", r"\1 { (void)device; }",
         "a read that failed isn't noted", "bad_words-words-1x5-0-1-reads"),
     "fill-goes-on": (
-        r"(turn_off\(device\);\n                fill_unread[^;]*;\n)                return;\n", r"\1",
+        r"(fill_unread\(&items\[place\][^;]*;\n)            return;\n", r"\1",
         "words are read behind a read that failed", "count-words-1x5-1-1-reads"),
     "stays-on": (
-        r"(if \(failed != 0u\) \{\n)        turn_off\(device\);\n(        return CUT;)", r"\1\2",
+        r"(\{ return DONE; \}\n)    device->power->flash = NULL;\n(    return CUT;)", r"\1\2",
         "a step that failed isn't noted", "write-words-1x5-0-0-steps"),
 }
