@@ -3611,8 +3611,8 @@ static bool page_holds(const Device *flash, uint32_t page) {
 
 /* Makes the first store. */
 static OpenFault start_anew(Device *flash, Layout *made) {
-    const Step write_format_fault = write_format(flash, made);
-    if (write_format_fault == DONE) {
+    const Step write_format_result = write_format(flash, made);
+    if (write_format_result == DONE) {
         return EE_OK;
     }
     return OpenFault_Cut;

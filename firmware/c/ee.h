@@ -53,8 +53,8 @@
  * ee_write_all first compares each two addresses of its list.
  *
  * ee.c leaves calls out where these are defined, for a program that makes none of them: EE_NO_LISTS ee_write_all, EE_NO_FORGET
- * ee_forget and ee_forget_all, EE_NO_RESCUE ee_rescue and ee_bad_words, EE_NO_OPEN ee_open and ee_format. With EE_NO_PAIRS it
- * takes a flash of EE_WORDS alone. With EE_INDEX it takes an index (ee_index).
+ * ee_forget and ee_forget_all, EE_NO_RESCUE ee_rescue, ee_bad_words and ee_foreign_word, EE_NO_OPEN ee_open and ee_format. With
+ * EE_NO_PAIRS it takes a flash of EE_WORDS alone. With EE_INDEX it takes an index (ee_index).
  *
  * The stack that a call takes, beside what the three functions take, is in README.md and ../RESULTS.md.
  */

@@ -109,7 +109,8 @@ class Text:
         if of_type.name == "Option":
             return "maybe_" + base
         if of_type.name == "Result":
-            return base + ("_fault" if self.types.is_told(of_type) else "_result")
+            is_fault = self.types.is_told(of_type) and self.types.good(of_type) == "EE_OK"
+            return base + ("_fault" if is_fault else "_result")
         if not names and self.program.item_of(of_type) is not None:
             return snake(of_type.name)
         return base + ("_read" if not names and it.kind in ("call", "method") else "")
