@@ -300,10 +300,10 @@ ee_result ee_clean(ee_store *store);
 /* The value of an address. EE_OK, EE_NOTHING; EE_DRIVER. `value` is written with EE_OK alone. */
 ee_result ee_read(const ee_store *store, uint16_t address, uint32_t *value);
 
-/* Gives each of `count` values the value of its address, as ee_read would, but by one look through the slots for each 32: the
- * call with which a program that has settings starts. A value whose address has none keeps what stands in it, its default; an
- * address may stand there more than once. `*loaded` becomes how many got a value. EE_OK, also where `count` is 0; EE_DRIVER,
- * where the values up to a multiple of 32 may have been loaded, and `*loaded` isn't written. */
+/* Gives each of `count` values the value of its address, as ee_read would, but by one look through the slots for each 32,
+ * also with an index: the call with which a program that has settings starts. A value whose address has none keeps what
+ * stands in it, its default; an address may stand there more than once. `*loaded` becomes how many got a value. EE_OK, also
+ * where `count` is 0; EE_DRIVER, where the values up to a multiple of 32 may have been loaded, and `*loaded` isn't written. */
 ee_result ee_load(const ee_store *store, ee_value *values, uint32_t count, uint32_t *loaded);
 
 /* The next address above `*address` that has a value, with the value; the first of all where `*address` is 0. EE_OK,
