@@ -211,6 +211,19 @@ typedef struct LiveBatch {
     MaybeAddress through;
 } LiveBatch;
 
+typedef struct MaybeU32 {
+    bool some;
+    uint32_t value;
+} MaybeU32;
+
+/* An address whose value is wanted, and the value that a load finds. */
+typedef struct Wanted {
+    /* The address. */
+    Address address;
+    /* Its value, `None` if it has none. */
+    MaybeU32 value;
+} Wanted;
+
 /* A value that an address gets. It is laid out as in C, so that a list of C's can be one of
  * these. */
 typedef ee_value Put;
@@ -426,10 +439,15 @@ typedef struct MaybeLive {
     Live value;
 } MaybeLive;
 
-typedef struct MaybeU32 {
+typedef struct RoomOfWanted {
+    Wanted *items;
+    uint32_t len;
+} RoomOfWanted;
+
+typedef struct MaybeSaidValue {
     bool some;
-    uint32_t value;
-} MaybeU32;
+    MaybeU32 value;
+} MaybeSaidValue;
 
 typedef struct ReadResult {
     bool ok;
@@ -466,11 +484,6 @@ typedef struct IndexPair {
     uint32_t first;
     uint32_t second;
 } IndexPair;
-
-typedef struct MaybeSaidValue {
-    bool some;
-    MaybeU32 value;
-} MaybeSaidValue;
 
 typedef struct MaybeLowPair {
     bool some;
@@ -554,6 +567,22 @@ static inline Word word_held(uint64_t held) {
     return (Word){ .tag = Word_Held, .held = held };
 }
 
+static inline MaybeSaidValue maybe_said_value_none(void) {
+    return (MaybeSaidValue){ .some = false, .value = { .some = false, .value = 0u } };
+}
+
+static inline MaybeU32 maybe_u32_some(uint32_t value) {
+    return (MaybeU32){ .some = true, .value = value };
+}
+
+static inline MaybeSaidValue maybe_said_value_some(MaybeU32 value) {
+    return (MaybeSaidValue){ .some = true, .value = value };
+}
+
+static inline MaybeU32 maybe_u32_none(void) {
+    return (MaybeU32){ .some = false, .value = 0u };
+}
+
 static inline ReadResult read_result_err(void) {
     return (ReadResult){ .ok = false, .value = { .some = false, .value = 0u } };
 }
@@ -629,22 +658,6 @@ static inline MaybeLive maybe_live_some(Live value) {
 
 static inline MaybeLive maybe_live_none(void) {
     return (MaybeLive){ .some = false, .value = { .first = 0u, .second = 0u } };
-}
-
-static inline MaybeU32 maybe_u32_none(void) {
-    return (MaybeU32){ .some = false, .value = 0u };
-}
-
-static inline MaybeSaidValue maybe_said_value_some(MaybeU32 value) {
-    return (MaybeSaidValue){ .some = true, .value = value };
-}
-
-static inline MaybeSaidValue maybe_said_value_none(void) {
-    return (MaybeSaidValue){ .some = false, .value = { .some = false, .value = 0u } };
-}
-
-static inline MaybeU32 maybe_u32_some(uint32_t value) {
-    return (MaybeU32){ .some = true, .value = value };
 }
 
 static inline MaybeLowPair maybe_low_pair_some(LowPair value) {
@@ -858,6 +871,14 @@ static MaybeSaidValue said_in_page(const Device *flash, Side side, uint32_t page
         Address address);
 EE_APART uint32_t ending_in(const uint64_t *numbers_items, uint32_t numbers_len, Address address);
 EE_IN_PLACE MaybeSaidValue said(uint64_t number);
+static void load(const Device *flash, const Layout *layout, Wanted *entries_items,
+        uint32_t entries_len);
+static void clear_values(Wanted *entries_items, uint32_t entries_len);
+static void tell_page(const Device *flash, Side side, uint32_t page, Wanted *entries_items,
+        uint32_t entries_len);
+static void tell_run(const uint64_t *numbers_items, uint32_t numbers_len, Wanted *entries_items,
+        uint32_t entries_len);
+static MaybeSaidValue said_in(const uint64_t *numbers_items, uint32_t numbers_len, Address address);
 static Step marking_mark(Device *flash, uint32_t page, Mark mark);
 static MaybeSide rescued_side(const Device *flash);
 static uint32_t named_generation(const Device *flash, Side side);
@@ -971,6 +992,7 @@ EE_IN_PLACE WriteFault known_append_value(Known *self, Device *flash, Address ad
 static WriteFault known_move_value(Known *self, Device *flash, Address address, uint32_t value);
 static bool known_has_no_place(const Known *self, const Device *flash, Address address);
 static uint32_t store_torn_slots(const Store *self);
+static Step store_load(const Store *self, Wanted *entries_items, uint32_t entries_len);
 static WriteAllFault store_write_one(Store *self, Put put);
 static WriteAllFault store_write_several(Store *self, const Put *puts_items, uint32_t puts_len);
 static bool store_is_full_for_all(const Store *self, const Put *puts_items, uint32_t puts_len);
@@ -2267,6 +2289,77 @@ EE_IN_PLACE MaybeSaidValue said(uint64_t number) {
     return maybe_said_value_some(maybe_u32_none());
 }
 
+/* ---- ee_pages/loading.rs: The values of a list of addresses, by one look through the slots. */
+
+/* Gives each entry of a list the value of its address, as `latest` does. It reads each slot of the
+ * pages that are in use once, however long the list is. The layout is the image's.
+ *
+ * Source: the last element written for an address is its value, AN4894; the rest is ours. */
+static void load(const Device *flash, const Layout *layout, Wanted *entries_items,
+        uint32_t entries_len) {
+    const RoomOfWanted entries = { .items = entries_items, .len = entries_len };
+    const uint32_t last = layout->current - first_page(flash, layout->side);
+    clear_values(entries.items, entries.len);
+    for (uint32_t page = 0u, end = last + 1u; page < end; page++) {
+        tell_page(flash, layout->side, page, entries.items, entries.len);
+    }
+}
+
+/* Takes the value of each entry away. */
+static void clear_values(Wanted *entries_items, uint32_t entries_len) {
+    const RoomOfWanted entries = { .items = entries_items, .len = entries_len };
+    for (uint32_t at = 0u, end = entries.len; at < end; at++) {
+        entries.items[at].value = maybe_u32_none();
+    }
+}
+
+/* Gives the entries what the slots of a page say, which stand behind those of the pages before. */
+static void tell_page(const Device *flash, Side side, uint32_t page, Wanted *entries_items,
+        uint32_t entries_len) {
+    const RoomOfWanted entries = { .items = entries_items, .len = entries_len };
+    const uint32_t here = first_page(flash, side) + page;
+    const uint32_t words = flash->shape.words;
+    uint64_t room[RUN];
+    uint32_t at = HEADER_WORDS;
+    while (at < words) {
+        const ListOfU64 run = run_from(flash, here, at, words, room);
+        at += run.len;
+        tell_run(run.items, run.len, entries.items, entries.len);
+    }
+}
+
+/* Gives the entries what these numbers of slots say. */
+static void tell_run(const uint64_t *numbers_items, uint32_t numbers_len, Wanted *entries_items,
+        uint32_t entries_len) {
+    const ListOfU64 numbers = { .items = numbers_items, .len = numbers_len };
+    const RoomOfWanted entries = { .items = entries_items, .len = entries_len };
+    for (uint32_t at = 0u, end = entries.len; at < end; at++) {
+        const MaybeSaidValue maybe_said = said_in(numbers.items, numbers.len,
+                entries.items[at].address);
+        if (maybe_said.some) {
+            const MaybeU32 said_2 = maybe_said.value;
+            entries.items[at].value = said_2;
+        }
+    }
+}
+
+/* What these numbers of slots say of an address: the last that says something counts. */
+static MaybeSaidValue said_in(const uint64_t *numbers_items, uint32_t numbers_len,
+        Address address) {
+    const ListOfU64 numbers = { .items = numbers_items, .len = numbers_len };
+    uint32_t left = numbers.len;
+    while (left > 0u) {
+        left -= 1u;
+        if (address_in(numbers.items[left]) == address) {
+            const MaybeSaidValue said_2 = said(numbers.items[left]);
+            if (said_2.some) {
+                return said_2;
+            }
+        }
+    }
+    return maybe_said_value_none();
+}
+
 /* ---- ee_pages/marking.rs: A mark as a step: none where its word is written. */
 
 /* Programs a mark, unless its word is written, torn or not: then it takes no step. Pages are
@@ -3327,6 +3420,21 @@ static bool known_has_no_place(const Known *self, const Device *flash, Address a
  * It reads each slot once. */
 static uint32_t store_torn_slots(const Store *self) {
     return torn_slots(&self->flash, &self->known.layout);
+}
+
+/* Gives each entry of a list the value of its address, as `read` would, by one look through the
+ * slots. An address may stand in the list more than once.
+ *
+ * Errors:
+ *
+ * The store is off. The list is as it was. */
+static Step store_load(const Store *self, Wanted *entries_items, uint32_t entries_len) {
+    const RoomOfWanted entries = { .items = entries_items, .len = entries_len };
+    if (!device_is_on(&self->flash)) {
+        return CUT;
+    }
+    load(&self->flash, &self->known.layout, entries.items, entries.len);
+    return DONE;
 }
 
 /* Writes the one value of a list. */
@@ -4575,6 +4683,56 @@ ee_result ee_read(const ee_store *store, uint16_t address, uint32_t *value) {
     status = ended(answer.ok && answer.value.some ? EE_OK : EE_NOTHING, store);
     if (status == EE_OK) { *value = answer.value.value; }
     return status;
+}
+
+/* For how many addresses a look through the slots is made. */
+#define EE_WANTED 32u
+
+/* Loads some values, as `ee_load` does, and gives how many there are. */
+static uint32_t loaded_of(const ee_store *store, ee_value *values, uint32_t count) {
+    Wanted wanted[EE_WANTED];
+    uint32_t found = 0u;
+    for (uint32_t at = 0u; at < count; at++) {
+        wanted[at] = (Wanted){ .address = values[at].address, .value = maybe_u32_none() };
+    }
+    (void)store_load(&store->memory.parts.store, wanted, count);
+    if (is_broken(store)) {
+        return 0u;
+    }
+    for (uint32_t at = 0u; at < count; at++) {
+        if (wanted[at].value.some) {
+            values[at].value = wanted[at].value.value;
+            found++;
+        }
+    }
+    return found;
+}
+
+ee_result ee_load(const ee_store *store, ee_value *values, uint32_t count, uint32_t *loaded) {
+    const ee_result refused = begun(store, EE_NO_ADDRESS, values);
+    if (refused != EE_OK) {
+        return refused;
+    }
+    if (loaded == NULL) {
+        return ended_well(EE_NULL, store);
+    }
+    for (uint32_t at = 0u; at < count; at++) {
+        if (!address_new(values[at].address).some) {
+            return ended_well(EE_WRONG_NUMBER, store);
+        }
+    }
+    uint32_t found = 0u;
+    uint32_t from = 0u;
+    while (from < count && !is_broken(store)) {
+        const uint32_t some = u32_least(count - from, EE_WANTED);
+        found += loaded_of(store, &values[from], some);
+        from += some;
+    }
+    if (is_broken(store)) {
+        return EE_DRIVER;
+    }
+    *loaded = found;
+    return ended_well(EE_OK, store);
 }
 
 ee_result ee_next(const ee_store *store, uint16_t *address, uint32_t *value) {

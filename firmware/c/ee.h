@@ -38,6 +38,7 @@
  *     ee_forget_all                     2 * W            P + 2            P
  *     ee_clean                          W / 2 + P        0                1
  *     ee_read                           S                0                0
+ *     ee_load        of n values        S * (n / 32 + 1)    0             0
  *     ee_next                           N                0                0
  *     ee_counts                         N + W            0                0
  *     ee_rescue                         N + 3 * W        L + 3 * P + 1    P
@@ -50,7 +51,7 @@
  * A watchdog waits longer than the longest step, which is an erase. On a part with one bank the core stalls in a step, on a fetch
  * from the flash that is erased: no loop runs there, nor SysTick, unless it stands in RAM. So feed the watchdog in your three
  * functions, before each step and in `word`. Between two calls of the three the library does some hundred instructions; but
- * ee_write_all first compares each two addresses of its list.
+ * ee_write_all first compares each two addresses of its list, and ee_load each 16 words with 32 addresses.
  *
  * ee.c leaves calls out where these are defined, for a program that makes none of them: EE_NO_LISTS ee_write_all, EE_NO_FORGET
  * ee_forget and ee_forget_all, EE_NO_RESCUE ee_rescue, ee_bad_words and ee_foreign_word, EE_NO_OPEN ee_open and ee_format. With
@@ -299,6 +300,12 @@ ee_result ee_clean(ee_store *store);
 
 /* The value of an address. EE_OK, EE_NOTHING; EE_DRIVER. `value` is written with EE_OK alone. */
 ee_result ee_read(const ee_store *store, uint16_t address, uint32_t *value);
+
+/* Gives each of `count` values the value of its address, as ee_read would, but by one look through the slots for each 32,
+ * also with an index: the call with which a program that has settings starts. A value whose address has none keeps what
+ * stands in it, its default; an address may stand there more than once. `*loaded` becomes how many got a value. EE_OK, also
+ * where `count` is 0; EE_DRIVER, where the values up to a multiple of 32 may have been loaded, and `*loaded` isn't written. */
+ee_result ee_load(const ee_store *store, ee_value *values, uint32_t count, uint32_t *loaded);
 
 /* The next address above `*address` that has a value, with the value; the first of all where `*address` is 0. EE_OK,
  * EE_NOTHING; EE_DRIVER. Both are written with EE_OK alone. */

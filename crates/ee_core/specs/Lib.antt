@@ -20,4 +20,5 @@ pub mod Runs
 pub mod PageStates
 pub mod Starts
 pub mod Lookups
+pub mod Loads
 pub mod Known

@@ -6,7 +6,8 @@
 //! of a clear, `specs/Openings.antt` and `specs/Starts.antt` how a store comes to be,
 //! `specs/Rescues.antt` what a rescue leaves, `specs/Finished.antt` which marks an opening sets,
 //! `specs/Picture.antt` how an image is drawn, `specs/Shown.antt` what is drawn after a change,
-//! `specs/Cuts.antt` what a cut leaves of it, and `specs/Puts.antt` what a list of values is.
+//! `specs/Cuts.antt` what a cut leaves of it, `specs/Puts.antt` what a list of values is, and
+//! `specs/Loads.antt` what a load answers.
 //!
 //! The layers above may use: the contract of `Variables`, which is one relation for each call over
 //! the device before and after; `open`, `format`, `start` and `rescue`; that a store's image is
@@ -28,7 +29,8 @@
 //! erased as before, erased or torn (`IsCutChange`, `IsCutTransfer`, `IsCutClear`, `IsCutClean`). A
 //! clear leaves no value and no used slot by one transfer that copies nothing, and where no slot is
 //! used it takes no step. `Store` keeps it on every device that keeps the contract of `Flash` and
-//! over every look-up, and leaves a legal image always. Over `Slots` it takes no memory. `open`
+//! over every look-up, and leaves a legal image always. Over `Slots` it takes no memory. Its `load`
+//! gives each entry of a list what a read of its address gives, by one look through the slots. `open`
 //! (`opened`, `failed`) and `format` (`formatted`, `cut`) say what they find and leave, word for
 //! word after a cut too, and `count_pending` says how many pages of a set are not blank, of any
 //! device. `start` is the call for each boot: a device in which no set is committed and no slot
@@ -73,7 +75,7 @@ mod writing;
 
 pub use change::Put;
 pub use cleaning::count_pending;
-pub use ee_pages::{LiveBatch, bad_words};
+pub use ee_pages::{LiveBatch, Wanted, bad_words};
 pub use first_start::start;
 pub use lookup::{Lookup, NoMemory, Slots};
 pub use opening::{OpenFault, format, open};

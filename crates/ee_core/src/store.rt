@@ -6,6 +6,7 @@ ghost use Rattle.ee_pages.specs.Layout.{IsLayout};
 ghost use Rattle.ee_core.specs.Calls.{Writes, WritesAll};
 ghost use Rattle.ee_core.specs.Changes.{greatest_generation};
 ghost use Rattle.ee_core.specs.Finished.{IsStore};
+ghost use Rattle.ee_core.specs.Loads.{Loads};
 ghost use Rattle.ee_core.specs.Lookups.{slots_by};
 ghost use Rattle.ee_pages.specs.Meaning.{changed_by, live_in};
 ghost use Rattle.ee_core.specs.Puts.{AreApart, puts_of};
@@ -22,7 +23,7 @@ use crate::variables::{
 };
 use ee_codec::Address;
 use ee_flash::{Cut, Flash};
-use ee_pages::{Layout, LiveBatch, torn_slots};
+use ee_pages::{Layout, LiveBatch, Wanted, load, torn_slots};
 use std::marker::Model;
 
 /// The greatest generation of a set.
@@ -117,6 +118,25 @@ impl<F: Flash + Drop, L: Lookup + Drop> Store<F, L> {
         ensures { result ≡ torn_slots_of self.now }
     {
         torn_slots(&self.flash, &self.known.layout)
+    }
+
+    /// Gives each entry of a list the value of its address, as `read` would, by one look through the
+    /// slots. An address may stand in the list more than once.
+    ///
+    /// Source: ours.
+    ///
+    /// # Errors
+    ///
+    /// The store is off. The list is as it was.
+    pub fn load(&self, entries: &mut [Wanted]) -> Result<(), Off>
+        // At `Ok` each entry has the map's value; at `Err` the device is off.
+        ensures { Loads self.now entries.old result entries.new }
+    {
+        if !self.flash.is_on() {
+            return Err(Off);
+        }
+        load(&self.flash, &self.known.layout, entries);
+        Ok(())
     }
 
     /// Writes the one value of a list.

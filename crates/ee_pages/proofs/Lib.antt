@@ -26,6 +26,7 @@ mod Premises
 mod Noting
 mod RunWords
 mod RunSlots
+mod ToldLists
 mod LastElements
 mod Rescues
 mod RescueReads

@@ -5,13 +5,14 @@ use Rattle.std.proofs.lemmas.List.{ext_get_or, get_or-drop, get_or-take, length-
 use Rattle.std.proofs.lemmas.Grind.{common_steps}
 use Rattle.std.specs.Prelude.{◌≢◌}
 use Rattle.ee_codec.specs.Reading.{slot_of}
+use Rattle.ee_codec.specs.Words.{IsAddress}
 use Rattle.ee_flash.specs.Device.{Device, IsFormed, page_at, word_at}
 use Rattle.ee_flash.specs.Runs.{number_of, run_of}
 use Rattle.ee_flash.specs.Size.{page_count}
 use Rattle.ee_flash.specs.declared.word.Word.{Word}
 use Rattle.ee_flash.specs.declared.word.Word.TheVariants.{Erased, Held, Torn}
 use Rattle.ee_flash.proofs.Public.{length-page_at}
-use Rattle.ee_pages.specs.Meaning.{latest_in, says}
+use Rattle.ee_pages.specs.Meaning.{later_of, latest_in, says}
 use Rattle.ee_pages.specs.Nearest.{Named, noted_above, slot_names, with_each_named}
 use Rattle.ee_pages.specs.Sets.{first_page, set_of, slots_of}
 use Rattle.ee_pages.specs.declared.side.Side.{Side}
@@ -35,10 +36,28 @@ pub says_other : (number address : ℕ) → number % 2 ^ 16 ≢ address
     → says (Held number) address ≡ None
 says_other number address other = grind (arith, common_steps)
 
+-- what a number says of the address that it ends in
+pub said_of : (number address : ℕ) (said : Option (Option ℕ)) → IsAddress address
+    → number % 2 ^ 16 ≡ address
+    → (IsAddress (number % 2 ^ 16) → said ≡ says (Held number) (number % 2 ^ 16))
+    → says (Held number) address ≡ said
+said_of number address said proper ends is =
+    sym (is (subst IsAddress (sym ends) proper) ∙ ap (says (Held number)) ends)
+
 -- the value that a number says, whatever the address
 pub value_by_number : (number address value : ℕ) → says (Held number) address ≡ Some (Some value)
     → number / 2 ^ 32 ≡ value
 value_by_number number address value said = grind (arith, common_steps)
+
+pub latest_by_numbers : (words : List Word) (address : ℕ)
+    → latest_in (map Held (map number_of words)) address ≡ latest_in words address
+latest_by_numbers [] address = refl
+latest_by_numbers (word ∷ words) address =
+    ap
+    (λ (said : Option (Option ℕ)).
+    later_of said (latest_in (map Held (map number_of words)) address))
+    (says_by_number word address)
+    ∙ ap (later_of (says word address)) (latest_by_numbers words address)
 
 names_by_number : (word : Word)
     → slot_names (slot_of (Held (number_of word))) ≡ slot_names (slot_of word)
@@ -67,7 +86,7 @@ in_device Second device page here at inside = omega arith
 module _ (device : Device) (side : Side) (page here : ℕ) (formed : IsFormed device)
     (inside : page < device.size.pages) (here_is : here ≡ first_page device.size side + page) where
   -- words of the page are slots of the set
-  words_here : (from count : ℕ) → from + count ≤ device.size.words - 4
+  pub words_here : (from count : ℕ) → from + count ≤ device.size.words - 4
       → take count (drop (page * (device.size.words - 4) + from) (slots_of (set_of side device)))
       ≡ take count (drop (4 + from) (page_at device here))
   words_here from count few =

@@ -2,6 +2,7 @@ pub mod Page
 pub mod Sets
 pub mod Meaning
 pub mod LiveOrder
+pub mod Loading
 pub mod Legal
 pub mod Layout
 pub mod Laws

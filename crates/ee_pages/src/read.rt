@@ -202,7 +202,7 @@ fn ending_in(numbers: &[u64], address: Address) -> usize
 
 /// What a number says of the address that it ends in: nothing, or that it has a value
 /// or none from here on.
-fn said(number: u64) -> Option<Option<u32>>
+pub(crate) fn said(number: u64) -> Option<Option<u32>>
     ensures { IsAddress (number % 2 ^ 16) → result ≡ word_says (Word.Held number) (number % 2 ^ 16) }
 {
     if !says_something(number) {

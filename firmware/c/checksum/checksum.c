@@ -166,15 +166,24 @@ static void add_next(uint16_t address) {
     add(value);
 }
 
+static void add_load(uint16_t address, uint32_t value) {
+    ee_value wanted[3] = {{address, value}, {1, value}, {(uint16_t)(address + 1), value}};
+    uint32_t loaded = 0;
+    add(ee_load(&store, wanted, value % 4, &loaded));
+    add(loaded);
+    for (uint32_t i = 0; i < 3; i++) add(wanted[i].value);
+}
+
 static int any_call(uint32_t addresses) {
     uint16_t address = (uint16_t)below(addresses + 1);
     uint32_t value = below(UINT32_MAX);
-    switch (below(16)) {
+    switch (below(17)) {
     case 0: add_counts(); return 1;
     case 1: add_next(address); return 1;
     case 2: add_read(address); return 1;
     case 3: return change(CLEAN, 0, 0);
     case 4: return change(FORGET, address, 0);
+    case 6: add_load(address, value); return 1;
 #if LISTS
     case 5: return change(WRITE_ALL, address, value % (MOST_LISTED + 1));
 #endif

@@ -6,7 +6,7 @@
 #include "part.h"
 
 enum { SHAPES = 5, CALLS = 3000 };
-enum kind { START, OPEN, FORMAT, WRITE, WRITE_ALL, FORGET, CLEAR, CLEAN, READ, NEXT, COUNTS, RESCUE, BAD_WORDS };
+enum kind { START, OPEN, FORMAT, WRITE, WRITE_ALL, FORGET, CLEAR, CLEAN, READ, LOAD, NEXT, COUNTS, RESCUE, BAD_WORDS };
 
 static const uint32_t shapes[SHAPES][2] = {{1, 5}, {1, 40}, {2, 7}, {3, 20}, {8, 5}};
 static part device;
@@ -43,6 +43,7 @@ static uint32_t made(enum kind kind, uint16_t address) {
     case CLEAR: return ee_forget_all(&store);
     case CLEAN: return ee_clean(&store);
     case READ: return ee_read(&store, address, &value);
+    case LOAD: return ee_load(&store, list, listed, &value);
     case NEXT: return ee_next(&store, &address, &value);
     case COUNTS: return ee_counts(&store, &numbers);
     case RESCUE: return ee_rescue(&store, &flash);
@@ -67,7 +68,7 @@ static uint32_t torn_words(void) {
 /* Makes a call, and sees that it stays below the table. */
 static uint32_t counted(enum kind kind, uint16_t address, int is_room) {
     uint32_t p = device.pages, s = p * (device.page_words - 4), w = 2 * p * device.page_words, n = s * (s / 28 + 1);
-    if (kind == WRITE_ALL) make_list(address, s);
+    if (kind == WRITE_ALL || kind == LOAD) make_list(address, s);
     const uint32_t most[][3] = {
         [START] = {3 * w, 2 * p, 2 * p}, [OPEN] = {3 * w, 2 * p, 0},
         [FORMAT] = {w + 2 * p + 2, 2, 2 * p},
@@ -75,7 +76,8 @@ static uint32_t counted(enum kind kind, uint16_t address, int is_room) {
         [WRITE_ALL] = {2 * n + 2 * w + listed * s, s + 3 * p + 1, p},
         [FORGET] = {is_room ? s + 2 : n + 2 * w, is_room ? 3 : s + 3 * p + 1, is_room ? 0 : p},
         [CLEAR] = {2 * w, p + 2, p},     [CLEAN] = {w / 2 + p, 0, 1},
-        [READ] = {s, 0, 0},              [NEXT] = {n, 0, 0},
+        [READ] = {s, 0, 0},              [LOAD] = {s * (listed / 32 + 1), 0, 0},
+        [NEXT] = {n, 0, 0},
         [COUNTS] = {n + w, 0, 0},        [RESCUE] = {n + 3 * w, s + 3 * p + 1, p},
         [BAD_WORDS] = {2 * w, 0, 0}};
     uint32_t looked_at = !device.pairs || kind >= FORMAT ? 0 : kind == START ? 2 * w : w;

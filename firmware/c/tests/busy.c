@@ -28,6 +28,7 @@ static uint32_t below(uint32_t end) {
 /* Makes each call from inside. */
 static void call_inside(void) {
     static const ee_value list[2] = {{1, 7}, {2, 7}};
+    ee_value wanted[2] = {{1, 7}, {2, 7}};
     ee_numbers numbers = {0};
     uint32_t value = 99;
     uint16_t address = 0;
@@ -37,6 +38,7 @@ static void call_inside(void) {
     CHECK(ee_forget(&store, 1) == EE_BUSY && ee_forget_all(&store) == EE_BUSY && ee_clean(&store) == EE_BUSY);
     CHECK(ee_read(&store, 1, &value) == EE_BUSY && ee_next(&store, &address, &value) == EE_BUSY);
     CHECK(ee_counts(&store, &numbers) == EE_BUSY && value == 99 && address == 0 && numbers.slots == 0);
+    CHECK(ee_load(&store, wanted, 2, &value) == EE_BUSY && value == 99);
     CHECK(ee_write(NULL, 1, 7) == EE_NULL);
     calls_inside++;
     is_inside = 0;
@@ -73,6 +75,7 @@ static uint32_t made(ee_store *on, uint32_t kind, uint16_t address, uint32_t val
     case 4: return ee_read(on, address, &value);
     case 5: return ee_next(on, &address, &value);
     case 6: return ee_counts(on, &numbers);
+    case 7: return ee_load(on, list, 2, &value);
     default: return ee_write(on, address, value);
     }
 }

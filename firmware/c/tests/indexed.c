@@ -54,6 +54,11 @@ static void look(uint32_t room) {
     }
     uint16_t address = 0, beside = 0;
     uint32_t value = 0, same = 0, status;
+    ee_value loaded[ADDRESSES], like[ADDRESSES];
+    for (uint16_t i = 0; i < ADDRESSES; i++) loaded[i] = like[i] = (ee_value){(uint16_t)(i + 1), i};
+    CHECK(ee_load(&plain, loaded, ADDRESSES, &value) == EE_OK && ee_load(&indexed, like, ADDRESSES, &same) == EE_OK);
+    CHECK(value == a.live && same == b.live);
+    for (uint32_t i = 0; i < ADDRESSES; i++) CHECK(loaded[i].value == like[i].value);
     do {
         other.read = 0;
         status = ee_next(&plain, &address, &value);

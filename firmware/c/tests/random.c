@@ -11,7 +11,7 @@
 #define FAILURES 120u
 #endif
 
-enum { ADDRESSES = 8, STORES = 150, MANY = 160, SHARE = 30, CALLS = 60 };
+enum { ADDRESSES = 8, STORES = 150, MANY = 160, SHARE = 30, CALLS = 60, LOADED = 70 };
 
 typedef struct map {
     uint32_t values[ADDRESSES];
@@ -163,6 +163,20 @@ static void emptied(const ee_store *store, const ee_numbers *before, int moved) 
     CHECK(moved == (before->fill > 0) && numbers.generation == before->generation + (uint32_t)moved);
 }
 
+/* A load gives each address its value, and leaves that of one that has none as it was. */
+static void loads(const ee_store *store, const map *m) {
+    ee_value values[LOADED];
+    uint32_t count = (uint32_t)plays % (LOADED + 1), loaded = UINT32_MAX, there = 0;
+    for (uint32_t i = 0; i < count; i++) values[i] = (ee_value){(uint16_t)(1 + i * 5 % ADDRESSES), ~i};
+    CHECK(ee_load(store, values, count, &loaded) == EE_OK);
+    for (uint32_t i = 0; i < count; i++) {
+        uint16_t place = (uint16_t)(values[i].address - 1);
+        CHECK(values[i].value == (m->there[place] ? m->values[place] : ~i));
+        there += m->there[place];
+    }
+    CHECK(loaded == there);
+}
+
 static void play(part *p, ee_store *store, map *m) {
     call c = drawn();
     ee_numbers numbers;
@@ -183,6 +197,7 @@ static void play(part *p, ee_store *store, map *m) {
         listed++;
     }
     CHECK(listed == live_in(m));
+    loads(store, m);
 }
 
 static void run(uint32_t pairs, int clears_first, enum runs runs, int stores) {

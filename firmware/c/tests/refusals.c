@@ -7,6 +7,8 @@ static ee_store store;
 static uint32_t value;
 static uint16_t address;
 static ee_numbers numbers;
+static ee_value wanted[] = {{1, 70}, {2, 71}, {65534, 72}, {1, 73}, {0, 74}};
+static uint32_t loaded;
 static const ee_value list[] = {{1, 20}, {65534, 21}, {1, 22}, {0, 23}, {65535, 24}, {4, 25}, {5, 26}};
 
 /* A store of zeros, on which nothing was opened: each call is refused. */
@@ -18,7 +20,7 @@ static void zeros(void) {
         CHECK(ee_counts(&never, &numbers) == EE_NOT_OPEN && value == 99 && address == 1);
         CHECK(ee_write(&never, 1, 1) == EE_NOT_OPEN && ee_forget(&never, 1) == EE_NOT_OPEN && ee_clean(&never) == EE_NOT_OPEN);
         CHECK(ee_write_all(&never, list, 2) == EE_NOT_OPEN && ee_write_all(&never, list, 0) == EE_NOT_OPEN);
-        CHECK(ee_forget_all(&never) == EE_NOT_OPEN);
+        CHECK(ee_forget_all(&never) == EE_NOT_OPEN && ee_load(&never, wanted, 4, &loaded) == EE_NOT_OPEN);
         /* So is one whose opening was refused. */
         ee_flash flash = flash_of(&p);
         CHECK(ee_open(&never, &flash) == EE_UNFORMATTED);
@@ -36,6 +38,7 @@ static void copies(void) {
     CHECK(ee_counts(&copy, &numbers) == EE_NOT_OPEN && value == 99 && address == 0);
     CHECK(ee_write(&copy, 1, 11) == EE_NOT_OPEN && ee_forget(&copy, 1) == EE_NOT_OPEN && ee_clean(&copy) == EE_NOT_OPEN);
     CHECK(ee_write_all(&copy, list, 2) == EE_NOT_OPEN && ee_forget_all(&copy) == EE_NOT_OPEN);
+    CHECK(ee_load(&copy, wanted, 4, &loaded) == EE_NOT_OPEN && wanted[0].value == 70);
     CHECK(ee_read(&store, 1, &value) == EE_OK && value == 10);
     CHECK(ee_open(&copy, &flash) == EE_OK && ee_read(&copy, 1, &value) == EE_OK && value == 10);
 }
@@ -64,13 +67,14 @@ static void nulls(void) {
     CHECK(ee_forget(NULL, 1) == EE_NULL);
     CHECK(ee_clean(NULL) == EE_NULL);
     CHECK(ee_read(NULL, 1, &value) == EE_NULL);
-    CHECK(ee_next(NULL, &address, &value) == EE_NULL);
+    CHECK(ee_next(NULL, &address, &value) == EE_NULL && ee_load(NULL, wanted, 4, &loaded) == EE_NULL);
     CHECK(ee_counts(NULL, &numbers) == EE_NULL);
     CHECK(ee_format(&store, &flash) == EE_OK);
     CHECK(ee_write_all(&store, NULL, 2) == EE_NULL && ee_write_all(&store, NULL, 0) == EE_NULL);
     CHECK(ee_read(&store, 1, NULL) == EE_NULL);
     CHECK(ee_next(&store, NULL, &value) == EE_NULL);
     CHECK(ee_next(&store, &address, NULL) == EE_NULL);
+    CHECK(ee_load(&store, NULL, 4, &loaded) == EE_NULL && ee_load(&store, wanted, 4, NULL) == EE_NULL);
     CHECK(ee_counts(&store, NULL) == EE_NULL);
 }
 
@@ -115,7 +119,12 @@ static void statuses(void) {
     CHECK(ee_next(&store, &address, &value) == EE_NOTHING && address == 65534);
     address = 65535;
     CHECK(ee_next(&store, &address, &value) == EE_WRONG_NUMBER);
+    loaded = 99;
+    CHECK(ee_load(&store, wanted, 5, &loaded) == EE_WRONG_NUMBER && loaded == 99 && wanted[0].value == 70);
+    CHECK(ee_load(&store, wanted, 0, &loaded) == EE_OK && loaded == 0 && ee_load(&store, wanted, 4, &loaded) == EE_OK);
+    CHECK(loaded == 3 && wanted[0].value == 11 && wanted[1].value == 71 && wanted[2].value == UINT32_MAX && wanted[3].value == 11);
     CHECK(ee_forget(&store, 1) == EE_OK && ee_read(&store, 1, &value) == EE_NOTHING);
+    CHECK(ee_load(&store, wanted, 2, &loaded) == EE_OK && loaded == 0 && wanted[0].value == 11 && wanted[1].value == 71);
 }
 
 /* The refusals of a list, each of which leaves the flash as it was; and a list that is written. */
@@ -306,7 +315,7 @@ static void failed_reads(void) {
         ee_flash flash = flash_of(&p);
         CHECK(ee_start(&store, &flash) == EE_OK && ee_write(&store, 1, 10) == EE_OK && ee_write(&store, 2, 20) == EE_OK);
         part before = p;
-        for (uint32_t call = 0; call < 10; call++) {
+        for (uint32_t call = 0; call < 11; call++) {
             unsigned long last = 0;
             for (unsigned long read = 1; read != last; read++) {
                 p = before;
@@ -321,11 +330,12 @@ static void failed_reads(void) {
                                   : call == 6 ? ee_write_all(&store, list, 1)
                                   : call == 7 ? ee_forget(&store, 2)
                                   : call == 8 ? ee_forget_all(&store)
+                                  : call == 9 ? ee_load(&store, wanted, 3, &loaded)
                                               : ee_rescue(&store, &flash);
                 if (!p.failed) last = read + 1;
                 else CHECK(status == EE_DRIVER && ee_read(&store, 1, &value) == EE_NOT_OPEN && ee_clean(&store) == EE_NOT_OPEN);
             }
-            CHECK(last > 3 || call == 3);
+            CHECK(last > 3 || call == 3 || call == 9);
         }
     }
 }

@@ -17,7 +17,7 @@ const WAITING: [&str; 7] = [
     "storage.rs borrowed",
 ];
 /// Types that the crate has once.
-const SHARED: [&str; 9] = [
+const SHARED: [&str; 10] = [
     "Address",
     "IndexMemory",
     "Kind",
@@ -25,6 +25,7 @@ const SHARED: [&str; 9] = [
     "Rescued",
     "ScanFault",
     "Shape",
+    "Wanted",
     "Word",
     "Written",
 ];

@@ -78,7 +78,8 @@ static void is_refused_by(ee_store *store, ee_result answer) {
     uint32_t value;
     ee_numbers numbers;
     ee_result status;
-    switch (Frama_C_interval(0, 7)) {
+    ee_value wanted = { address, any32 };
+    switch (Frama_C_interval(0, 8)) {
     case 0: status = ee_write(store, address, any32); break;
     case 1: status = ee_write_all(store, values, Frama_C_unsigned_int_interval(0, MOST_VALUES)); break;
     case 2: status = ee_forget(store, address); break;
@@ -86,6 +87,7 @@ static void is_refused_by(ee_store *store, ee_result answer) {
     case 4: status = ee_clean(store); break;
     case 5: status = ee_read(store, address, &value); break;
     case 6: status = ee_next(store, &address, &value); break;
+    case 7: status = ee_load(store, &wanted, 1, &value); break;
     default: status = ee_counts(store, &numbers); break;
     }
     //@ check is_refused: status == answer;

@@ -16,13 +16,14 @@ ee_result made_forget(ee_store *store, uint16_t address);
 ee_result made_forget_all(ee_store *store);
 ee_result made_clean(ee_store *store);
 ee_result made_read(const ee_store *store, uint16_t address, uint32_t *value);
+ee_result made_load(const ee_store *store, ee_value *values, uint32_t count, uint32_t *loaded);
 ee_result made_next(const ee_store *store, uint16_t *address, uint32_t *value);
 ee_result made_counts(const ee_store *store, ee_numbers *numbers);
 ee_result made_rescue(ee_store *store, const ee_flash *flash);
 ee_result made_bad_words(const ee_flash *flash, uint32_t *count);
 
 enum call {
-    START, OPEN, FORMAT, WRITE, WRITE_ALL, FORGET, CLEAN, READ, NEXT, COUNTS, CLEAR, RESCUE, BAD_WORDS, CALLS
+    START, OPEN, FORMAT, WRITE, WRITE_ALL, FORGET, CLEAN, READ, NEXT, COUNTS, CLEAR, RESCUE, BAD_WORDS, LOAD, CALLS
 };
 
 /* What goes into a call, and what comes out of it. */
@@ -40,10 +41,14 @@ struct answer {
     ee_numbers numbers;
 };
 
+/* More than one look through the slots. */
+enum { MOST_LOADED = 40 };
+
 /* Makes a call by ee.c, or by the package. */
 static inline struct answer make(bool by_made, ee_store *store, const ee_flash *flash,
                                  const struct made_call *it) {
     struct answer out = {0, it->address, it->value, {9, 9, 9, 9, 9, 9}};
+    ee_value values[MOST_LOADED];
 #define MAKE(name, ...) out.status = by_made ? made_##name(__VA_ARGS__) : ee_##name(__VA_ARGS__)
     switch (it->call) {
     case START: MAKE(start, store, flash); break;
@@ -59,6 +64,13 @@ static inline struct answer make(bool by_made, ee_store *store, const ee_flash *
     case CLEAR: MAKE(forget_all, store); break;
     case RESCUE: MAKE(rescue, store, flash); break;
     case BAD_WORDS: MAKE(bad_words, flash, &out.value); break;
+    case LOAD:
+        for (uint32_t i = 0; i < MOST_LOADED; i++) {
+            values[i] = (ee_value){(uint16_t)(it->address + i), it->value + i};
+        }
+        MAKE(load, store, values, it->value % (MOST_LOADED + 1), &out.numbers.live);
+        for (uint32_t i = 0; i < MOST_LOADED; i++) out.value = out.value * 31 + values[i].value;
+        break;
     case CALLS: break;
     }
 #undef MAKE

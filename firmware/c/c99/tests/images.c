@@ -55,6 +55,7 @@ static const struct made_call made_calls[] = {
     {COUNTS, 0, 0, NULL, 0},         {FORMAT, 0, 0, NULL, 0}, {WRITE_ALL, 0, 0, list_of_two, 2},
     {WRITE_ALL, 0, 0, list_of_two, 1}, {WRITE_ALL, 0, 0, list_of_three, 3},
     {CLEAR, 0, 0, NULL, 0},          {RESCUE, 0, 0, NULL, 0}, {BAD_WORDS, 0, 9, NULL, 0},
+    {LOAD, 1, 2, NULL, 0},
 };
 
 static void fail(const char *what) {

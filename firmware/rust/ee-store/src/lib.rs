@@ -75,7 +75,7 @@ mod store;
 mod value;
 
 pub use crate::ee_codec::Address;
-pub use crate::ee_core::{Put, Rescued, Written};
+pub use crate::ee_core::{Put, Rescued, Wanted, Written};
 pub use crate::ee_flash::{Shape, Word};
 pub use crate::ee_index::LentIndex;
 pub use crate::ee_records::Record;

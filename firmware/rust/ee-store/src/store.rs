@@ -2,7 +2,7 @@ use crate::driver::Driver;
 use crate::ee_codec::Address;
 use crate::ee_core::inner::{open_on, start_on, write_format};
 use crate::ee_core::{
-    self as proved, LiveBatch, Lookup, OpenFault, Put, Rescued, Slots, Variables, Written,
+    self as proved, LiveBatch, Lookup, OpenFault, Put, Rescued, Slots, Variables, Wanted, Written,
 };
 use crate::ee_flash::{Cut, Flash, Shape};
 use crate::ee_pages::{Layout, Side};
@@ -295,6 +295,17 @@ impl<D: Driver, L: Finds> Store<D, L> {
     #[doc(alias = "get")]
     pub fn read_as<V: Value>(&self, address: Address) -> Result<Option<V>, Error<D::Error>> {
         Ok(self.read(address)?.map(V::from_bits))
+    }
+
+    /// Gives each entry of a list the value of its address, as [`read`](Store::read) would, by one look through the slots: the
+    /// call with which a program that has settings starts. An address may stand in the list more than once.
+    ///
+    /// # Errors
+    ///
+    /// The first [`Error`] that applies. Behind [`Error::Driver`] the values in the list count for nothing.
+    pub fn load(&self, entries: &mut [Wanted]) -> Result<(), Error<D::Error>> {
+        let answer = self.running()?.load(entries);
+        self.whole(answer.map_err(|_| Error::Unsteady))
     }
 
     /// Writes a `bool`, an `i32` or an `f32`, as [`write`](Store::write) does its bits.

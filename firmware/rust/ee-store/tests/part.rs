@@ -2,7 +2,7 @@
 //! thing that it is asked for. The driver says what it was asked, and answers one of these as the test chooses.
 
 use ee_store::{
-    Address, Driver, DriverError, Error, Kind, OpenError, Put, Shape, Step, Store, Word,
+    Address, Driver, DriverError, Error, Kind, OpenError, Put, Shape, Step, Store, Wanted, Word,
 };
 use std::cell::{Cell, RefCell};
 
@@ -149,8 +149,15 @@ impl Driver for Part {
 type Call = fn(&mut Store<Part>) -> Result<(), Error<Down>>;
 
 const FIRST: Address = Address::at(1);
-const CALLS: [Call; 13] = [
+const CALLS: [Call; 14] = [
     |store| store.read(FIRST).map(drop),
+    |store| {
+        let wanted = Wanted {
+            address: FIRST,
+            value: None,
+        };
+        store.load(&mut [wanted])
+    },
     |store| store.next_live(None).map(drop),
     |store| store.iter().collect::<Result<Vec<_>, _>>().map(drop),
     |store| store.live_count().map(drop),

@@ -1,7 +1,7 @@
 //! Reads that fail, on parts of words and of numbers: no step follows one, the call answers the driver's error, the store is
 //! off, and nothing is lost.
 
-use ee_store::{Address, Driver, Error, Kind, OpenError, Put, Shape, Step, Store, Word};
+use ee_store::{Address, Driver, Error, Kind, OpenError, Put, Shape, Step, Store, Wanted, Word};
 use std::cell::Cell;
 use std::collections::BTreeMap;
 
@@ -134,8 +134,14 @@ fn driver_failed<T>(answer: Result<T, Error<Down>>) -> Option<()> {
     }
 }
 
-const CALLS: [Call; 9] = [
+const WANTED: Wanted = Wanted {
+    address: Address::at(4),
+    value: None,
+};
+
+const CALLS: [Call; 10] = [
     |store, _| driver_failed(store.read(address(4))),
+    |store, _| driver_failed(store.load(&mut [WANTED])),
     |store, _| driver_failed(store.next_live(None)),
     |store, _| driver_failed(store.live_count()),
     |store, _| driver_failed(store.pending()),

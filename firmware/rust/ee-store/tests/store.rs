@@ -1,8 +1,8 @@
 //! The store by its methods, over a part in memory that can be told to fail in a step.
 
 use ee_store::{
-    Address, Driver, DriverError, Error, Kind, OpenError, Put, Rescued, Shape, Step, Store, Word,
-    Written,
+    Address, Driver, DriverError, Error, Kind, OpenError, Put, Rescued, Shape, Step, Store, Wanted,
+    Word, Written,
 };
 use std::cell::Cell;
 use std::fmt;
@@ -133,6 +133,37 @@ fn values_are_kept() {
     assert_eq!(store.next_live(None), Ok(Some((address(1), 11))));
     assert_eq!(store.next_live(Some(address(1))), Ok(Some((address(2), 5))));
     assert_eq!(store.next_live(Some(address(2))), Ok(None));
+}
+
+#[test]
+fn a_list_is_loaded() {
+    let mut store = full();
+    store.write(address(2), 5).unwrap();
+    let wanted = |number, value| Wanted {
+        address: address(number),
+        value,
+    };
+    let mut list = [
+        wanted(2, None),
+        wanted(7, Some(9)),
+        wanted(1, Some(0)),
+        wanted(2, Some(4)),
+    ];
+    assert_eq!(store.load(&mut list), Ok(()));
+    let found = [
+        wanted(2, Some(5)),
+        wanted(7, None),
+        wanted(1, Some(11)),
+        wanted(2, Some(5)),
+    ];
+    assert_eq!(list, found);
+    store.forget(address(1)).unwrap();
+    assert_eq!(store.load(&mut list[2..3]), Ok(()));
+    assert_eq!((list[2].value, list[3].value), (None, Some(5)));
+    assert_eq!(store.load(&mut []), Ok(()));
+    let store = Store::off(store.into_driver());
+    assert_eq!(store.load(&mut list), Err(Error::NotOpen));
+    assert_eq!(list[0].value, Some(5));
 }
 
 #[test]

@@ -5,17 +5,9 @@ use Rattle.ee_flash.specs.declared.word.Word.TheVariants.{Erased, Held}
 use Rattle.ee_pages.specs.Meaning.{latest_in, says}
 use Rattle.ee_pages.specs.Sets.{set_of, slots_of}
 use Rattle.ee_pages.proofs.LastSaid.{newest, one_lower}
-use Rattle.ee_pages.proofs.RunSlots.{run_silent, slot_says, whole_run}
+use Rattle.ee_pages.proofs.RunSlots.{run_silent, said_of, slot_says, whole_run}
 use Rattle.ee_pages.proofs.Slots.{row_within}
 use Rattle.ee_pages.proofs.read.said_in_page.Goals as goal
-
--- what a number says of the address that it ends in
-said_of : (number address : ℕ) (said : Option (Option ℕ)) → IsAddress address
-    → number % 2 ^ 16 ≡ address
-    → (IsAddress (number % 2 ^ 16) → said ≡ says (Held number) (number % 2 ^ 16))
-    → says (Held number) address ≡ said
-said_of number address said proper ends is =
-    sym (is (subst IsAddress (sym ends) proper) ∙ ap (says (Held number)) ends)
 
 pub returns-in-Some : goal.returns-in-Some
 returns-in-Some g c =

@@ -1,6 +1,6 @@
 //! The calls on a store that is open: `ee.h` says what they do.
 
-use crate::values::{listed, Value};
+use crate::values::{listed, listed_mut, Value};
 use crate::{
     Counts, Kept, Memory, EE_ABSENT, EE_BUSY, EE_DRIVER, EE_DUPLICATE, EE_FULL, EE_NOTHING,
     EE_NOT_OPEN, EE_NULL, EE_OK, EE_SPENT, EE_WRONG_NUMBER,
@@ -8,7 +8,7 @@ use crate::{
 use core::ptr::{addr_of, eq, null};
 use core::sync::atomic::{compiler_fence, Ordering};
 use ee_store::proved::{ForgetFault, Variables, WriteAllFault, WriteFault};
-use ee_store::Address;
+use ee_store::{Address, Put, Wanted};
 
 /// A store that is on, while a call is made on it.
 struct Running<'a> {
@@ -190,6 +190,63 @@ pub unsafe extern "C" fn ee_read(store: *const Memory, address: u16, value: *mut
     };
     // SAFETY: `begun` saw that it is not null, so it is good.
     unsafe { *value = held };
+    running.ended_well(EE_OK)
+}
+
+/// For how many addresses a look through the slots is made.
+const WANTED: usize = 32;
+
+/// Loads some values, and gives how many there are.
+fn loaded_of(running: &Running, values: &mut [Put]) -> u32 {
+    let none = Wanted {
+        address: Address::at(1),
+        value: None,
+    };
+    let mut wanted = [none; WANTED];
+    let wanted = &mut wanted[..values.len()];
+    for (wanted, put) in wanted.iter_mut().zip(values.iter()) {
+        wanted.address = put.address;
+    }
+    // A store that is off is broken.
+    let _ = running.store.load(wanted);
+    let mut found = 0;
+    if running.is_broken() {
+        return found;
+    }
+    for (wanted, put) in wanted.iter().zip(values) {
+        if let Some(value) = wanted.value {
+            put.value = value;
+            found += 1;
+        }
+    }
+    found
+}
+
+#[no_mangle]
+pub unsafe extern "C" fn ee_load(
+    store: *const Memory,
+    values: *mut Value,
+    count: u32,
+    loaded: *mut u32,
+) -> u32 {
+    let (running, _) = match unsafe { running(store, NO_ADDRESS, values.cast_const().cast()) } {
+        Ok(running) => running,
+        Err(status) => return status,
+    };
+    let Some(loaded) = (unsafe { loaded.as_mut() }) else {
+        return running.ended_well(EE_NULL);
+    };
+    let Some(values) = (unsafe { listed_mut(values, count) }) else {
+        return running.ended_well(EE_WRONG_NUMBER);
+    };
+    let mut found = 0;
+    for values in values.chunks_mut(WANTED) {
+        found += loaded_of(&running, values);
+        if running.is_broken() {
+            return EE_DRIVER;
+        }
+    }
+    *loaded = found;
     running.ended_well(EE_OK)
 }
 

@@ -1,7 +1,7 @@
 //! C's lists of values, as the store's.
 
 use core::mem::{align_of, size_of, transmute};
-use core::slice::from_raw_parts;
+use core::slice::{from_raw_parts, from_raw_parts_mut};
 use ee_store::{Address, Put};
 
 /// `ee_value` of `ee.h`: a `Put`, but that its address may be no proper one.
@@ -38,4 +38,12 @@ pub unsafe fn listed<'a>(values: *const Value, count: u32) -> Option<&'a [Put]> 
     }
     // SAFETY: each address is proper, so each is a `Put`, which is laid out alike.
     Some(unsafe { from_raw_parts(values.cast(), count as usize) })
+}
+
+/// The same of a list that is written.
+pub unsafe fn listed_mut<'a>(values: *mut Value, count: u32) -> Option<&'a mut [Put]> {
+    // SAFETY: as of the caller's.
+    unsafe { listed(values, count) }?;
+    // SAFETY: as above, and no other reference to it is kept.
+    Some(unsafe { from_raw_parts_mut(values.cast(), count as usize) })
 }

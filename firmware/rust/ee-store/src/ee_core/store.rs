@@ -12,7 +12,7 @@ use crate::ee_core::variables::{
 };
 use crate::ee_codec::Address;
 use crate::ee_flash::{Cut, Flash};
-use crate::ee_pages::{Layout, LiveBatch, torn_slots};
+use crate::ee_pages::{Layout, LiveBatch, Wanted, load, torn_slots};
 
 /// The greatest generation of a set.
 pub const GREATEST_GENERATION: u32 = 4_294_967_294;
@@ -70,6 +70,20 @@ impl<F: Flash, L: Lookup> Store<F, L> {
     /// It reads each slot once.
     pub fn torn_slots(&self) -> usize {
         torn_slots(&self.flash, &self.known.layout)
+    }
+
+    /// Gives each entry of a list the value of its address, as `read` would, by one look through the
+    /// slots. An address may stand in the list more than once.
+    ///
+    /// # Errors
+    ///
+    /// The store is off. The list is as it was.
+    pub fn load(&self, entries: &mut [Wanted]) -> Result<(), Off> {
+        if !self.flash.is_on() {
+            return Err(Off);
+        }
+        load(&self.flash, &self.known.layout, entries);
+        Ok(())
     }
 
     /// Writes the one value of a list.

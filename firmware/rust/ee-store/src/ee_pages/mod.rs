@@ -3,7 +3,8 @@
 //!
 //! A set is a list of pages. `specs/Page.antt` says what a page's header and words say,
 //! `specs/Sets.antt` which set is live and what its slots are, `specs/Meaning.antt` which map the
-//! slots hold, `specs/LiveOrder.antt` which live addresses come next, `specs/Legal.antt` which
+//! slots hold, `specs/LiveOrder.antt` which live addresses come next, `specs/Loading.antt` which
+//! values a list of addresses has, `specs/Legal.antt` which
 //! images a store can work on, `specs/Layout.antt` what a scan finds, and `specs/Rescue.antt` what
 //! is rescued of any image, with `specs/RescuedSets.antt` and `specs/RescueLaws.antt`. All of it is
 //! a function or a relation of the device.
@@ -18,7 +19,8 @@
 //! image, and else the first fault that applies (`layout`, `fault`, `legal`); `state_of`,
 //! `is_blank`, `slot_word`, `latest`, `next_live`, `live_count` are their definitions, forgettings
 //! included, of any device but for `latest`; `next_batch` gives the next live addresses, one after
-//! another, with their values, and up to where there are no others (`live`, `proper`); `torn_slots`
+//! another, with their values, and up to where there are no others (`live`, `proper`); `load` gives
+//! each entry of a list the value of its address; `torn_slots`
 //! is how many slots of the live set are torn; `mark` takes no step where its word is written, and
 //! else programs that word alone (`present`, `on`, `done`, `cut`). `laws`: every outcome of a step
 //! in the set that is not live, whole or cut, keeps the live set, its fill and its meaning, and the
@@ -34,6 +36,7 @@
 mod batch;
 mod batch_items;
 mod find;
+mod loading;
 mod marking;
 mod number;
 mod read;
@@ -46,6 +49,7 @@ mod table;
 pub use batch::{LiveBatch, next_batch};
 pub use batch_items::{BATCH, Batch};
 pub use find::{Layout, ScanFault, scan};
+pub use loading::{Wanted, load};
 pub use marking::mark;
 pub use read::{latest, live_count, next_live, slot_value, slot_word, torn_slots};
 pub use rescue::{bad_words, named_generation, rescued_side};
