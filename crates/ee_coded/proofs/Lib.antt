@@ -1,0 +1,4 @@
+mod Bits
+mod Tables
+mod Near
+mod Spelling
