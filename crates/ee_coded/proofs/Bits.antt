@@ -63,7 +63,8 @@ both_le (suc bits) a b h =
 pub xor_ones : (bits a b : ℕ) → a < 2 ^ bits → b < 2 ^ bits
     → count_ones (bit_xor a b) + 2 * count_ones (bit_and a b) ≡ count_ones a + count_ones b
 xor_ones zero a b h h2 =
-    let none : a ≡ 0 = omega arith in let none_too : b ≡ 0 = omega arith in rw (none, none_too) (omega (arith, ones-ones 0))
+    let none : a ≡ 0 = omega arith in let none_too : b ≡ 0 = omega arith in rw (none, none_too)
+    (omega (arith, ones-ones 0))
 xor_ones (suc bits) a b h h2 =
     let rest = xor_ones bits (a / 2) (b / 2) (omega arith) (omega arith) in
     let last = xor_bits (a % 2) (b % 2) (omega arith) (omega arith) in
@@ -95,10 +96,18 @@ lost_block k bits a b r s h h2 h3 =
 lost_half : (bits a b : ℕ) → a < 2 ^ bits
     → ones_lost a b + bit_and (a % 2) (b % 2) ≡ ones_lost (a / 2) (b / 2) + a % 2
 lost_half bits a b h =
-    omega (arith, half_both a b, half_ones a, both_le bits (a / 2) (b / 2) (omega arith), and_bits (a % 2) (b % 2) (omega arith) (omega arith))
+    omega (
+      arith,
+      half_both a b,
+      half_ones a,
+      both_le bits (a / 2) (b / 2) (omega arith),
+      and_bits
+          (a % 2) (b % 2) (omega arith) (omega arith),
+    )
 
 -- by way of a third
-pub lost_by : (bits a b c : ℕ) → a < 2 ^ bits → b < 2 ^ bits → ones_lost a c ≤ ones_lost a b + ones_lost b c
+pub lost_by : (bits a b c : ℕ) → a < 2 ^ bits → b < 2 ^ bits
+    → ones_lost a c ≤ ones_lost a b + ones_lost b c
 lost_by zero a b c h h2 = let none : a ≡ 0 = omega arith in rw none (omega (arith, ones-ones 0))
 lost_by (suc bits) a b c h h2 =
     let rest = lost_by bits (a / 2) (b / 2) (c / 2) (omega arith) (omega arith) in
@@ -137,7 +146,8 @@ two_places zero n h two =
 two_places (suc bits) n h two = elim (cases_eq (n % 2) 1) [
   | inl last ↦
       let rest = one_place bits (n / 2) (omega arith) (omega (arith, half_ones n)) in
-      let split : bit_xor (2 ^ (rest.0) * 2 + 0) (0 * 2 + 1) ≡ bit_xor (2 ^ (rest.0)) 0 * 2 + bit_xor 0 1 =
+      let split : bit_xor (2 ^ (rest.0) * 2 + 0) (0 * 2 + 1) ≡ bit_xor (2 ^
+      (rest.0)) 0 * 2 + bit_xor 0 1 =
       xor_block 1 (2 ^ (rest.0)) 0 0 1 (omega arith) (omega arith) in
       let first : 2 ^ suc (rest.0) ≡ 2 ^ (rest.0) * 2 + 0 = omega arith in
       let joined : bit_xor (2 ^ suc (rest.0)) 1 ≡ bit_xor (2 ^ (rest.0) * 2 + 0) (0 * 2 + 1) =
@@ -168,10 +178,12 @@ two_places (suc bits) n h two = elim (cases_eq (n % 2) 1) [
 
 -- ---- what goes through a difference
 
-pub crossed : (a b c d : ℕ) → bit_xor (bit_xor a b) (bit_xor c d) ≡ bit_xor (bit_xor a c) (bit_xor b d)
+pub crossed : (a b c d : ℕ) → bit_xor (bit_xor a b) (bit_xor c d) ≡ bit_xor (bit_xor a c)
+    (bit_xor b d)
 crossed a b c d =
     xor_assoc a b (bit_xor c d)
-    ∙ ap (λ (k : ℕ). bit_xor a k) (sym (xor_assoc b c d) ∙ ap (λ (k : ℕ). bit_xor k d) (xor_comm b c) ∙ xor_assoc c b d)
+    ∙ ap (λ (k : ℕ). bit_xor a k) (sym (xor_assoc b c d) ∙ ap (λ (k : ℕ). bit_xor k d)
+    (xor_comm b c) ∙ xor_assoc c b d)
     ∙ sym (xor_assoc a c (bit_xor b d))
 
 pub shifted_xor : (by a b : ℕ) → bit_xor a b * 2 ^ by % 2 ^ 32
@@ -182,7 +194,8 @@ shifted_xor by a b =
     let second : b * 2 ^ by + 0 ≡ b * 2 ^ by = omega arith in
     let joined : bit_xor (a * 2 ^ by + 0) (b * 2 ^ by + 0) ≡ bit_xor (a * 2 ^ by) (b * 2 ^ by) =
     λ i. bit_xor (first i) (second i) in
-    let is : bit_xor a b * 2 ^ by ≡ bit_xor (a * 2 ^ by) (b * 2 ^ by) = omega (arith, joined, split) in
+    let is : bit_xor a b * 2 ^ by ≡ bit_xor (a * 2 ^ by) (b * 2 ^ by) = omega
+    (arith, joined, split) in
     ap (λ (k : ℕ). k % 2 ^ 32) is ∙ xor_mod (a * 2 ^ by) (b * 2 ^ by) 32
 
 pub left_xor : (by a b : ℕ) → xor_left by (bit_xor a b) ≡ bit_xor (xor_left by a) (xor_left by b)
@@ -190,7 +203,8 @@ left_xor by a b =
     ap (λ (k : ℕ). bit_xor (bit_xor a b) k) (shifted_xor by a b)
     ∙ crossed a b (a * 2 ^ by % 2 ^ 32) (b * 2 ^ by % 2 ^ 32)
 
-pub right_xor : (by a b : ℕ) → xor_right by (bit_xor a b) ≡ bit_xor (xor_right by a) (xor_right by b)
+pub right_xor : (by a b : ℕ) → xor_right by (bit_xor a b) ≡ bit_xor (xor_right by a)
+    (xor_right by b)
 right_xor by a b =
     ap (λ (k : ℕ). bit_xor (bit_xor a b) k) (xor_shr a b by)
     ∙ crossed a b (a / 2 ^ by) (b / 2 ^ by)

@@ -2,3 +2,7 @@ mod Bits
 mod Tables
 mod Near
 mod Spelling
+mod Numbers
+mod Steps
+mod CodeRuns
+mod Wipes

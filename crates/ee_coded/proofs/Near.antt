@@ -29,7 +29,8 @@ lost_word number other check check_too bare bare_too h h2 =
     let bare_all = lost_block 17 32 high high_too low low_too fits low_fits low_fits_too in
     let is : number ≡ high * 2 ^ 17 + low = omega arith in
     let is_too : other ≡ high_too * 2 ^ 17 + low_too = omega arith in
-    let plain : ones_lost number other ≡ ones_lost (high * 2 ^ 17 + low) (high_too * 2 ^ 17 + low_too) =
+    let plain : ones_lost number other ≡ ones_lost (high * 2 ^ 17 + low)
+    (high_too * 2 ^ 17 + low_too) =
     λ i. ones_lost (is i) (is_too i) in
     omega (arith, all, above, plain ∙ bare_all)
 
@@ -53,10 +54,12 @@ ones_word number check h =
 
 -- a weight_row, an overall_parity and parity_bits
 lost_check : (a b c d e f : ℕ) → a < 2 ^ 7 → b < 2 ^ 7 → c < 2 → d < 2 → e < 2 ^ 7 → f < 2 ^ 7
-    → ones_lost (a * 2 ^ 8 + c * 2 ^ 7 + e) (b * 2 ^ 8 + d * 2 ^ 7 + f) ≡ ones_lost a b + ones_lost c d + ones_lost e f
+    → ones_lost (a * 2 ^ 8 + c * 2 ^ 7 + e) (b * 2 ^ 8 + d * 2 ^ 7 + f) ≡ ones_lost a b + ones_lost
+    c d + ones_lost e f
 lost_check a b c d e f h h2 h3 h4 h5 h6 =
     let low = lost_block 7 8 (a * 2 + c) (b * 2 + d) e f (omega arith) h5 h6 in
-    let high : ones_lost (a * 2 + c) (b * 2 + d) ≡ ones_lost a b + ones_lost c d = lost_block 1 7 a b c d h h3 h4 in
+    let high : ones_lost (a * 2 + c) (b * 2 + d) ≡ ones_lost a b + ones_lost c d = lost_block 1 7 a
+    b c d h h3 h4 in
     let is : a * 2 ^ 8 + c * 2 ^ 7 + e ≡ (a * 2 + c) * 2 ^ 7 + e = omega arith in
     let is_too : b * 2 ^ 8 + d * 2 ^ 7 + f ≡ (b * 2 + d) * 2 ^ 7 + f = omega arith in
     let whole : ones_lost (a * 2 ^ 8 + c * 2 ^ 7 + e) (b * 2 ^ 8 + d * 2 ^ 7 + f)
@@ -71,7 +74,8 @@ one_bit (suc (suc bit)) h = absurd (omega arith)
 
 -- twice the half is the weight, which is even
 weighed : (number : ℕ) → IsPayload number
-    → (2 * half_weight number ≡ count_ones number + count_ones (parity_bits number) + overall_parity number)
+    → (2 * half_weight number ≡ count_ones number + count_ones
+    (parity_bits number) + overall_parity number)
     × (half_weight number < 29)
 weighed number bare =
     let few = ones-le 49 number bare in
@@ -81,7 +85,8 @@ weighed number bare =
 -- the numbers, their parity_bits and their eveners differ in four bits or more
 four : (number other : ℕ) → IsPayload number → IsPayload other → number ≢ other
     → 3 ≤ ones_lost number other + ones_lost other number
-    + (ones_lost (parity_bits number) (parity_bits other) + ones_lost (parity_bits other) (parity_bits number))
+    + (ones_lost (parity_bits number) (parity_bits other) + ones_lost (parity_bits other)
+    (parity_bits number))
 four number other bare bare_too apart =
     let differ = far (bit_xor number other) (xor_lt 49 number other bare bare_too)
     (λ none. apart (xor_same 49 number other bare bare_too none)) in
@@ -92,20 +97,21 @@ four number other bare bare_too apart =
     let same = ap count_ones (places_xor number other) in
     omega (arith, differ, numbers, of_places, same)
 
--- The sum: of two weights, what is ones_lost and gained of numbers, parity_bits and eveners, and what is ones_lost of weight_rows.
+-- The sum, of two weights: what is lost and gained of numbers, parities and overall parities, and
+-- what is lost of rows.
 settle : (half half_too a b c d e f g : ℕ)
     → 2 * half + (b + (d + f)) ≡ 2 * half_too + (a + (c + e)) → 3 ≤ a + b + (c + d)
     → (half < half_too → (1 ≤ g) × (half + 1 < half_too → 2 ≤ g)) → 2 ≤ a + (c + e) + g
-settle half half_too a b c d e f g weights apart weight_rows = elim (cases_order half half_too) [
+settle half half_too a b c d e f g weights apart rows = elim (cases_order half half_too) [
   | inl same ↦ omega arith
   | inr (inl less) ↦ elim (cases_lt (half + 1) half_too) [
-    | inl more ↦ let two = (weight_rows less).1 more in omega arith
-    | inr next ↦ let one = (weight_rows less).0 in omega arith
+    | inl more ↦ let two = (rows less).1 more in omega arith
+    | inr next ↦ let one = (rows less).0 in omega arith
   ]
   | inr (inr more) ↦ omega arith
 ]
 
-check_fits : (number : ℕ) → IsPayload number → check_bits number < 2 ^ 15
+pub check_fits : (number : ℕ) → IsPayload number → check_bits number < 2 ^ 15
 check_fits number bare =
     omega (arith, (row_fits (half_weight number) (weighed number bare).1).0, places_fit number)
 
@@ -114,18 +120,30 @@ unfolding codeword
 coded_fits number bare = omega (arith, check_fits number bare)
 
 -- a codeword word has two zeros or more
-coded_ones : (number : ℕ) → IsPayload number → count_ones (codeword number) ≤ 62
+pub coded_ones : (number : ℕ) → IsPayload number → count_ones (codeword number) ≤ 62
 unfolding codeword
 coded_ones number bare =
     let even = weighed number bare in
     let fits = row_fits (half_weight number) (even.1) in
     let places_fits = places_fit number in
     let word = ones_word number (check_bits number) (check_fits number bare) in
-    let low = ones_cat 7 (weight_row (half_weight number) * 2 + overall_parity number) (parity_bits number) places_fits in
+    let low = ones_cat 7 (weight_row (half_weight number) * 2 + overall_parity number)
+    (parity_bits number) places_fits in
     let high = ones_cat 1 (weight_row (half_weight number)) (overall_parity number) (omega arith) in
-    let is : check_bits number ≡ (weight_row (half_weight number) * 2 + overall_parity number) * 2 ^ 7 + parity_bits number =
+    let is : check_bits number ≡ (weight_row (half_weight number) * 2 + overall_parity number) * 2
+    ^ 7 + parity_bits number =
     omega arith in
-    omega (arith, word, ap count_ones is, low, high, one_bit (overall_parity number) (omega arith), even.0, fits.1)
+    omega (
+      arith,
+      word,
+      ap count_ones is,
+      low,
+      high,
+      one_bit (overall_parity number)
+          (omega arith),
+      even.0,
+      fits.1,
+    )
 
 none_is_near_another : (number other : ℕ) → IsPayload number → IsPayload other → number ≢ other
     → 2 ≤ ones_lost (codeword number) (codeword other)
@@ -137,26 +155,34 @@ none_is_near_another number other bare bare_too apart =
     let fits_too = (row_fits (half_weight other) (even_too.1)).0 in
     let places_fits = places_fit number in
     let places_fits_too = places_fit other in
-    let word = lost_word number other (check_bits number) (check_bits other) bare bare_too (omega arith)
+    let word = lost_word number other (check_bits number) (check_bits other) bare bare_too
+    (omega arith)
     (omega arith) in
-    let check = lost_check (weight_row (half_weight number)) (weight_row (half_weight other)) (overall_parity number)
-    (overall_parity other) (parity_bits number) (parity_bits other) fits fits_too (omega arith) (omega arith) places_fits places_fits_too in
+    let check = lost_check (weight_row (half_weight number)) (weight_row (half_weight other))
+    (overall_parity number)
+    (overall_parity other) (parity_bits number) (parity_bits other) fits fits_too (omega arith)
+    (omega arith) places_fits places_fits_too in
     let apart_by = four number other bare bare_too apart in
     let numbers = gains 49 number other bare bare_too in
     let of_places = gains 7 (parity_bits number) (parity_bits other) places_fits places_fits_too in
-    let of_eveners = gains 1 (overall_parity number) (overall_parity other) (omega arith) (omega arith) in
+    let of_eveners = gains 1 (overall_parity number) (overall_parity other) (omega arith)
+    (omega arith) in
     let one = one_bit (overall_parity number) (omega arith) in
     let one_too = one_bit (overall_parity other) (omega arith) in
-    let weight_rows : (half_weight number < half_weight other
+    let rows : (half_weight number < half_weight other
     → (1 ≤ ones_lost (weight_row (half_weight number)) (weight_row (half_weight other)))
     × (half_weight number + 1 < half_weight other
     → 2 ≤ ones_lost (weight_row (half_weight number)) (weight_row (half_weight other)))) =
     λ less. row_lost (half_weight number) (half_weight other) less (even_too.1) in
     let sum = settle (half_weight number) (half_weight other)
-    (ones_lost number other) (ones_lost other number) (ones_lost (parity_bits number) (parity_bits other))
-    (ones_lost (parity_bits other) (parity_bits number)) (ones_lost (overall_parity number) (overall_parity other))
-    (ones_lost (overall_parity other) (overall_parity number)) (ones_lost (weight_row (half_weight number)) (weight_row (half_weight other)))
-    (omega (arith, numbers, of_places, of_eveners, one, one_too, even.0, even_too.0)) apart_by weight_rows in
+    (ones_lost number other) (ones_lost other number) (ones_lost (parity_bits number)
+    (parity_bits other))
+    (ones_lost (parity_bits other) (parity_bits number)) (ones_lost (overall_parity number)
+    (overall_parity other))
+    (ones_lost (overall_parity other) (overall_parity number)) (ones_lost (weight_row
+    (half_weight number)) (weight_row (half_weight other)))
+    (omega (arith, numbers, of_places, of_eveners, one, one_too, even.0, even_too.0)) apart_by rows
+    in
     omega (arith, word, check, sum)
 
 coded_payload : (number : ℕ) → IsPayload number → payload_in (codeword number) ≡ number
@@ -177,7 +203,8 @@ far_from_others payload word bare is other bare_too apart =
 pub decoded_again : (payload : ℕ) → IsPayload payload → decoded (codeword payload) ≡ Some payload
 decoded_again payload bare =
     let back = coded_payload payload bare in
-    rw (eq-eqb (codeword payload) (codeword (payload_in (codeword payload))) (sym (ap codeword back)))
+    rw (eq-eqb (codeword payload) (codeword (payload_in (codeword payload))) (sym
+    (ap codeword back)))
     (ap Some back)
 
 pub reads_as_written : (word : ℕ) (result : Option ℕ) → result ≡ decoded word
@@ -189,16 +216,19 @@ held_is_coded : (word held : ℕ) → word < 2 ^ 64 → decoded word ≡ Some he
     → (word ≡ codeword held) × IsPayload held
 held_is_coded word held fits is = elim (cases_eq word (codeword (payload_in word))) [
   | inl same ↦
-      let here : decoded word ≡ Some (payload_in word) = rw (eq-eqb word (codeword (payload_in word)) same) refl in
+      let here : decoded word ≡ Some (payload_in word) = rw (eq-eqb word (codeword
+      (payload_in word)) same) refl in
       let held_is : payload_in word ≡ held = cc in
       (same ∙ ap codeword held_is, omega (arith, held_is, beside_is_bare word fits))
   | inr other ↦
-      let none : decoded word ≡ None = rw (ne_eqb word (codeword (payload_in word)) other) refl in cc
+      let none : decoded word ≡ None = rw (ne_eqb word (codeword
+      (payload_in word)) other) refl in cc
 ]
 
 -- what is ones_lost of a codeword word by one bit that is turned, from one that has all its bits
 told : (number left read held : ℕ) → IsPayload number → left < 2 ^ 64 → read < 2 ^ 64
-    → ones_lost (codeword number) left ≡ 0 → MayReadAs left read → decoded read ≡ Some held → held ≡ number
+    → ones_lost (codeword number) left ≡ 0 → MayReadAs left read → decoded read ≡ Some held
+    → held ≡ number
 told number left read held bare fits read_fits none turned is =
     let there = held_is_coded read held read_fits is in
     elim (cases_eq held number) [
@@ -222,10 +252,12 @@ torn_is_told word result word_fits is payload left held bare fits has turned hel
 
 pub erase_makes_no_number : (word : ℕ) (result : Option ℕ) → word < 2 ^ 64 → result ≡ decoded word
     → EraseMakesNoNumber word result
-erase_makes_no_number word result word_fits is payload before left held bare before_fits fits has still turned held_is =
+erase_makes_no_number word result word_fits is payload before left held bare before_fits fits has
+    still turned held_is =
     let way = lost_by 64 (codeword payload) before left (coded_fits payload bare) before_fits in
     told payload left word held bare fits word_fits
-    (omega (arith, way, none_lost before (codeword payload) has, none_lost left before still)) turned
+    (omega (arith, way, none_lost before (codeword payload) has, none_lost left before still))
+    turned
     (sym is ∙ held_is)
 
 erased_as_none : (read : ℕ) → read < 2 ^ 64 → MayReadAs (2 ^ 64 - 1) read → decoded read ≡ None

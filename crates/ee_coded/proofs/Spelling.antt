@@ -31,11 +31,18 @@ module _ (value low : ℕ) (fits : value < 2 ^ 32) (low_fits : low < 2 ^ 17) whe
       let bits_fit : bits < 2 ^ 7 = omega arith in
       let ones : count_ones value + count_ones (bits * 2 ^ 17 + low)
       ≡ count_ones number + count_ones (parity_bits number) =
-      omega (arith, ones_cat 17 bits low low_fits, ones_cat 17 value low low_fits, ap count_ones same) in
-      let half : (count_ones value + count_ones (bits * 2 ^ 17 + low) + 1) / 2 ≡ half_weight number =
+      omega (
+        arith,
+        ones_cat 17 bits low low_fits,
+        ones_cat 17 value low low_fits,
+        ap count_ones
+            same,
+      ) in
+      let half : (count_ones value + count_ones (bits * 2 ^ 17 + low) + 1) / 2 ≡ half_weight
+      number =
       omega (arith, ones) in
-      let weight_rows = ap weight_row half in
-      omega (arith, weight_rows, ones, same)
+      let rows = ap weight_row half in
+      omega (arith, rows, ones, same)
 
 pub payload_fits : (value kind address : ℕ) → value < 2 ^ 32 → kind < 2 → address < 2 ^ 16
     → IsPayload (payload_of value kind address)

@@ -22,7 +22,8 @@ mixed_xor a b c d =
     (λ i. bit_xor (bit_xor (bit_xor a b) (low i)) (again i))
     ∙ ap (λ (k : ℕ). bit_xor k (bit_xor (a * 2 % 2 ^ 32) (b * 2 % 2 ^ 32)))
     (crossed a b (c * 2 ^ 12 % 2 ^ 32) (d * 2 ^ 12 % 2 ^ 32))
-    ∙ crossed (bit_xor a (c * 2 ^ 12 % 2 ^ 32)) (bit_xor b (d * 2 ^ 12 % 2 ^ 32)) (a * 2 % 2 ^ 32) (b * 2 % 2 ^ 32)
+    ∙ crossed (bit_xor a (c * 2 ^ 12 % 2 ^ 32)) (bit_xor b (d * 2 ^ 12 % 2 ^ 32)) (a * 2 % 2 ^ 32)
+    (b * 2 % 2 ^ 32)
 
 folded_xor : (a b c d : ℕ)
     → mixed_bits (bit_xor a b) (bit_xor c d) ≡ bit_xor (mixed_bits a c) (mixed_bits b d)
@@ -33,19 +34,24 @@ folded_xor a b c d =
     ap (λ (k : ℕ). xor_left 12 (xor_right 7 (xor_right 9 (xor_left 11 k)))) (mixed_xor a b c d)
     ∙ ap (λ (k : ℕ). xor_left 12 (xor_right 7 (xor_right 9 k))) (left_xor 11 x y)
     ∙ ap (λ (k : ℕ). xor_left 12 (xor_right 7 k)) (right_xor 9 (xor_left 11 x) (xor_left 11 y))
-    ∙ ap (λ (k : ℕ). xor_left 12 k) (right_xor 7 (xor_right 9 (xor_left 11 x)) (xor_right 9 (xor_left 11 y)))
-    ∙ left_xor 12 (xor_right 7 (xor_right 9 (xor_left 11 x))) (xor_right 7 (xor_right 9 (xor_left 11 y)))
+    ∙ ap (λ (k : ℕ). xor_left 12 k) (right_xor 7 (xor_right 9 (xor_left 11 x)) (xor_right 9
+    (xor_left 11 y)))
+    ∙ left_xor 12 (xor_right 7 (xor_right 9 (xor_left 11 x))) (xor_right 7 (xor_right 9
+    (xor_left 11 y)))
 
 pub places_xor : (a b : ℕ) → bit_xor (parity_bits a) (parity_bits b) ≡ parity_bits (bit_xor a b)
 unfolding parity_bits
 places_xor a b =
     let is : mixed_bits (bit_xor a b / 2 ^ 17) (bit_xor a b % 2 ^ 17)
     ≡ bit_xor (mixed_bits (a / 2 ^ 17) (a % 2 ^ 17)) (mixed_bits (b / 2 ^ 17) (b % 2 ^ 17)) =
-    (λ i. mixed_bits (xor_shr a b 17 i) (xor_mod a b 17 i)) ∙ folded_xor (a / 2 ^ 17) (b / 2 ^ 17) (a % 2 ^ 17) (b % 2 ^ 17) in
+    (λ i. mixed_bits (xor_shr a b 17 i) (xor_mod a b 17 i)) ∙ folded_xor (a / 2 ^ 17) (b / 2 ^ 17)
+    (a % 2 ^ 17) (b % 2 ^ 17) in
     sym (
     ap (λ (k : ℕ). k / 2 ^ 21 % 2 ^ 7) is
-    ∙ ap (λ (k : ℕ). k % 2 ^ 7) (xor_shr (mixed_bits (a / 2 ^ 17) (a % 2 ^ 17)) (mixed_bits (b / 2 ^ 17) (b % 2 ^ 17)) 21)
-    ∙ xor_mod (mixed_bits (a / 2 ^ 17) (a % 2 ^ 17) / 2 ^ 21) (mixed_bits (b / 2 ^ 17) (b % 2 ^ 17) / 2 ^ 21) 7
+    ∙ ap (λ (k : ℕ). k % 2 ^ 7) (xor_shr (mixed_bits (a / 2 ^ 17) (a % 2 ^ 17)) (mixed_bits
+    (b / 2 ^ 17) (b % 2 ^ 17)) 21)
+    ∙ xor_mod (mixed_bits (a / 2 ^ 17) (a % 2 ^ 17) / 2 ^ 21) (mixed_bits (b / 2 ^ 17)
+    (b % 2 ^ 17) / 2 ^ 21) 7
     )
 
 -- ---- each of 49 parity_bits has bits of its own, and two ones or more
@@ -58,7 +64,8 @@ none_before bits (suc n) = not (eqb bits (parity_bits (2 ^ n))) && none_before b
 places_hold : ℕ → Bool
 places_hold zero = true
 places_hold (suc n) =
-    (ltb 1 (count_ones (parity_bits (2 ^ n))) && none_before (parity_bits (2 ^ n)) n) && places_hold n
+    (ltb 1 (count_ones (parity_bits (2 ^ n))) && none_before (parity_bits
+    (2 ^ n)) n) && places_hold n
 
 all_places : places_hold 49 ≡ true
 unfolding places_hold none_before parity_bits mixed_bits lib.Count.ones
@@ -83,7 +90,8 @@ not_before bits zero at hold h = absurd (omega arith)
 not_before bits (suc n) at hold h =
     let parts = and_parts (not (eqb bits (parity_bits (2 ^ n)))) (none_before bits n) hold in
     elim (cases_eq at n) [
-      | inl same ↦ rw same (λ is. let yes = eq-eqb bits (parity_bits (2 ^ n)) is in let no = parts.0 in cc)
+      | inl same ↦ rw same (λ is. let yes = eq-eqb bits (parity_bits
+          (2 ^ n)) is in let no = parts.0 in cc)
       | inr other ↦ not_before bits n at (parts.1) (omega arith)
     ]
 
@@ -125,7 +133,8 @@ far number fits some = elim (cases_eq (count_ones number) 0) [
 
 -- the later weight_row lacks a one of the first, and two unless it is the next
 pair_holds : ℕ → ℕ → Bool
-pair_holds at more = ltb 0 (ones_lost (weight_row at) (weight_row (at + 1 + more))) && ltb (min more 1) (ones_lost (weight_row at) (weight_row (at + 1 + more)))
+pair_holds at more = ltb 0 (ones_lost (weight_row at) (weight_row (at + 1 + more))) && ltb
+    (min more 1) (ones_lost (weight_row at) (weight_row (at + 1 + more)))
 
 pairs_hold : ℕ → ℕ → Bool
 pairs_hold at zero = true
@@ -133,7 +142,8 @@ pairs_hold at (suc n) = pair_holds at n && pairs_hold at n
 
 row_holds : ℕ → Bool
 row_holds at =
-    (ltb (weight_row at) 128 && ltb (2 * at + count_ones (weight_row at)) 63) && pairs_hold at (28 - at)
+    (ltb (weight_row at) 128 && ltb (2 * at + count_ones (weight_row at)) 63) && pairs_hold at
+    (28 - at)
 
 rows_hold : ℕ → Bool
 rows_hold zero = true
@@ -163,24 +173,28 @@ pair_hold at (suc n) more hold h =
       | inr other ↦ pair_hold at n more (parts.1) (omega arith)
     ]
 
-pub row_fits : (at : ℕ) → at < 29 → (weight_row at < 2 ^ 7) × (2 * at + count_ones (weight_row at) < 63)
+pub row_fits : (at : ℕ) → at < 29 → (weight_row at < 2 ^ 7) × (2 * at + count_ones
+    (weight_row at) < 63)
 unfolding row_holds
 row_fits at h =
     let parts = and_parts _ _ ((and_parts _ _ (row_hold 29 at all_rows h)).0) in
     (ltb-true _ _ (parts.0), ltb-true _ _ (parts.1))
 
 pair_lost : (at more : ℕ) → pair_holds at more ≡ true
-    → (0 < ones_lost (weight_row at) (weight_row (at + 1 + more))) × (min more 1 < ones_lost (weight_row at) (weight_row (at + 1 + more)))
+    → (0 < ones_lost (weight_row at) (weight_row (at + 1 + more))) × (min more 1 < ones_lost
+    (weight_row at) (weight_row (at + 1 + more)))
 unfolding pair_holds
 pair_lost at more hold =
     let parts = and_parts _ _ hold in (ltb-true _ _ (parts.0), ltb-true _ _ (parts.1))
 
 pub row_lost : (at later : ℕ) → at < later → later < 29
-    → (1 ≤ ones_lost (weight_row at) (weight_row later)) × (at + 1 < later → 2 ≤ ones_lost (weight_row at) (weight_row later))
+    → (1 ≤ ones_lost (weight_row at) (weight_row later)) × (at + 1 < later → 2 ≤ ones_lost
+    (weight_row at) (weight_row later))
 unfolding row_holds
 row_lost at later h h2 =
     let pairs : pairs_hold at (28 - at) ≡ true =
-    (and_parts (ltb (weight_row at) 128 && ltb (2 * at + count_ones (weight_row at)) 63) (pairs_hold at (28 - at))
+    (and_parts (ltb (weight_row at) 128 && ltb (2 * at + count_ones (weight_row at)) 63)
+    (pairs_hold at (28 - at))
     (row_hold 29 at all_rows (omega arith))).1 in
     let more = later - at - 1 in
     let here = pair_lost at more (pair_hold at (28 - at) more pairs (omega arith)) in

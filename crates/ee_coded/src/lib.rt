@@ -8,12 +8,16 @@
 //! every one of the word asked for, and with one bit turned, whichever it is and whatever the
 //! error correction did, it is that word or no coded word.
 //!
-//! `encode` makes a word, `decode` reads one. `specs/Code.antt` has the code. The check is the bits
-//! 31 to 17, so a look for an address or a value needs no decoding.
+//! `encode` makes a word, `decode` reads one (`specs/Code.antt`). The check is the bits 31 to 17,
+//! so a look for an address or a value needs no decoding. `Coded` is a device of words (`ee_flash`)
+//! on such a flash, one number a word. `EccNor` is the flash as a contract (`specs/EccNor.antt`):
+//! cells, and beside each number what it reads as. `specs/Coded.antt` says which word a reading is.
 //!
-//! **No program uses this crate yet.** There is no device of such words so far, and the firmware
-//! keeps words and pairs alone. The code doesn't hold where two bits are corrected, where erases
-//! clear cells first, or where cells fade from one to zero by themselves.
+//! **No program uses this crate yet**, and the firmware keeps words and pairs alone. Not here:
+//! the shape of the device in the mark, a test whether a flash held something else (a reading
+//! doesn't tell, so `known` asks for it and `wipe` erases), numbers that stand in memory, and
+//! reading an address with no decoding. The code doesn't hold where two bits are corrected, where
+//! erases clear cells first, or where cells fade from one to zero by themselves.
 //!
 //! # What is proved
 //!
@@ -22,8 +26,21 @@
 //! program, read with one bit turned at most, reads as the number asked for or as none
 //! (`torn_is_told`); so it does after a cut erase on top (`erase_makes_no_number`). An erased word
 //! reads as none, with one bit turned too (`erased_is_none`).
+//!
+//! `Coded` keeps the contract of `ee_flash::Flash`, to the letter, for numbers that a store writes.
+//! Where power may be cut it needs that each number is erased or one that a coded word was
+//! programmed into, which every step and every cut keeps (`safe`). That a cut erase completes no
+//! number which an earlier cut left torn is no theorem but a clause of `EccNor::erase`.
 #![tactic(auto)]
 
 mod code;
+mod coded;
+mod ecc_nor;
+mod runs;
+mod wiping;
+mod words;
 
 pub use code::{decode, encode};
+pub use coded::Coded;
+pub use ecc_nor::EccNor;
+pub use words::{coded_number, word_of_reading};
