@@ -4301,7 +4301,8 @@ static ListOfU64 pairs_run(const Numbers *self, uint32_t page, uint32_t at, uint
     return (ListOfU64){ .items = room.items, .len = room.len };
 }
 
-/* The complement of 0 is what an erased place reads as. */
+/* Programs an erased word with any number below `u64::MAX`.
+ * The complement of 0 is what an erased place reads as. */
 static Step pairs_program(Numbers *self, uint32_t page, uint32_t at, uint64_t value) {
     if (numbers_program(self, page, 2u * at, value) == CUT) {
         return CUT;

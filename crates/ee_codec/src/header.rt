@@ -1,5 +1,6 @@
 //! The words of a page's header: the receive word, which names a generation, and the mark.
 ghost use Rattle.std.specs.Prelude.{◌≡◌, ◌<◌, ℕ, Some, IfSome};
+ghost use Rattle.ee_flash.specs.Numbers.{IsStoreNumber};
 ghost use Rattle.ee_codec.specs.Words.{IsGeneration, receive};
 ghost use Rattle.ee_codec.specs.Reading.{mark_of, receive_of, SaysMark};
 
@@ -28,7 +29,8 @@ pub enum MarkRead {
 /// The word that opens a set of this generation for taking elements.
 pub fn receive_word(generation: u32) -> u64
     requires { IsGeneration generation }
-    ensures { result ≡ receive generation }
+    ensures word { result ≡ receive generation }
+    ensures of_a_store { IsStoreNumber result }
 {
     RECEIVE + u64::from(generation)
 }

@@ -1,5 +1,6 @@
 //! The words of a slot: an address has a value from there on, or has none.
 ghost use Rattle.std.specs.Prelude.{◌≡◌};
+ghost use Rattle.ee_flash.specs.Numbers.{IsStoreNumber};
 ghost use Rattle.ee_codec.specs.Words.{IsAddress, element, forgetting};
 ghost use Rattle.ee_codec.specs.Reading.{ends_in as word_ends_in, slot_of, SaysSlot};
 
@@ -26,6 +27,7 @@ pub enum Slot {
 pub fn element_word(address: Address, value: u32) -> u64
     ensures word { result ≡ element address value }
     ensures proper { IsAddress address }
+    ensures of_a_store { IsStoreNumber result }
 {
     u64::from(value) << 32 | u64::from(address.get())
 }
@@ -35,6 +37,7 @@ pub fn element_word(address: Address, value: u32) -> u64
 pub fn forget_word(address: Address, value: u32) -> u64
     ensures word { result ≡ forgetting address value }
     ensures proper { IsAddress address }
+    ensures of_a_store { IsStoreNumber result }
 {
     element_word(address, value) + (1 << 16)
 }

@@ -1,6 +1,7 @@
 //! A change of the map, and the word that spells it; a value that is put with others.
 ghost use Rattle.std.specs.Prelude.{◌≡◌, ◌<◌};
 ghost use Rattle.ee_flash.specs.Device.{all_ones};
+ghost use Rattle.ee_flash.specs.Numbers.{IsStoreNumber};
 ghost use Rattle.ee_pages.specs.Meaning.{SpellsChange};
 ghost use Rattle.ee_core.specs.CallSteps.{map_change, number_written};
 
@@ -33,6 +34,7 @@ impl Change {
         ensures number { result ≡ number_written self }
         ensures spells { SpellsChange result (map_change self) }
         ensures below_all_ones { result < all_ones }
+        ensures of_a_store { IsStoreNumber result }
     {
         match self {
             Change::Put { address, value } => element_word(address, value),

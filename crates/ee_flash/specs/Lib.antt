@@ -1,5 +1,6 @@
 pub mod Size
 pub mod Device
+pub mod Numbers
 pub mod Wear
 pub mod Step
 pub mod Power

@@ -2,6 +2,7 @@
 //! cut.
 ghost use Rattle.std.specs.Prelude.{◌<◌, ◌≤◌, ◌+◌, ◌≡◌, ◌⊎◌, OnErr, OnOk, length, true};
 ghost use Rattle.ee_flash.specs.Device.{Device, IsBelowAllOnes, IsFormed, IsOn, all_ones, wear_at, word_at};
+ghost use Rattle.ee_flash.specs.Numbers.{IsStoreNumber};
 ghost use Rattle.ee_flash.specs.Runs.{run_of};
 ghost use Rattle.ee_flash.specs.Size.{page_count};
 ghost use Rattle.ee_flash.specs.Step.{Erase, IsCutIn, IsUntouched, Program, with_page_erased, with_word_programmed};
@@ -53,7 +54,7 @@ pub trait Flash {
         requires places_in_range { at + length room.old ≤ (device self.now).size.words }
         ensures { result.now ≡ run_of (device self.now) page at (length room.old) };
 
-    /// Programs an erased word with a number below `u64::MAX`.
+    /// Programs an erased word with a number below `u64::MAX`, one of those that a store writes.
     ///
     /// # Errors
     ///
@@ -64,6 +65,7 @@ pub trait Flash {
         requires place_in_range { at < (device self.old).size.words }
         requires erased { word_at (device self.old) page at ≡ Word.Erased }
         requires below_all_ones { value < all_ones }
+        requires of_a_store { IsStoreNumber value }
         ensures on { OnOk result (IsOn (device self.old)) }
         ensures done { OnOk result (device self.new ≡ with_word_programmed page at value (device self.old)) }
         ensures cut { OnErr result

@@ -1,5 +1,5 @@
 //! A device of words on a flash of numbers.
-ghost use Rattle.std.specs.Prelude.{◌≡◌, ℕ, IfErr, IfOk, OnOk, false, true};
+ghost use Rattle.std.specs.Prelude.{◌<◌, ◌≡◌, ◌⊎◌, ℕ, IfErr, IfOk, OnErr, OnOk, false, true};
 ghost use Rattle.ee_flash.specs.Device.{all_ones};
 ghost use Rattle.ee_pairs.specs.Nor.{number_at};
 ghost use Rattle.ee_pairs.specs.Pairs.{IsLowFault, IsSafe, NoLowPair, complement, pair_word};
@@ -114,6 +114,9 @@ pub fn complement_of(number: u64) -> u64
 }
 
 impl<N: Nor + Drop> Flash for Pairs<N> {
+    ghost use Rattle.ee_flash.specs.Device.{IsOn, word_at};
+    ghost use Rattle.ee_flash.specs.Size.{page_count};
+    ghost use Rattle.ee_flash.specs.Step.{IsCutIn, IsUntouched, Program, with_word_programmed};
     ghost use Rattle.ee_pairs.specs.Pairs.{paired_device};
     ghost use Rattle.ee_pairs.specs.Formed.{pairs_are_formed};
 
@@ -142,8 +145,21 @@ impl<N: Nor + Drop> Flash for Pairs<N> {
         room
     }
 
+    /// Programs an erased word with any number below `u64::MAX`.
     // The complement of 0 is what an erased place reads as.
-    fn program(&mut self, page: usize, at: usize, value: u64) -> Result<(), Cut> {
+    fn program(&mut self, page: usize, at: usize, value: u64) -> Result<(), Cut>
+        requires page_in_range { page < page_count (paired_device (N.nor self.old.nor)).size }
+        requires place_in_range { at < (paired_device (N.nor self.old.nor)).size.words }
+        requires erased { word_at (paired_device (N.nor self.old.nor)) page at ≡ Word.Erased }
+        requires below_all_ones { value < all_ones }
+        ensures on { OnOk result (IsOn (paired_device (N.nor self.old.nor))) }
+        ensures done { OnOk result (paired_device (N.nor self.new.nor)
+            ≡ with_word_programmed page at value (paired_device (N.nor self.old.nor))) }
+        ensures cut { OnErr result
+            (IsCutIn (Program page at value) (paired_device (N.nor self.old.nor))
+            (paired_device (N.nor self.new.nor))
+            ⊎ IsUntouched (paired_device (N.nor self.old.nor)) (paired_device (N.nor self.new.nor))) }
+    {
         self.nor.program(page, 2 * at, value)?;
         let check = complement_of(value);
         if check == u64::MAX {

@@ -33,7 +33,7 @@ pub trait Flash {
     /// device has them. `word` tells a torn word from one that holds 0.
     fn run<'a>(&'a self, page: usize, at: usize, room: &'a mut [u64]) -> &'a [u64];
 
-    /// Programs an erased word with a number below `u64::MAX`.
+    /// Programs an erased word with a number below `u64::MAX`, one of those that a store writes.
     ///
     /// # Errors
     ///

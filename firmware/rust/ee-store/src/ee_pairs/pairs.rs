@@ -100,6 +100,7 @@ impl<N: Nor> Flash for Pairs<N> {
         room
     }
 
+    /// Programs an erased word with any number below `u64::MAX`.
     // The complement of 0 is what an erased place reads as.
     fn program(&mut self, page: usize, at: usize, value: u64) -> Result<(), Cut> {
         self.nor.program(page, 2 * at, value)?;
