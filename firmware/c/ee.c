@@ -4697,10 +4697,7 @@ static uint32_t loaded_of(const ee_store *store, ee_value *values, uint32_t coun
         wanted[at] = (Wanted){ .address = values[at].address, .value = maybe_u32_none() };
     }
     (void)store_load(&store->memory.parts.store, wanted, count);
-    if (is_broken(store)) {
-        return 0u;
-    }
-    for (uint32_t at = 0u; at < count; at++) {
+    for (uint32_t at = 0u; power_of(store)->flash != NULL && at < count; at++) {
         if (wanted[at].value.some) {
             values[at].value = wanted[at].value.value;
             found++;
@@ -4710,30 +4707,20 @@ static uint32_t loaded_of(const ee_store *store, ee_value *values, uint32_t coun
 }
 
 ee_result ee_load(const ee_store *store, ee_value *values, uint32_t count, uint32_t *loaded) {
-    const ee_result refused = begun(store, EE_NO_ADDRESS, values);
-    if (refused != EE_OK) {
-        return refused;
-    }
-    if (loaded == NULL) {
-        return ended_well(EE_NULL, store);
-    }
+    ee_result status = begun_with(store, 1u, loaded == NULL ? NULL : values);
+    if (status != EE_OK) { return status; }
     for (uint32_t at = 0u; at < count; at++) {
-        if (!address_new(values[at].address).some) {
-            return ended_well(EE_WRONG_NUMBER, store);
-        }
+        if (!address_new(values[at].address).some) { return ended(EE_WRONG_NUMBER, store); }
     }
     uint32_t found = 0u;
-    uint32_t from = 0u;
-    while (from < count && !is_broken(store)) {
-        const uint32_t some = u32_least(count - from, EE_WANTED);
+    uint32_t some = 0u;
+    for (uint32_t from = 0u; from < count && power_of(store)->flash != NULL; from += some) {
+        some = u32_least(count - from, EE_WANTED);
         found += loaded_of(store, &values[from], some);
-        from += some;
     }
-    if (is_broken(store)) {
-        return EE_DRIVER;
-    }
-    *loaded = found;
-    return ended_well(EE_OK, store);
+    status = ended(EE_OK, store);
+    if (status == EE_OK) { *loaded = found; }
+    return status;
 }
 
 ee_result ee_next(const ee_store *store, uint16_t *address, uint32_t *value) {
