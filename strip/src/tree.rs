@@ -22,8 +22,11 @@ pub fn made_files(package: &Package, top: &Path) -> Result<BTreeMap<PathBuf, Str
         if let Some(name) = missing.next() {
             return Err(Refusal::of(place, format!("no module {name}")));
         }
-        for path in files.into_iter().filter(|path| !home.has_not(stem(path))) {
+        for path in files {
             let name = path.strip_prefix(&folder).unwrap_or(&path);
+            if is_left_out(home, name) {
+                continue;
+            }
             let file = format!("{place}/{}", name.display());
             if name.extension().is_none_or(|extension| extension != "rt") {
                 return Err(Refusal::of(file, "no source file"));
@@ -47,6 +50,13 @@ pub fn made_files(package: &Package, top: &Path) -> Result<BTreeMap<PathBuf, Str
         )),
         None => Ok(made),
     }
+}
+
+/// Whether a source is of a module that is left out, or of one within it.
+fn is_left_out(home: &Crate, name: &Path) -> bool {
+    let modules = name.with_extension("");
+    let mut parts = modules.iter().filter_map(|part| part.to_str());
+    parts.any(|module| home.has_not(module))
 }
 
 fn stem(path: &Path) -> &str {
