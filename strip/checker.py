@@ -399,8 +399,8 @@ def pairs(package):
     for crate, absent in package.absent.items():
         folder = CRATES / crate / "src"
         for path in sorted(folder.rglob("*.rt")):
-            if path.stem not in absent:
-                name = path.relative_to(folder).with_suffix(".rs")
+            name = path.relative_to(folder).with_suffix(".rs")
+            if not {*name.with_suffix("").parts} & {*absent}:
                 is_top = str(name) in ("lib.rs", "main.rs")
                 yield crate, path, package.plain / crate / ("mod.rs" if is_top else name)
 
