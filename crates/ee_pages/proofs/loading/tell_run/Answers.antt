@@ -13,7 +13,8 @@ loop-at-preserved c =
     let none = c.index-entries-at.result in
     let below : c.loop-at.at < length list =
     omega (arith, c.loop-at-test.true, c.loop-at.auto.at-end) in
-    let told : latest_in words (get_or now c.loop-at.at none).address ≡ c.said_in.result = sym c.said_in.ensures in
+    let told : latest_in words (get_or now c.loop-at.at none).address ≡ c.said_in.result =
+    sym c.said_in.ensures in
     elim c.match-said_in.branch [
       | in-Some w ↦ search (
         rules,
