@@ -1,4 +1,4 @@
-use Rattle.std.proofs.Common.{◌≡◌, arith, get_or, length, map, sym, ◌∙◌, ◌<◌}
+use Rattle.std.proofs.Common.{rules, ◌≡◌, arith, get_or, length, map, sym, ◌∙◌, ◌<◌}
 use Rattle.ee_flash.specs.declared.word.Word.TheVariants.{Held}
 use Rattle.ee_pages.specs.Meaning.{latest_in}
 use Rattle.ee_pages.proofs.ToldLists.{told_next, untold_next}
@@ -13,11 +13,16 @@ loop-at-preserved c =
     let none = c.index-entries-at.result in
     let below : c.loop-at.at < length list =
     omega (arith, c.loop-at-test.true, c.loop-at.auto.at-end) in
-    let told : latest_in words (get_or now c.loop-at.at none).address ≡ c.said_in.result = sym c.said_in.ensures in
+    let told : latest_in words (get_or now c.loop-at.at none).address ≡ c.said_in.result =
+    sym c.said_in.ensures in
     elim c.match-said_in.branch [
-      | in-Some w ↦ rw w.entries-is
-          (told_next words now list c.loop-at.at w.index-entries-at-in-Some.result below
-          c.loop-at.auto.entries c.loop-at.invariant none w.in-Some.said (told ∙ w.in-Some.is))
+      | in-Some w ↦ search (
+        rules,
+        w.entries-is,
+        told,
+        told_next words now list c.loop-at.at w.index-entries-at-in-Some.result below
+            c.loop-at.auto.entries c.loop-at.invariant none w.in-Some.said,
+      )
       | in_default w ↦ rw w.entries-is
           (untold_next words now list c.loop-at.at none below c.loop-at.auto.entries
           c.loop-at.invariant none (told ∙ w.in_default.is))
