@@ -3422,8 +3422,8 @@ static uint32_t store_torn_slots(const Store *self) {
     return torn_slots(&self->flash, &self->known.layout);
 }
 
-/* Gives each entry of a list the value of its address, as `read` would, by one look through the
- * slots. An address may stand in the list more than once.
+/* Gives each entry of a list the value of its address, as `read` would, by one look through
+ * the slots. An address may stand in the list more than once.
  *
  * Errors:
  *

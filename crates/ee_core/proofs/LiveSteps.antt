@@ -49,8 +49,8 @@ module _ (side : Side) (old mid new : Device) (first page last : ℕ)
         (completes_both (valids old first last) (steps_to_mark old Active page) so_far
         (subst (λ (list : List Step). Completes list mid new) active_is done))
 
-module _ (side : Side) (old mid : Device) (first page : ℕ) (first_is : first ≡ first_page old.size side)
-    (marked : IsLiveMarked old side) where
+module _ (side : Side) (old mid : Device) (first page : ℕ)
+    (first_is : first ≡ first_page old.size side) (marked : IsLiveMarked old side) where
   -- where each mark is set, a valid one that a loop comes to is
   pub still_valid : first ≤ page → page < first + last_used old side
       → Completes (valids old first (page - first)) old mid → is_marked mid page Valid ≡ true

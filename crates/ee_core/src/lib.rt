@@ -30,9 +30,9 @@
 //! clear leaves no value and no used slot by one transfer that copies nothing, and where no slot is
 //! used it takes no step. `Store` keeps it on every device that keeps the contract of `Flash` and
 //! over every look-up, and leaves a legal image always. Over `Slots` it takes no memory. Its `load`
-//! gives each entry of a list what a read of its address gives, by one look through the slots. `open`
-//! (`opened`, `failed`) and `format` (`formatted`, `cut`) say what they find and leave, word for
-//! word after a cut too, and `count_pending` says how many pages of a set are not blank, of any
+//! gives each entry of a list what a read of its address gives, by one look through the slots.
+//! `open` (`opened`, `failed`) and `format` (`formatted`, `cut`) say what they find and leave, word
+//! for word after a cut too, and `count_pending` says how many pages of a set are not blank, of any
 //! device. `start` is the call for each boot: a device in which no set is committed and no slot
 //! holds a word is formatted, and every other one opened; a cut in that first format leaves a
 //! device that can be started still, or the empty store (`started`, `failed`), so that starts end

@@ -27,8 +27,9 @@ one_number_lower numbers left address some within silent =
     let inside : left - 1 < length numbers = omega arith in
     let next : left - 1 + 1 ≡ left = omega arith in
     latest_in-step (left - 1) words address (rw (length-map numbers Held) inside)
-    ∙ ap (λ n. later_of (says (get_or words (left - 1) Erased) address) (latest_in (drop n words) address))
-    next
+    ∙ ap
+    (λ n. later_of (says (get_or words (left - 1) Erased) address)
+    (latest_in (drop n words) address)) next
     ∙ ap (later_of (says (get_or words (left - 1) Erased) address)) silent
     ∙ ap (λ (word : Word). says word address) (get_or-map Held numbers (left - 1) 0 Erased inside)
 
@@ -49,7 +50,8 @@ module _ {A : Type 0} (f : A → A) where
   abbrev pub so_far : List A → ℕ → List A
   so_far list at = map f (take at list) ++ drop at list
 
-  pub here : (list : List A) (at : ℕ) (none : A) → get_or (so_far list at) at none ≡ get_or list at none
+  pub here : (list : List A) (at : ℕ) (none : A)
+      → get_or (so_far list at) at none ≡ get_or list at none
   here [] zero none = refl
   here [] (suc at) none = refl
   here (first ∷ list) zero none = refl
@@ -96,8 +98,9 @@ pub cleared_next : (now list : List Wanted) (at : ℕ) (none : Wanted) → at < 
     ≡ loaded (λ address. None) (take (at + 1) list) ++ drop (at + 1) list
 cleared_next now list at none h is = changed_next clear_one now list at none h is
 
-module _ (words : List Word) (now list : List Wanted) (at : ℕ) (none : Wanted) (h : at < length list)
-    (long : length now ≡ length list) (is : now ≡ told words (take at list) ++ drop at list)
+module _ (words : List Word) (now list : List Wanted) (at : ℕ) (none : Wanted)
+    (h : at < length list) (long : length now ≡ length list)
+    (is : now ≡ told words (take at list) ++ drop at list)
     (other : Wanted) where
   same_address : (get_or now at none).address ≡ (get_or now at other).address
   same_address =

@@ -159,7 +159,8 @@ returns-in_err-mark-2 g c =
     (stops_then (map Erase (not_blank_pages old))
     (marking 0 (Receive 1) ∷ marking 0 Active ∷ []) c.in_ok-erase_all.ensures.steps.done
     (stops_then (marking 0 (Receive 1) ∷ []) (marking 0 Active ∷ [])
-    (completes_one (marking 0 (Receive 1)) blank on_mark whole) (stops_one (marking 0 Active) cut))) in
+    (completes_one (marking 0 (Receive 1)) blank on_mark whole)
+    (stops_one (marking 0 Active) cut))) in
     record {
       writes = rw (err_from_is_err_and failed.result failed.ensures.1).1 (record {
         words = λ on. inr partly;

@@ -12,7 +12,8 @@ returns-then-is_some c =
     let number = get_or numbers (left - 1) 0 in
     let ends : number % 2 ^ 16 ≡ c.args.address =
     sym c.address_in.ensures ∙ c.if-address_in-get.true ∙ c.get.ensures.number in
-    let proper : IsAddress c.args.address = subst IsAddress c.get.ensures.number c.get.ensures.proper in
+    let proper : IsAddress c.args.address =
+    subst IsAddress c.get.ensures.number c.get.ensures.proper in
     all_say (left - 1) (map Held numbers) c.args.address c.said-said.result
     (one_number_lower numbers left c.args.address c.behind-test.true c.behind.invariant.within
     c.behind.invariant.silent
@@ -26,7 +27,8 @@ behind-preserved-else-is_some c =
     let number = get_or numbers (left - 1) 0 in
     let ends : number % 2 ^ 16 ≡ c.args.address =
     sym c.address_in.ensures ∙ c.if-address_in-get.true ∙ c.get.ensures.number in
-    let proper : IsAddress c.args.address = subst IsAddress c.get.ensures.number c.get.ensures.proper in
+    let proper : IsAddress c.args.address =
+    subst IsAddress c.get.ensures.number c.get.ensures.proper in
     record {
       within = omega (arith, c.behind.invariant.within);
       silent =

@@ -72,8 +72,8 @@ impl<F: Flash, L: Lookup> Store<F, L> {
         torn_slots(&self.flash, &self.known.layout)
     }
 
-    /// Gives each entry of a list the value of its address, as `read` would, by one look through the
-    /// slots. An address may stand in the list more than once.
+    /// Gives each entry of a list the value of its address, as `read` would, by one look through
+    /// the slots. An address may stand in the list more than once.
     ///
     /// # Errors
     ///
