@@ -49,6 +49,7 @@ PARTS = {
     ),
     "web": Part("web/ee.html in browsers", ["web/test"], ["web/test", "pictures"]),
     "bench": Part("the program against a plain one", ["bench/test"], ["bench/tables", "--write"]),
+    "steps": Part("every short script, by the lists of steps alone", ["bench/steps"]),
     "lasting": Part("how long a part lasts, by trying", ["bench/lasting"]),
 }
 # What takes no proof, in some four minutes on four processors (./test), and what the gate runs
@@ -63,6 +64,7 @@ QUICK = [
     Turn("typed"),
     Turn("page"),
     Turn("bench", ["--cases", "300"]),
+    Turn("steps", ["--lines", "2"]),
     Turn("lasting", ["--cases", "200"]),
     Turn("cli", ["100"]),
 ]
@@ -74,12 +76,13 @@ GATE = [
     Turn("cli"),
     Turn("page", ["--compare"]),
     Turn("bench"),
+    Turn("steps"),
     Turn("lasting"),
 ]
 # Parts that are skipped whole where something is missing: the programs that they take, and how to
 # get them. `ee` is built by cargo where it wasn't proved.
 NEEDS = {"sources": (["rt"], KIT), "first": (["cc", "make"], "apt-get install gcc make")}
-TAKE_PROGRAM = {"typed", "bench", "lasting"}
+TAKE_PROGRAM = {"typed", "bench", "steps", "lasting"}
 NO_PROGRAM = f"no program (cargo and rustc 1.89 by {RUST}, its crates by .ci/install)"
 # A part that counts nothing of its own: its status says all.
 UNCOUNTED = {"first"}
