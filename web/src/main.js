@@ -272,7 +272,7 @@ function listenToFields(page) {
 function listenToSets(page) {
   at("tool").addEventListener("change", () => page.drawTool());
   at("sets").addEventListener("click", (/** @type {MouseEvent} */ event) => {
-    page.spoil(page.view.boxes.indexOf(/** @type {HTMLElement} */ (event.target)));
+    page.spoil(page.view.indexOf(/** @type {HTMLElement} */ (event.target)));
   });
   at("sets").addEventListener("keydown", (/** @type {KeyboardEvent} */ event) => {
     if (event.key === "Enter") page.spoil(page.view.cursor);

@@ -53,10 +53,10 @@ function standText(bench) {
   const line = call?.command.line;
   const number = (call?.taken ?? 0) + (bench.underWay ? 1 : 0);
   const step = `step ${number} of ${call?.steps.length} of \u201c${line}\u201d`;
-  if (!power) return `\u25a1 Power is off: cut in ${step}. This is the part as it lies; power on reads it and opens the store.`;
+  if (!power) return `\u25a1 Power is off: cut in ${step}. Power on opens what lies here.`;
   const wait = armed?.after === 0n ? "the next step" : `${armed?.after} steps pass, and the next`;
   const fuse = armed === null ? "" : ` A cut is armed: ${wait} is left ${TEARS[armed.tear]}.`;
-  if (bench.underWay) return `\u25b8 Power is on; ${step} comes next. The counts are what a store would find here.${fuse}`;
+  if (bench.underWay) return `\u25b8 Power is on; ${step} comes next. The counts are of a store opened here.${fuse}`;
   if (fault !== null) return `\u25b2 No store here: ${fault}. Rescue makes one of what can be read; format loses what these cells hold.`;
   return open ? `\u25a0 Power is on, and the store is open.${fuse}` : NOT_OPEN;
 }
@@ -144,7 +144,11 @@ function drawReport(bench, counts) {
   const report = at("report");
   const text = reportText(bench, counts);
   if (report.textContent !== text) {
-    report.textContent = text;
+    const end = text.search(/^end /m);
+    const answers = end < 0 ? text : text.slice(0, end);
+    const [stand = "", head = "", ...rest] = text.slice(answers.length).split(/(?<=\n)/);
+    const long = [stand, head].map((line) => make("span", { className: "long" }, line));
+    report.replaceChildren(answers, ...long, rest.join(""));
     report.scrollTop = report.scrollHeight;
   }
   at("lines").textContent = scriptText(bench);
