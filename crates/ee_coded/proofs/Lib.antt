@@ -6,3 +6,4 @@ mod Numbers
 mod Steps
 mod CodeRuns
 mod Wipes
+mod Premises
