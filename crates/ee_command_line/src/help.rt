@@ -3,7 +3,7 @@
 /// The version of the program, and the toolchain that it is proved with, in a line.
 ///
 /// Source: ours.
-pub const VERSION: &str = "ee 0.3.0 (rattle logic dac8208d650f15bf)\n";
+pub const VERSION: &str = "ee 0.2.0 (rattle logic dac8208d650f15bf)\n";
 
 /// The commands on one screen.
 ///
