@@ -52,6 +52,7 @@ WRITERS = {
     "import --pairs": ["import", "--pairs", "1", "6", "pairs", "image"],
     "import-hex": ["import-hex", "1", "6", "0807f000", "hex", "image"],
     "import-hex --pairs": ["import-hex", "--pairs", "1", "6", "0807f000", "pairs-hex", "image"],
+    "unset": ["unset", "image", "settings", "volume"],
     "apply": ["apply", "image", "settings", "values"],
     "clean": ["clean", "image"],
     "rescue": ["rescue", "image"],

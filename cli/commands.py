@@ -49,8 +49,12 @@ list image settings
 get image settings NAME
 set image settings NAME VALUE
 set image settings NAME VALUE
+unset image settings NAME
+--dry-run unset image settings NAME
 apply image settings values
 apply image settings values
+--dry-run apply image settings values
+verify image settings values
 header settings
 header --rust settings
 stale image settings

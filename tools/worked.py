@@ -17,7 +17,7 @@ Step = namedtuple("Step", "words printed status")
 Run = namedtuple("Run", "name start script step")
 
 # The commands that change the image that they name first.
-CHANGERS = ("run", "clean", "rescue", "forget-all", "set", "apply", "tidy")
+CHANGERS = ("run", "clean", "rescue", "forget-all", "set", "unset", "apply", "tidy")
 
 
 def steps_of(transcript):

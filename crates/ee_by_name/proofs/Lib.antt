@@ -7,3 +7,5 @@ mod Steps
 mod Stored
 mod Causes
 mod Writing
+mod Unset
+mod Compared

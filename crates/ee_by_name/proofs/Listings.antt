@@ -1,5 +1,5 @@
 -- The lines of what an image holds.
-use Rattle.std.proofs.Common.{◌≡◌, ℕ, Option, List, [], ◌∷◌, ◌++◌, sym, ap, append-nil, decimal, rules, arith}
+use Rattle.std.proofs.Common.{◌≡◌, ℕ, Option, List, [], ◌∷◌, ◌++◌, sym, ap, append-nil, codes, decimal, rules, arith}
 use Rattle.std.proofs.lemmas.Grind.{common_steps, flat_map-append}
 use Rattle.ee_text.specs.Field.{joined_fields, space}
 use Rattle.ee_text.specs.Line.{line_feed}
@@ -7,8 +7,10 @@ use Rattle.ee_core.specs.State.{state_of}
 use Rattle.ee_flash.specs.Device.{Device}
 use Rattle.ee_settings.specs.Listing.{listed_in}
 use Rattle.ee_settings.specs.Setting.{Setting}
+use Rattle.ee_settings.specs.declared.listing.Held.{Held}
 use Rattle.ee_settings.specs.declared.listing.Listed.{Listed}
 use Rattle.ee_by_name.specs.Listing.{AreNamed, IsList, held_words, listed_line, listed_lines, name_words, words_behind}
+use Rattle.ee_by_name.specs.Verifying.{difference_line}
 use Rattle.ee_faults.specs.declared.fault.Fault.{Fault}
 use Rattle.ee_faults.specs.declared.fault.Fault.TheVariants.{Memory}
 use Rattle.ee_image_store.proofs.Public.{no_memory_to_open}
@@ -28,6 +30,14 @@ pub line_made : (settings : List Setting) (listed : Listed) (out numbered held n
     → named ≡ held ++ words_behind (name_words settings listed.entry)
     → done ≡ named ++ line_feed ∷ [] → done ≡ out ++ listed_line settings listed
 line_made settings listed out numbered held named done first second third fourth =
+    grind (arith, common_steps, flat_map-append, joined_behind)
+
+-- and the line of a setting that has another value
+pub difference_made : (out name named held wanted done : List ℕ) (what : Held) (value : ℕ)
+    → named ≡ out ++ name → held ≡ named ++ words_behind (held_words what)
+    → wanted ≡ held ++ (codes " wanted " ++ decimal value) → done ≡ wanted ++ line_feed ∷ []
+    → done ≡ out ++ difference_line name what value
+difference_made out name named held wanted done what value first second third fourth =
     grind (arith, common_steps, flat_map-append, joined_behind)
 
 -- memory can run out whatever the image says

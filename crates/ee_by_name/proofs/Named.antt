@@ -19,13 +19,13 @@ use Rattle.ee_script.specs.declared.answer.Answer.{Answer}
 use Rattle.ee_script.specs.declared.answer.Answer.TheVariants.{Appended, Moved}
 use Rattle.ee_script.specs.declared.command.Command.{Command}
 use Rattle.ee_script.specs.declared.command.Command.TheVariants.{Write}
-use Rattle.ee_by_name.specs.Settings.{fault_of_schema, HasTree, IsGetFault, IsGot, IsReadingLine, IsUnknownIn, IsSettingRead, IsSettingRefused, IsRefusedIn, IsSet, IsSettingsFault, IsValueRefusal, IsWriteRefusal, IsWriteServed, IsWritten, LeavesSet, SpellsSettings}
+use Rattle.ee_by_name.specs.Settings.{fault_of_schema, HasTree, IsGetFault, IsGot, IsReadingLine, IsUnknownIn, IsSettingRead, IsSettingRefused, IsRefusedIn, IsSet, IsSettingsFault, IsValueRefusal, IsWriteRefusal, IsCommandServed, IsWriteServed, IsWritten, LeavesSet, SpellsSettings}
 use Rattle.ee_faults.specs.declared.fault.Fault.{Fault}
 use Rattle.ee_faults.specs.declared.fault.Fault.TheVariants.{Memory, UnknownName}
 use Rattle.ee_image_store.proofs.Public.{both, by_append, by_move, no_memory_to_open, pages_since, same_at_rest, same_state}
 use Rattle.ee_image_store.specs.Erases.{ErasesRise, erases_left_by}
 use Rattle.ee_image_store.specs.Machine.{MachineStep}
-use Rattle.ee_image_store.specs.Opening.{IsOpened, IsStoreLeft, StaysOn}
+use Rattle.ee_image_store.specs.Opening.{IsOpened, IsStoreLeft, IsStoreText, StaysOn}
 use Rattle.ee_image_store.specs.Steps.{Steps}
 
 -- ---- the text of the settings
@@ -197,22 +197,22 @@ from_text image store new command answer opened serves =
           (erases_left_by store.size answer) opened.erases serves.erases (omega arith));
     }
 
-served_from_text : (image : List ℕ) (store new : Device) (address value : ℕ)
+pub served_from_text : (image : List ℕ) (store new : Device) (command : Command)
     (opened : IsOpened image store)
-    → IsWriteServed store address value new → IsWriteServed opened.device address value new
-served_from_text image store new address value opened (inl h) =
-    inl (from_text image store new (Write address value) Appended opened h.0, h.1 ∙ opened.no_wear)
-served_from_text image store new address value opened (inr h) =
+    → IsCommandServed store command new → IsCommandServed opened.device command new
+served_from_text image store new command opened (inl h) =
+    inl (from_text image store new command Appended opened h.0, h.1 ∙ opened.no_wear)
+served_from_text image store new command opened (inr h) =
     inr (
-      from_text image store new (Write address value) Moved opened h.0,
+      from_text image store new command Moved opened h.0,
       subst (λ (pages : List ℕ). Wears pages opened.device new) opened.same_pending
           (pages_since opened.device store new (pending_pages store) opened.no_wear h.1),
     )
 
-pub size_kept : (old new : Device) (address value : ℕ) → IsWriteServed old address value new
+pub size_kept : (old new : Device) (command : Command) → IsCommandServed old command new
     → new.size ≡ old.size
-size_kept old new address value (inl h) = h.0.same_size
-size_kept old new address value (inr h) = h.0.same_size
+size_kept old new command (inl h) = h.0.same_size
+size_kept old new command (inr h) = h.0.same_size
 
 pub is_set : (image text name new_image line : List ℕ) (value : ℕ) (store : Device)
     (settings : List Setting)
@@ -221,7 +221,7 @@ pub is_set : (image text name new_image line : List ℕ) (value : ℕ) (store : 
     → IsSet image text name value new_image line
 is_set image text name new_image line value store settings opened spelled done =
     let served =
-    served_from_text image store done.last done.written.setting.numbers.address value opened
+    served_from_text image store done.last (Write done.written.setting.numbers.address value) opened
     done.written.served in
     record {
       device = opened.device;
@@ -234,10 +234,30 @@ is_set image text name new_image line value store settings opened spelled done =
       written = done.written;
       served = served;
       left = subst (λ (size : Size). IsStoreLeft size new_image done.last)
-          (size_kept opened.device done.last done.written.setting.numbers.address value served)
+          (size_kept opened.device done.last (Write done.written.setting.numbers.address value)
+          served)
           done.left;
       line_is = done.line_is;
     }
+
+-- what holds of the opened store's size and state holds of those that its text spells
+pub of_text : (image : List ℕ) (store : Device) (P : Size → State → Type 0)
+    (opened : IsOpened image store)
+    → P store.size (state_of store) → P opened.device.size (state_of opened.device)
+of_text image store P opened h =
+    subst (λ (size : Size). P size (state_of opened.device)) opened.same_size
+    (subst (λ (state : State). P store.size state) opened.state_is h)
+
+-- and the other way round
+pub at_opened : (image : List ℕ) (device store : Device) (P : Size → State → Type 0)
+    → IsStoreText image device → IsOpened image store → P device.size (state_of device)
+    → P store.size (state_of store)
+at_opened image device store P old opened h =
+    let rest = same_at_rest image device opened.device old.spelled opened.old.spelled in
+    subst (λ (size : Size). P size (state_of store))
+    (ap (λ (d : Device). d.size) rest ∙ sym opened.same_size)
+    (subst (λ (state : State). P device.size state)
+    (same_state device opened.device rest ∙ sym opened.state_is) h)
 
 pub is_refused_in : (image text name : List ℕ) (value : ℕ) (store : Device)
     (settings : List Setting) (fault : Fault)
@@ -249,13 +269,10 @@ is_refused_in image text name value store settings fault opened spelled refused 
   old = opened.old;
   settings = settings;
   spelled = spelled;
-  refused =
-      subst
-      (λ (size : Size).
-      IsSettingRefused settings size (state_of opened.device) name value fault)
-      opened.same_size
-      (subst (λ (state : State). IsSettingRefused settings store.size state name value fault)
-      opened.state_is refused);
+  refused = of_text image store
+      (λ (size : Size) (state : State). IsSettingRefused settings size state name value fault)
+      opened
+      refused;
 }
 
 -- ---- the causes for which nothing is set
@@ -276,27 +293,43 @@ pub one_named : (settings : List Setting) (name : List ℕ) (one other : Setting
 one_named settings name one other rising h k =
     names_apart settings rising one other h.0 k.0 (h.1 ∙ sym k.1)
 
-one_refusal : (settings : List Setting) (size : Size) (state : State) (name : List ℕ) (value : ℕ)
+-- why a command refuses a name: no setting has it; or for a cause of its setting; or memory ran out
+abbrev pub IsNameRefused : List Setting → List ℕ → (Setting → Fault → Type 0) → Fault → Type 0
+IsNameRefused settings name Why fault =
+    (IsUnknown settings name × (fault ≡ UnknownName))
+    ⊎ ((setting : Setting) × IsNamed settings name setting × Why setting fault) ⊎ (fault ≡ Memory)
+
+pub one_refusal : (settings : List Setting) (name : List ℕ) (Why : Setting → Fault → Type 0)
     (fault cause : Fault)
-    → HaveRisingNames settings → cause ≢ Memory
-    → IsSettingRefused settings size state name value fault
-    → IsSettingRefused settings size state name value cause → (fault ≡ cause) ⊎ (fault ≡ Memory)
-one_refusal settings size state name value fault cause rising some (inr (inr h)) k = inr h
-one_refusal settings size state name value fault cause rising some (inl h) (inr (inr k)) =
-    absurd (some k)
-one_refusal settings size state name value fault cause rising some (inl h) (inl k) =
-    inl (h.1 ∙ sym k.1)
-one_refusal settings size state name value fault cause rising some (inl h) (inr (inl k)) =
+    → HaveRisingNames settings
+    → ((setting : Setting) → Why setting fault → Why setting cause → fault ≡ cause)
+    → cause ≢ Memory → IsNameRefused settings name Why fault → IsNameRefused settings name Why cause
+    → (fault ≡ cause) ⊎ (fault ≡ Memory)
+one_refusal settings name Why fault cause rising once some (inr (inr h)) k = inr h
+one_refusal settings name Why fault cause rising once some (inl h) (inr (inr k)) = absurd (some k)
+one_refusal settings name Why fault cause rising once some (inl h) (inl k) = inl (h.1 ∙ sym k.1)
+one_refusal settings name Why fault cause rising once some (inl h) (inr (inl k)) =
     absurd (h.0 k.0 k.1)
-one_refusal settings size state name value fault cause rising some (inr (inl h)) (inr (inr k)) =
+one_refusal settings name Why fault cause rising once some (inr (inl h)) (inr (inr k)) =
     absurd (some k)
-one_refusal settings size state name value fault cause rising some (inr (inl h)) (inl k) =
+one_refusal settings name Why fault cause rising once some (inr (inl h)) (inl k) =
     absurd (k.0 h.0 h.1)
-one_refusal settings size state name value fault cause rising some (inr (inl h)) (inr (inl k)) =
+one_refusal settings name Why fault cause rising once some (inr (inl h)) (inr (inl k)) =
     inl
-    (one_value h.0 size state value fault cause h.2
-    (subst (λ (s : Setting). IsValueRefusal s size state value cause)
-    (one_named settings name k.0 h.0 rising k.1 h.1) k.2))
+    (once h.0 h.2
+    (subst (λ (s : Setting). Why s cause) (one_named settings name k.0 h.0 rising k.1 h.1) k.2))
+
+-- a name whose setting has no such cause is not refused
+pub name_good : (settings : List Setting) (name : List ℕ) (Why : Setting → Fault → Type 0)
+    (setting : Setting) (cause : Fault)
+    → HaveRisingNames settings → IsNamed settings name setting → (Why setting cause → ⊥)
+    → cause ≢ Memory → IsNameRefused settings name Why cause → ⊥
+name_good settings name Why setting cause rising named good some (inl h) = h.0 setting named
+name_good settings name Why setting cause rising named good some (inr (inr h)) = some h
+name_good settings name Why setting cause rising named good some (inr (inl h)) =
+    good
+    (subst (λ (s : Setting). Why s cause) (one_named settings name h.0 setting rising h.1 named)
+    h.2)
 
 accepted_write : (size : Size) (state : State) (address value : ℕ) (cause : Fault)
     → IsAccepted (slot_count size) state (Put address value ∷ [])
@@ -321,14 +354,12 @@ written_good : (settings : List Setting) (old new : Device) (name : List ℕ) (v
     (cause : Fault)
     → HaveRisingNames settings → cause ≢ Memory → IsWritten settings old name value new
     → IsSettingRefused settings old.size (state_of old) name value cause → ⊥
-written_good settings old new name value cause rising some done (inl h) =
-    h.0 done.setting done.named
-written_good settings old new name value cause rising some done (inr (inr h)) = some h
-written_good settings old new name value cause rising some done (inr (inl h)) =
-    accepted_value done.setting old.size (state_of old) value cause done.in_range
-    (accepted_by old new done.setting.numbers.address value done.served)
-    (subst (λ (s : Setting). IsValueRefusal s old.size (state_of old) value cause)
-    (one_named settings name h.0 done.setting rising h.1 done.named) h.2)
+written_good settings old new name value cause rising some done h =
+    name_good settings name
+    (λ (s : Setting) (fault : Fault). IsValueRefusal s old.size (state_of old) value fault)
+    done.setting cause rising done.named
+    (accepted_value done.setting old.size (state_of old) value cause done.in_range
+    (accepted_by old new done.setting.numbers.address value done.served)) some h
 
 -- what refuses a value in the image refuses it in its store
 refused_there : (image text name : List ℕ) (value : ℕ) (store : Device) (settings : List Setting)
@@ -336,16 +367,11 @@ refused_there : (image text name : List ℕ) (value : ℕ) (store : Device) (set
     → IsOpened image store → SpellsSettings text settings → IsRefusedIn image text name value cause
     → IsSettingRefused settings store.size (state_of store) name value cause
 refused_there image text name value store settings cause opened spelled h =
-    let rest = same_at_rest image h.device opened.device h.old.spelled opened.old.spelled in
-    let size : h.device.size ≡ store.size =
-    ap (λ (d : Device). d.size) rest ∙ sym opened.same_size in
-    let state : state_of h.device ≡ state_of store =
-    same_state h.device opened.device rest ∙ sym opened.state_is in
     subst (λ (ss : List Setting). IsSettingRefused ss store.size (state_of store) name value cause)
     (spelled_once text h.settings settings h.spelled spelled)
-    (subst (λ (s : Size). IsSettingRefused h.settings s (state_of store) name value cause) size
-    (subst (λ (t : State). IsSettingRefused h.settings h.device.size t name value cause) state
-    h.refused))
+    (at_opened image h.device store
+    (λ (size : Size) (state : State). IsSettingRefused h.settings size state name value cause) h.old
+    opened h.refused)
 
 pub refused_once : (image text name : List ℕ) (value : ℕ) (store : Device) (settings : List Setting)
     (fault cause : Fault)
@@ -353,7 +379,10 @@ pub refused_once : (image text name : List ℕ) (value : ℕ) (store : Device) (
     → IsSettingRefused settings store.size (state_of store) name value fault → cause ≢ Memory
     → IsRefusedIn image text name value cause → (fault ≡ cause) ⊎ (fault ≡ Memory)
 refused_once image text name value store settings fault cause opened spelled refused some h =
-    one_refusal settings store.size (state_of store) name value fault cause spelled.schema.1 some
+    one_refusal settings name
+    (λ (s : Setting) (one : Fault). IsValueRefusal s store.size (state_of store) value one) fault
+    cause spelled.schema.1
+    (λ s one other. one_value s store.size (state_of store) value fault cause one other) some
     refused (refused_there image text name value store settings cause opened spelled h)
 
 pub set_good : (image text name : List ℕ) (value : ℕ) (store new : Device) (settings : List Setting)

@@ -22,6 +22,7 @@ use Rattle.ee_image_store.specs.Opening.{StaysOn}
 use Rattle.ee_by_name.proofs.Named.{is_written}
 use Rattle.ee_by_name.proofs.Taken.{applied_more}
 use Rattle.ee_by_name.specs.Applying.{Applies, IsEntryRefusal, IsWriteRefusalAt, StopsAtEntry, TakesEntry}
+use Rattle.ee_by_name.specs.Verifying.{IsEntryFault, IsWanted}
 
 -- ---- one entry
 
@@ -32,106 +33,130 @@ integer_is tree number h =
     cc found
 
 -- no number is found
-pub bad_value : (settings : List Setting) (size : Size) (state : State) (number : ℕ) (name : List ℕ)
-    (tree : Data)
-    → as_integer tree ≡ None
-    → IsEntryRefusal settings size state number (name, tree) (BadValue number)
-bad_value settings size state number name tree none =
+pub bad_value : (settings : List Setting) (number : ℕ) (name : List ℕ) (tree : Data)
+    → as_integer tree ≡ None → IsEntryFault settings number (name, tree) (BadValue number)
+bad_value settings number name tree none =
     inl ((λ n is. let some : as_integer tree ≡ Some n = ap as_integer is in cc (none, some)), refl)
 
-pub unknown_value : (settings : List Setting) (size : Size) (state : State) (number : ℕ)
-    (name : List ℕ) (tree : Data) (n : ℤ)
+pub unknown_value : (settings : List Setting) (number : ℕ) (name : List ℕ) (tree : Data) (n : ℤ)
     → as_integer tree ≡ Some n → IsUnknown settings name
-    → IsEntryRefusal settings size state number (name, tree) (UnknownValue number)
-unknown_value settings size state number name tree n some unknown =
+    → IsEntryFault settings number (name, tree) (UnknownValue number)
+unknown_value settings number name tree n some unknown =
     inr (inl (n, integer_is tree n some, unknown, refl))
 
-pub value_out_of_range : (settings : List Setting) (size : Size) (state : State) (number : ℕ)
-    (name : List ℕ) (tree : Data) (n : ℤ) (numbers : Numbers)
+pub value_out_of_range : (settings : List Setting) (number : ℕ) (name : List ℕ) (tree : Data)
+    (n : ℤ) (numbers : Numbers)
     → as_integer tree ≡ Some n → IsNumbersOf settings name numbers
     → ((value : ℕ) → IsInRange numbers value → n ≢ pos value)
-    → IsEntryRefusal settings size state number (name, tree)
-    (ValueOutOfRange number numbers.min numbers.max)
-value_out_of_range settings size state number name tree n numbers some h out =
+    → IsEntryFault settings number (name, tree) (ValueOutOfRange number numbers.min numbers.max)
+value_out_of_range settings number name tree n numbers some h out =
     inr
     (inr (
       n,
       integer_is tree n some,
       h.1,
       h.2,
-      inl (
-        (λ value within.
-            out value (subst (λ (ns : Numbers). IsInRange ns value) h.3 within)),
-        ap (λ (ns : Numbers). ValueOutOfRange number ns.min ns.max) (sym h.3),
-      ),
+      (λ value within. out value (subst (λ (ns : Numbers). IsInRange ns value) h.3 within)),
+      ap (λ (ns : Numbers). ValueOutOfRange number ns.min ns.max) (sym h.3),
     ))
 
-value_is : (tree : Data) (n : ℤ) (value : ℕ) → as_integer tree ≡ Some n → n ≡ pos value
-    → tree ≡ integer (pos value)
-value_is tree n value some is = integer_is tree n some ∙ ap integer is
+pub is_wanted : (settings : List Setting) (name : List ℕ) (tree : Data) (n : ℤ) (numbers : Numbers)
+    (value : ℕ)
+    → as_integer tree ≡ Some n → IsNumbersOf settings name numbers
+    → (n ≡ pos value) × IsInRange numbers value → IsWanted settings (name, tree) numbers value
+is_wanted settings name tree n numbers value some h within = record {
+  number = integer_is tree n some ∙ ap integer within.0;
+  setting = h.1;
+  named = h.2;
+  numbers_are = h.3;
+  in_range = within.1;
+}
+
+-- what an entry is refused for whatever the store is
+pub fault_refuses : (settings : List Setting) (size : Size) (state : State) (number : ℕ)
+    (entry : Entry) (fault : Fault)
+    → IsEntryFault settings number entry fault
+    → IsEntryRefusal settings size state number entry fault
+fault_refuses settings size state number entry fault (inl h) = inl h
+fault_refuses settings size state number entry fault (inr (inl h)) = inr (inl h)
+fault_refuses settings size state number entry fault (inr (inr h)) =
+    inr (inr (h.0, h.1, h.2, h.3, inl (h.4, h.5)))
+
+within_own : (settings : List Setting) (entry : Entry) (numbers : Numbers) (value : ℕ)
+    (wanted : IsWanted settings entry numbers value)
+    → IsInRange wanted.setting.numbers value
+within_own settings entry numbers value wanted =
+    subst (λ (ns : Numbers). IsInRange ns value) (sym wanted.numbers_are) wanted.in_range
 
 -- its value is stored already
-pub taken_stored : (settings : List Setting) (device : Device) (name : List ℕ) (tree : Data) (n : ℤ)
-    (numbers : Numbers) (value : ℕ)
-    → as_integer tree ≡ Some n → IsNumbersOf settings name numbers
-    → (n ≡ pos value) × IsInRange numbers value → (state_of device).map numbers.address ≡ Some value
-    → TakesEntry settings device (name, tree) 0 device
-taken_stored settings device name tree n numbers value some h within stored =
-    search (rules, value_is)
-
--- it was written
-pub taken_new : (settings : List Setting) (old new : Device) (name : List ℕ) (tree : Data) (n : ℤ)
-    (numbers : Numbers) (value : ℕ) (answer : Written)
-    → StaysOn old → as_integer tree ≡ Some n → IsNumbersOf settings name numbers
-    → (n ≡ pos value) × IsInRange numbers value → (state_of old).map numbers.address ≢ Some value
-    → Writes old numbers.address value (Ok answer) new → TakesEntry settings old (name, tree) 1 new
-taken_new settings old new name tree n numbers value answer on some h within another writes = inr (
+pub taken_stored : (settings : List Setting) (device : Device) (entry : Entry) (numbers : Numbers)
+    (value : ℕ)
+    → IsWanted settings entry numbers value → (state_of device).map numbers.address ≡ Some value
+    → TakesEntry settings device entry 0 device
+taken_stored settings device entry numbers value wanted stored = inl (
   record {
     value = value;
-    number = value_is tree n value some within.0;
-    setting = h.1;
-    named = h.2;
+    number = wanted.number;
+    setting = wanted.setting;
+    named = wanted.named;
+    in_range = within_own settings entry numbers value wanted;
+    stored =
+        ap (λ (ns : Numbers). (state_of device).map ns.address) wanted.numbers_are ∙ stored;
+  },
+  refl,
+  refl,
+)
+
+-- it was written
+pub taken_new : (settings : List Setting) (old new : Device) (entry : Entry) (numbers : Numbers)
+    (value : ℕ) (answer : Written)
+    → StaysOn old → IsWanted settings entry numbers value
+    → (state_of old).map numbers.address ≢ Some value
+    → Writes old numbers.address value (Ok answer) new → TakesEntry settings old entry 1 new
+taken_new settings old new entry numbers value answer on wanted another writes = inr (
+  record {
+    value = value;
+    number = wanted.number;
+    setting = wanted.setting;
+    named = wanted.named;
     another =
-        λ same. another (ap (λ (ns : Numbers). (state_of old).map ns.address) (sym h.3) ∙ same);
-    written = is_written settings old new name value answer on (
-      h.1,
-      h.2,
-      subst (λ (ns : Numbers). IsInRange ns value) (sym h.3) within.1,
-      subst (λ (ns : Numbers). Writes old ns.address value (Ok answer) new) (sym h.3) writes,
+        λ same. another
+        (ap (λ (ns : Numbers). (state_of old).map ns.address) (sym wanted.numbers_are) ∙ same);
+    written = is_written settings old new entry.0 value answer on (
+      wanted.setting,
+      wanted.named,
+      within_own settings entry numbers value wanted,
+      subst (λ (ns : Numbers). Writes old ns.address value (Ok answer) new)
+          (sym wanted.numbers_are) writes,
     );
   },
   refl,
 )
 
 -- its write was refused
-pub unwritten : (settings : List Setting) (old : Device) (number : ℕ) (name : List ℕ) (tree : Data)
-    (n : ℤ) (numbers : Numbers) (value : ℕ) (fault : Fault)
-    → as_integer tree ≡ Some n → IsNumbersOf settings name numbers
-    → (n ≡ pos value) × IsInRange numbers value → (state_of old).map numbers.address ≢ Some value
+pub unwritten : (settings : List Setting) (old : Device) (number : ℕ) (entry : Entry)
+    (numbers : Numbers) (value : ℕ) (fault : Fault)
+    → IsWanted settings entry numbers value → (state_of old).map numbers.address ≢ Some value
     → IsWriteRefusalAt old.size (state_of old) number numbers.address fault ⊎ (fault ≡ Memory)
-    → IsEntryRefusal settings old.size (state_of old) number (name, tree) fault ⊎ (fault ≡ Memory)
-unwritten settings old number name tree n numbers value fault some h within another (inr none) =
-    inr none
-unwritten settings old number name tree n numbers value fault some h within another (inl refused) =
-    let in_range = subst (λ (ns : Numbers). IsInRange ns value) (sym h.3) within.1 in
-    let there =
-    subst (λ (ns : Numbers). IsWriteRefusalAt old.size (state_of old) number ns.address fault)
-    (sym h.3) refused in
+    → IsEntryRefusal settings old.size (state_of old) number entry fault ⊎ (fault ≡ Memory)
+unwritten settings old number entry numbers value fault wanted another (inr none) = inr none
+unwritten settings old number entry numbers value fault wanted another (inl refused) =
     inl
     (inr
     (inr (
-      n,
-      integer_is tree n some,
-      h.1,
-      h.2,
+      pos value,
+      wanted.number,
+      wanted.setting,
+      wanted.named,
       inr (
         value,
-        within.0,
-        in_range,
+        refl,
+        within_own settings entry numbers value wanted,
         (λ same. another
-            (ap (λ (ns : Numbers). (state_of old).map ns.address) (sym h.3)
+            (ap (λ (ns : Numbers). (state_of old).map ns.address) (sym wanted.numbers_are)
             ∙ same)),
-        there,
+        subst (λ (ns : Numbers). IsWriteRefusalAt old.size (state_of old) number ns.address fault)
+            (sym wanted.numbers_are) refused,
       ),
     )))
 

@@ -10,6 +10,7 @@ use Rattle.ee_core.specs.State.{State, state_of}
 use Rattle.ee_settings.specs.Calls.{IsNamed}
 use Rattle.ee_settings.specs.File.{Entry}
 use Rattle.ee_settings.specs.Setting.{HaveRisingNames, IsInRange, Setting}
+use Rattle.ee_script.specs.declared.command.Command.TheVariants.{Write}
 use Rattle.ee_faults.specs.declared.fault.Fault.{Fault}
 use Rattle.ee_image_store.specs.Opening.{StaysOn}
 use Rattle.ee_by_name.proofs.Named.{accepted_by, size_kept, one_named}
@@ -23,7 +24,7 @@ pub taken_keeps : (settings : List Setting) (old new : Device) (entry : Entry) (
 taken_keeps settings old new entry count on (inl h) = rw h.2 (on, refl)
 taken_keeps settings old new entry count on (inr h) = (
   h.0.written.stays_on,
-  size_kept old new h.0.written.setting.numbers.address h.0.value h.0.written.served,
+  size_kept old new (Write h.0.written.setting.numbers.address h.0.value) h.0.written.served,
 )
 
 pub applied_keeps : (settings : List Setting) (entries : List Entry) (old new : Device) (count : ℕ)
@@ -83,10 +84,10 @@ served_alike one other first second address value same (inr h) (inl k) =
     (slot_count one.size) (ap (λ (s : State). s.fill) (sym same.state))
     (ap slot_count (sym same.size)) k.0.step.1 h.0.step.1)
 
-one_number : (tree : Data) (one other : ℤ) → tree ≡ integer one → tree ≡ integer other → one ≡ other
+pub one_number : (tree : Data) (one other : ℤ) → tree ≡ integer one → tree ≡ integer other → one ≡ other
 one_number tree one other h k = cc
 
-one_value : (tree : Data) (one other : ℕ) → tree ≡ integer (pos one) → tree ≡ integer (pos other)
+pub one_value : (tree : Data) (one other : ℕ) → tree ≡ integer (pos one) → tree ≡ integer (pos other)
     → one ≡ other
 one_value tree one other h k = cc
 
@@ -194,7 +195,7 @@ one_number_refusal : (setting : Setting) (size : Size) (state : State) (entry : 
     → IsNumberRefusal setting size state entry number cause → fault ≡ cause
 one_number_refusal setting size state entry number fault cause h1 h2 = search (rules, one_write)
 
-one_refusal : (settings : List Setting) (size : Size) (state : State) (number : ℕ) (entry : Entry)
+pub one_refusal : (settings : List Setting) (size : Size) (state : State) (number : ℕ) (entry : Entry)
     (fault cause : Fault)
     → HaveRisingNames settings → IsEntryRefusal settings size state number entry fault
     → IsEntryRefusal settings size state number entry cause → fault ≡ cause

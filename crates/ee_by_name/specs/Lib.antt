@@ -3,3 +3,5 @@ pub mod SecondSchema
 pub mod Listing
 pub mod Header
 pub mod Applying
+pub mod Unsetting
+pub mod Verifying

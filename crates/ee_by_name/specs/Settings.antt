@@ -20,6 +20,7 @@ use Rattle.ee_settings.specs.declared.fault.SchemaFault.TheVariants as schema
 use Rattle.ee_settings.specs.declared.reading.Reading.{Reading}
 use Rattle.ee_settings.specs.declared.reading.Reading.TheVariants.{Stored, Default}
 use Rattle.ee_script.specs.declared.answer.Answer.TheVariants.{Appended, Moved}
+use Rattle.ee_script.specs.declared.command.Command.{Command}
 use Rattle.ee_script.specs.declared.command.Command.TheVariants.{Write}
 use Rattle.ee_faults.specs.declared.fault.Fault.{Fault}
 use Rattle.ee_faults.specs.declared.fault.Fault.TheVariants.{SettingsText, BadName, BadField, BadRange, SameAddress, UnknownName, OutOfRange, Full, Spent, Memory}
@@ -88,12 +89,16 @@ pub record IsGot (image settings_text name line : List ℕ) : Type 0 where
 
 -- ---- what is set
 
--- the write was served: appended, and no page was erased; or moved with the map to the other set,
+-- the command was served: appended, and no page was erased; or moved with the map to the other set,
 -- and the pages that waited were erased, each once, and no other
+abbrev pub IsCommandServed : Device → Command → Device → Type 0
+IsCommandServed old command new =
+    (Steps old command Appended new × (new.wear ≡ old.wear))
+    ⊎ (Steps old command Moved new × Wears (pending_pages old) old new)
+
+-- the write was served so
 abbrev pub IsWriteServed : Device → ℕ → ℕ → Device → Type 0
-IsWriteServed old address value new =
-    (Steps old (Write address value) Appended new × (new.wear ≡ old.wear))
-    ⊎ (Steps old (Write address value) Moved new × Wears (pending_pages old) old new)
+IsWriteServed old address value new = IsCommandServed old (Write address value) new
 
 -- The value is in the range of the name's setting, and one write of it at the setting's address was
 -- served, as the report machine answers a write.

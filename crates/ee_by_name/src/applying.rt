@@ -7,6 +7,7 @@ ghost use Rattle.ee_core.specs.State.{state_of};
 ghost use Rattle.ee_settings.specs.File.{entries_of};
 ghost use Rattle.ee_image_store.specs.Opening.{StaysOn};
 ghost use Rattle.ee_by_name.specs.Applying.{Applies, IsApplied, IsApplyFault, IsEntryRefusal, IsWriteRefusalAt, LeavesApplied, StopsAtEntry, TakesEntry, applied_text};
+ghost use Rattle.ee_by_name.specs.Verifying.{IsEntryFault, IsWanted};
 ghost use Rattle.ee_faults.specs.Causes.{NamesEach};
 
 use super::opening::{open_with_settings, read_table};
@@ -120,6 +121,38 @@ fn take_entry<A: Allocator>(
         IsEntryRefusal schema.now old.size (state_of old) entry (name.now, view value.now) fault
         ⊎ (fault ≡ Fault.Memory)) }
 {
+    let Wanted { numbers, value } = wanted_of(schema, entry, name, value)?;
+    let address = numbers.address;
+    if has_value(store, address, value) {
+        return Ok(0);
+    }
+    write_on(store, address, value, entry)?;
+    Ok(1)
+}
+
+/// What an entry asks for: a value in the range of the setting with these numbers.
+#[derive(Clone, Copy)]
+pub(crate) struct Wanted {
+    pub(crate) numbers: Numbers,
+    pub(crate) value: u32,
+}
+
+/// What an entry asks for. `entry` is its number, counted from 1.
+///
+/// # Errors
+///
+/// The first that applies: it is no whole number, no setting has its name, or it is not in the
+/// setting's range.
+pub(crate) fn wanted_of<A: Allocator>(
+    schema: &Schema<A>,
+    entry: u64,
+    name: &str,
+    value: &Value,
+) -> Result<Wanted, Fault>
+    ensures wanted { IfOk result (λ wanted.
+        IsWanted schema.now (name.now, view value.now) wanted.numbers wanted.value) }
+    ensures fault { IfErr result (IsEntryFault schema.now entry (name.now, view value.now)) }
+{
     let value = match value.as_integer() {
         Some(value) => value,
         None => return Err(Fault::BadValue(entry)),
@@ -128,21 +161,11 @@ fn take_entry<A: Allocator>(
         Some(numbers) => numbers,
         None => return Err(Fault::UnknownValue(entry)),
     };
-    let Numbers {
-        address,
-        min,
-        max,
-        ..
-    } = numbers;
-    let value = match in_range(min, max, value) {
-        Some(value) => value,
-        None => return Err(Fault::ValueOutOfRange { entry, min, max }),
-    };
-    if has_value(store, address, value) {
-        return Ok(0);
+    let Numbers { min, max, .. } = numbers;
+    match in_range(min, max, value) {
+        Some(value) => Ok(Wanted { numbers, value }),
+        None => Err(Fault::ValueOutOfRange { entry, min, max }),
     }
-    write_on(store, address, value, entry)?;
-    Ok(1)
 }
 
 /// The number, if it is in the range.
@@ -163,8 +186,16 @@ fn has_value<A: Allocator>(store: &Store<MemFlash<A>>, address: Address, value: 
     ensures stored { OnTrue result ((state_of store.now).map address ≡ Some value) }
     ensures another { OnFalse result ((state_of store.now).map address ≢ Some value) }
 {
+    value_at(store, address) == Some(value)
+}
+
+/// The value of an address, if it has one.
+pub(crate) fn value_at<A: Allocator>(store: &Store<MemFlash<A>>, address: Address) -> Option<u32>
+    requires { StaysOn store.now }
+    ensures { result ≡ (state_of store.now).map address }
+{
     match store.read(address) {
-        Ok(stored) => stored == Some(value),
+        Ok(stored) => stored,
         Err(_) => unreachable!("power stays on"),
     }
 }

@@ -1,5 +1,6 @@
 //! What holds of all settings and values. Each function does nothing: its contract is the law.
 ghost use Rattle.ee_by_name.specs.Applying.{ApplyingStoresValues, ApplyingTwiceWritesNothing};
+ghost use Rattle.ee_by_name.specs.Verifying.{ApplyingWhatIsVerified, VerifyingWhatIsApplied};
 
 /// After entries were applied, the setting that each names has its value stored, and every other
 /// address has what it had.
@@ -12,4 +13,16 @@ pub fn applying_stores_values()
 #[tactic(auto, using(crate::proofs::Stored::applying_twice_lem))]
 pub fn applying_twice_writes_nothing()
     ensures { ApplyingTwiceWritesNothing }
+{}
+
+/// Of values that are all stored, `apply` writes nothing.
+#[tactic(auto, using(crate::proofs::Compared::applies_nothing))]
+pub fn applying_what_is_verified()
+    ensures { ApplyingWhatIsVerified }
+{}
+
+/// The values that were applied are all stored.
+#[tactic(auto, using(crate::proofs::Compared::applied_verified))]
+pub fn verifying_what_is_applied()
+    ensures { VerifyingWhatIsApplied }
 {}

@@ -149,7 +149,7 @@ fn push_name<A: Allocator>(
 }
 
 /// Writes what an address holds, behind its number. After an error there may be a part of that.
-fn push_held<A: Allocator>(out: &mut Vec<u8, A>, held: Held) -> Result<(), AllocError>
+pub(crate) fn push_held<A: Allocator>(out: &mut Vec<u8, A>, held: Held) -> Result<(), AllocError>
     ensures { OnOk result (out.new.items ≡ out.old.items ++ words_behind (held_words held)) }
 {
     let (before, value, after) = match held {

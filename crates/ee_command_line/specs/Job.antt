@@ -20,7 +20,9 @@ pub data Row : Type 0 where
   Run : Bool → List ℕ → List ℕ → Row
   Get : List ℕ → List ℕ → List ℕ → Row
   Set : List ℕ → List ℕ → List ℕ → ℕ → Row
+  Unset : List ℕ → List ℕ → List ℕ → Row
   Apply : List ℕ → List ℕ → List ℕ → Row
+  Verify : List ℕ → List ℕ → List ℕ → Row
   Header : Bool → List ℕ → Row
   Plan : List ℕ → List ℕ → Row
   Check : List ℕ → List ℕ → List ℕ → Row
@@ -48,7 +50,9 @@ row_of (job.Inspect image) = Inspect image.now
 row_of (job.Run indexed image script) = Run indexed image.now script.now
 row_of (job.Get image settings name) = Get image.now settings.now name.now
 row_of (job.Set image settings name value) = Set image.now settings.now name.now value
+row_of (job.Unset image settings name) = Unset image.now settings.now name.now
 row_of (job.Apply image settings values) = Apply image.now settings.now values.now
+row_of (job.Verify image settings values) = Verify image.now settings.now values.now
 row_of (job.Header rust settings) = Header rust settings.now
 row_of (job.Plan image script) = Plan image.now script.now
 row_of (job.Check image script certificate) = Check image.now script.now certificate.now
@@ -110,7 +114,9 @@ IsRow (Inspect image) = Unit {0}
 IsRow (Run indexed image script) = image ≢ codes "--indexed"
 IsRow (Get image settings name) = Unit {0}
 IsRow (Set image settings name value) = value < 2 ^ 32
+IsRow (Unset image settings name) = Unit {0}
 IsRow (Apply image settings values) = Unit {0}
+IsRow (Verify image settings values) = Unit {0}
 IsRow (Header rust settings) = settings ≢ codes "--rust"
 IsRow (Plan image script) = Unit {0}
 IsRow (Check image script certificate) = Unit {0}
@@ -169,8 +175,11 @@ AreWordsOf words (Run indexed image script) =
 AreWordsOf words (Get image settings name) = words ≡ codes "get" ∷ image ∷ settings ∷ name ∷ []
 AreWordsOf words (Set image settings name value) =
     words ≡ codes "set" ∷ image ∷ settings ∷ name ∷ decimal value ∷ []
+AreWordsOf words (Unset image settings name) = words ≡ codes "unset" ∷ image ∷ settings ∷ name ∷ []
 AreWordsOf words (Apply image settings values) =
     words ≡ codes "apply" ∷ image ∷ settings ∷ values ∷ []
+AreWordsOf words (Verify image settings values) =
+    words ≡ codes "verify" ∷ image ∷ settings ∷ values ∷ []
 AreWordsOf words (Header rust settings) =
     words ≡ codes "header" ∷ with_flag rust (codes "--rust") (settings ∷ [])
 AreWordsOf words (Plan image script) = words ≡ codes "plan" ∷ image ∷ script ∷ []

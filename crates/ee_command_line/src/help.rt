@@ -3,7 +3,7 @@
 /// The version of the program, and the toolchain that it is proved with, in a line.
 ///
 /// Source: ours.
-pub const VERSION: &str = "ee 0.3.0 (rattle logic dac8208d650f15bf)\n";
+pub const VERSION: &str = "ee 0.2.0 (rattle logic dac8208d650f15bf)\n";
 
 /// The commands on one screen.
 ///
@@ -25,7 +25,9 @@ ee: flash EEPROM emulation over images as text, proved
   ee list IMAGE [SETTINGS]                 tells what each address has
   ee get IMAGE SETTINGS NAME               tells what a setting reads as
   ee set IMAGE SETTINGS NAME VALUE         gives a setting a value, and replaces the image
+  ee unset IMAGE SETTINGS NAME             forgets the value of a setting
   ee apply IMAGE SETTINGS VALUES           gives settings the values of a file, all or none
+  ee verify IMAGE SETTINGS VALUES          tells the settings that differ from a file's values
   ee header [--rust] SETTINGS              tells the settings as constants in C, or in Rust
   ee stale IMAGE SETTINGS                  tells the settings whose stored value is out of range
   ee tidy IMAGE SETTINGS                   forgets the addresses that no setting has
@@ -45,6 +47,7 @@ P: pages of a set, 1 to 64. W: words of a page, 5 to 512. VALUE: 0 to 4294967295
 CYCLES: erases that a page bears, RUNS: how often the script is made; 1 to 4294967295.
 BASE: where the part's first byte is, eight hexadecimal digits, a multiple of 8.
 A script has a command a line: w A V, r A, f A, c, x N T, p.
+In front of a command --dry-run writes no file, and --explain says more of a refusal.
 
 Status: 0 done, 2 bad command line, 3 bad file, 4 refused, 5 out of memory.
 README.md has examples, docs/FORMATS.md each text, docs/FAULTS.md what a fault line means.

@@ -73,9 +73,21 @@ pub enum Job<'a> {
         name: &'a str,
         value: u32,
     },
+    /// `unset IMAGE SETTINGS NAME`: forgets the value of the setting of this name.
+    Unset {
+        image: &'a str,
+        settings: &'a str,
+        name: &'a str,
+    },
     /// `apply IMAGE SETTINGS VALUES`: gives each setting that VALUES names its
     /// value, or none of them.
     Apply {
+        image: &'a str,
+        settings: &'a str,
+        values: &'a str,
+    },
+    /// `verify IMAGE SETTINGS VALUES`: tells each setting that has another value than VALUES says.
+    Verify {
         image: &'a str,
         settings: &'a str,
         values: &'a str,

@@ -283,7 +283,17 @@ fn job_of_four<'a>(
             settings: second,
             name: third,
         },
+        "unset" => Job::Unset {
+            image: first,
+            settings: second,
+            name: third,
+        },
         "apply" => Job::Apply {
+            image: first,
+            settings: second,
+            values: third,
+        },
+        "verify" => Job::Verify {
             image: first,
             settings: second,
             values: third,

@@ -1,7 +1,7 @@
 //! Why words are no command line, and why a line is none of a script.
-ghost use Rattle.std.specs.Prelude.{◌≡◌, ◌↔◌, IsTrue};
-ghost use Rattle.ee_explain.specs.Explaining.{IsCommandLine, IsCommandName, IsUnended, IsWithReturn, StartsWithCommand};
-ghost use Rattle.ee_explain.specs.declared.causes.LineCause.TheVariants.{Unended, WithReturn};
+ghost use Rattle.std.specs.Prelude.{◌≡◌, ◌≢◌, ◌↔◌, IsTrue, true, false};
+ghost use Rattle.ee_explain.specs.Explaining.{IsCommandLine, IsCommandName, IsSpaced, IsUnended, IsUpperCase, IsWithReturn, StartsWithCommand, has_capital, has_loose_space, is_upper};
+ghost use Rattle.ee_explain.specs.declared.causes.LineCause.TheVariants.{Spaced, Unended, UpperCase, WithReturn};
 ghost use Rattle.ee_explain.specs.declared.causes.WordsCause.TheVariants.{NoRow};
 
 use ee_script::read_command;
@@ -42,8 +42,9 @@ pub(crate) fn is_command_name(word: &str) -> bool
         "try" | "format" | "import" | "export" | "import-hex" | "export-hex" | "run" | "list" => {
             true
         }
-        "get" | "set" | "apply" | "header" | "stale" | "tidy" | "plan" | "check" => true,
-        "size" | "inspect" | "wear" | "states" | "clean" | "rescue" | "forget-all" => true,
+        "get" | "set" | "unset" | "apply" | "verify" | "header" | "stale" | "tidy" => true,
+        "plan" | "check" | "size" | "inspect" | "wear" | "states" | "clean" | "rescue" => true,
+        "forget-all" => true,
         _ => false,
     }
 }
@@ -57,24 +58,75 @@ pub enum LineCause {
     Unended,
     /// It is a command with a carriage return behind it.
     WithReturn,
-    /// It is neither.
+    /// It is empty, begins or ends with a space, or has two of them side by side.
+    Spaced,
+    /// It has a letter in upper case.
+    UpperCase,
+    /// None of these.
     NoCommand,
 }
 
-/// Why a line, without its line feed, is none of a script. `is_ended` says whether it has one.
+/// Why a line, without its line feed, is none of a script: the first cause that applies. `is_ended`
+/// says whether it has a line feed.
 ///
 /// Source: ours.
 pub fn why_bad_line(line: &[u8], is_ended: bool) -> LineCause
     ensures unended { result ≡ Unended ↔ IsUnended line.now is_ended }
     ensures with_return { result ≡ WithReturn ↔ IsWithReturn line.now is_ended }
+    ensures spaced { result ≡ Spaced ↔ IsSpaced line.now is_ended }
+    ensures upper_case { result ≡ UpperCase ↔ IsUpperCase line.now is_ended }
 {
     if !is_ended && is_command_line(line) {
         return LineCause::Unended;
     }
     match line {
         [front @ .., b'\r'] if is_command_line(front) => LineCause::WithReturn,
-        _ => LineCause::NoCommand,
+        _ => why_no_command(line),
     }
+}
+
+/// Why a line that is no command is none, by its bytes.
+fn why_no_command(line: &[u8]) -> LineCause
+    ensures by_itself { (result ≢ Unended) × (result ≢ WithReturn) }
+    ensures spaced { result ≡ Spaced ↔ has_loose_space line.now ≡ true }
+    ensures upper_case { result ≡ UpperCase
+        ↔ (has_loose_space line.now ≡ false) × (has_capital line.now ≡ true) }
+{
+    if finds_loose_space(line) {
+        LineCause::Spaced
+    } else if finds_capital(line) {
+        LineCause::UpperCase
+    } else {
+        LineCause::NoCommand
+    }
+}
+
+/// Whether a line is empty, begins or ends with a space, or has two of them side by side.
+fn finds_loose_space(line: &[u8]) -> bool
+    ensures { result ≡ has_loose_space line.now }
+{
+    let mut behind_space = true;
+    for byte in line {
+        if behind_space && *byte == b' ' {
+            return true;
+        }
+        behind_space = *byte == b' ';
+    }
+    behind_space
+}
+
+/// Whether a line has a letter in upper case.
+fn finds_capital(line: &[u8]) -> bool
+    ensures { result ≡ has_capital line.now }
+{
+    line.iter().any(|byte| is_capital(*byte))
+}
+
+/// Whether it is one.
+fn is_capital(byte: u8) -> bool
+    ensures { result ≡ is_upper byte }
+{
+    b'A' <= byte && byte <= b'Z'
 }
 
 /// Whether a line is a command's.

@@ -7,8 +7,8 @@
 //! # What is proved
 //!
 //! A cause is given exactly where it applies: of words that are no command line (`why_no_job`), of
-//! a line that is none of a script (`unended`, `with_return`). Of the lines that are written no
-//! clause speaks.
+//! a line that is none of a script (`unended`, `with_return`, `spaced`, `upper_case`). Of the lines
+//! that are written no clause speaks.
 #![tactic(auto)]
 
 mod causes;
@@ -16,4 +16,6 @@ mod lines;
 mod remedies;
 
 pub use causes::{LineCause, WordsCause, why_bad_line, why_no_job};
-pub use lines::{help_asked, push_help, push_line_cause, push_remedy, push_words_cause};
+pub use lines::{
+    help_asked, push_help, push_line_cause, push_remedy, push_unknown_name, push_words_cause,
+};

@@ -58,7 +58,9 @@ fn example_of(name: &str) -> &'static str {
         "list" => "list device.image my.toml",
         "get" => "get device.image my.toml volume",
         "set" => "set device.image my.toml volume 7",
+        "unset" => "unset device.image my.toml volume",
         "apply" => "apply device.image my.toml factory.toml",
+        "verify" => "verify device.image my.toml factory.toml",
         "header" => "header my.toml > settings.h",
         _ => example_of_others(name),
     }
@@ -114,6 +116,15 @@ pub fn push_remedy<A: Allocator>(out: &mut Vec<u8, A>, fault: &Fault) -> Result<
     push_line(out, "  to do: ", remedy_of(fault))
 }
 
+/// Writes the name that no setting has, and where the names are. After an error there may be a part
+/// of it.
+///
+/// Source: ours.
+pub fn push_unknown_name<A: Allocator>(out: &mut Vec<u8, A>, name: &str) -> Result<(), AllocError> {
+    push_line(out, "  no setting has the name ", name)?;
+    push_remedy(out, &Fault::UnknownName)
+}
+
 /// Writes why a line is none of a script, what is wanted, and what to type. After an error there
 /// may be a part of it.
 ///
@@ -140,6 +151,18 @@ pub fn push_line_cause<A: Allocator>(
                 "a line feed with no carriage return, \\r, before it",
             )?;
             push_line(out, "  type: ", "tr -d '\\r' < SCRIPT > NEW")
+        }
+        LineCause::Spaced => {
+            push_line(
+                out,
+                "  wanted: ",
+                "a command, with one space between its words, and none before or behind them",
+            )?;
+            push_line(out, "  such as ", "w 1 10")
+        }
+        LineCause::UpperCase => {
+            push_line(out, "  wanted: ", "letters in lower case")?;
+            push_line(out, "  such as ", "w 1 10")
         }
         LineCause::NoCommand => {
             push_line(

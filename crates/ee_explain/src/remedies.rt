@@ -52,6 +52,8 @@ fn remedy_of_work(fault: &Fault) -> &'static str {
         Fault::OutOfRange { .. } | Fault::ValueOutOfRange { .. } | Fault::BadValue(_) => {
             "give a whole number in the setting's range: ee header SETTINGS"
         }
+        Fault::Absent => "it reads as its default already: ee list IMAGE SETTINGS",
+        Fault::ValuesDiffer => "write these values: ee apply IMAGE SETTINGS VALUES",
         Fault::Full | Fault::FullAt(_) => "forget what no setting has: ee tidy IMAGE SETTINGS",
         Fault::Spent | Fault::SpentAt(_) => "no move is left: take a new part, or format the image",
         Fault::DumpLength =>

@@ -4,7 +4,7 @@ use Rattle.ee_text.specs.Line.{line_of}
 use Rattle.ee_faults.specs.declared.fault.File.{File}
 use Rattle.ee_faults.specs.declared.fault.File.TheVariants.{Image, Before, Script, Certificate, Settings, Dump, Values}
 use Rattle.ee_faults.specs.declared.fault.Fault.{Fault}
-use Rattle.ee_faults.specs.declared.fault.Fault.TheVariants.{CannotRead, TooLong, CannotWriteImage, ImageChanged, CannotWriteDump, CannotWriteOutput, OutputIsWritten, BadLine, BadShape, Unformatted, NoLiveSet, TwoLive, Foreign, SettingsText, BadName, BadField, BadRange, SameAddress, UnknownName, OutOfRange, Full, Spent, HoldsValues, NothingToRescue, NotFitting, WrongStart, NotRising, WrongFrom, NotForced, OtherShape, Backwards, NoSizeEnough, DumpLength, LowPair, TornWord, Base, ValuesText, BadValue, UnknownValue, ValueOutOfRange, FullAt, SpentAt, Memory}
+use Rattle.ee_faults.specs.declared.fault.Fault.TheVariants.{CannotRead, TooLong, CannotWriteImage, ImageChanged, CannotWriteDump, CannotWriteOutput, OutputIsWritten, BadLine, BadShape, Unformatted, NoLiveSet, TwoLive, Foreign, SettingsText, BadName, BadField, BadRange, SameAddress, UnknownName, OutOfRange, Full, Spent, Absent, HoldsValues, NothingToRescue, NotFitting, WrongStart, NotRising, WrongFrom, NotForced, OtherShape, Backwards, NoSizeEnough, DumpLength, LowPair, TornWord, Base, ValuesText, BadValue, UnknownValue, ValueOutOfRange, FullAt, SpentAt, ValuesDiffer, Memory}
 use Rattle.ee_image.specs.declared.fault.ImageFault.{ImageFault}
 use Rattle.ee_image.specs.declared.fault.ImageFault.TheVariants as image
 use Rattle.ee_pages.specs.declared.find.ScanFault.{ScanFault}
@@ -55,6 +55,7 @@ cause UnknownName = codes "unknown name"
 cause (OutOfRange min max) = codes "out of range " ++ decimal min ++ codes " " ++ decimal max
 cause Full = codes "full"
 cause Spent = codes "spent"
+cause Absent = codes "absent"
 cause HoldsValues = codes "holds values, --force forgets them"
 cause NothingToRescue = codes "nothing to rescue"
 cause (NotFitting change) = codes "not fitting " ++ decimal change
@@ -77,6 +78,7 @@ cause (ValueOutOfRange entry min max) =
     ++ decimal max
 cause (FullAt entry) = codes "values entry " ++ decimal entry ++ codes " full"
 cause (SpentAt entry) = codes "values entry " ++ decimal entry ++ codes " spent"
+cause ValuesDiffer = codes "values differ"
 cause Memory = codes "out of memory"
 
 abbrev pub fault_text : Fault → List ℕ
@@ -89,6 +91,7 @@ status UnknownName = 4
 status (OutOfRange min max) = 4
 status Full = 4
 status Spent = 4
+status Absent = 4
 status HoldsValues = 4
 status NothingToRescue = 4
 status (NotFitting change) = 4
@@ -105,6 +108,7 @@ status (UnknownValue entry) = 4
 status (ValueOutOfRange entry min max) = 4
 status (FullAt entry) = 4
 status (SpentAt entry) = 4
+status ValuesDiffer = 4
 status Memory = 5
 status fault = 3
 

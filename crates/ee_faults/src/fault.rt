@@ -94,6 +94,8 @@ pub enum Fault {
     Full,
     /// A transfer is needed, and no generation is left for it.
     Spent,
+    /// The setting that is to be forgotten has no value.
+    Absent,
     /// An address of the image has a value, and nothing says that all are to be forgotten.
     HoldsValues,
     /// No set of the image is begun: it has nothing that could be rescued.
@@ -137,6 +139,8 @@ pub enum Fault {
     FullAt(u64),
     /// At this entry no slot is free, and no generation is left for a transfer.
     SpentAt(u64),
+    /// A setting has not the value that the values file says.
+    ValuesDiffer,
     /// Memory ran out.
     Memory,
 }
@@ -191,6 +195,7 @@ impl Fault {
             Fault::OutOfRange { .. } => "out of range ",
             Fault::Full => "full",
             Fault::Spent => "spent",
+            Fault::Absent => "absent",
             Fault::HoldsValues => "holds values, --force forgets them",
             Fault::NothingToRescue => "nothing to rescue",
             Fault::NotFitting(_) => "not fitting ",
@@ -210,6 +215,7 @@ impl Fault {
             Fault::ValueOutOfRange { .. } => " out of range ",
             Fault::FullAt(_) => " full",
             Fault::SpentAt(_) => " spent",
+            Fault::ValuesDiffer => "values differ",
             Fault::Memory => "out of memory",
         }
     }
@@ -411,6 +417,7 @@ pub fn status_of(fault: &Fault) -> u8
         | Fault::OutOfRange { .. }
         | Fault::Full
         | Fault::Spent
+        | Fault::Absent
         | Fault::HoldsValues
         | Fault::NothingToRescue
         | Fault::NotFitting(_)
@@ -426,7 +433,8 @@ pub fn status_of(fault: &Fault) -> u8
         | Fault::UnknownValue(_)
         | Fault::ValueOutOfRange { .. }
         | Fault::FullAt(_)
-        | Fault::SpentAt(_) => 4,
+        | Fault::SpentAt(_)
+        | Fault::ValuesDiffer => 4,
         Fault::Memory => 5,
     }
 }

@@ -2,7 +2,8 @@
 use crate::running::{bad_command_line, eprint_bytes, out_of_memory, print, read_file, tell, work};
 use ee_command_line::{Job, job};
 use ee_explain::{
-    help_asked, push_help, push_line_cause, push_remedy, push_words_cause, why_bad_line,
+    help_asked, push_help, push_line_cause, push_remedy, push_unknown_name, push_words_cause,
+    why_bad_line,
 };
 use ee_faults::{Fault, File};
 use ee_files::FileLocks;
@@ -10,8 +11,18 @@ use ee_text::next_line;
 use std::alloc::{AllocError, Global};
 use std::rt::Files;
 
-/// The first word that asks for what explains a refusal.
+/// The word in front of a command that asks for what explains a refusal.
 const EXPLAIN: &str = "--explain";
+
+/// The word in front of a command that asks to write no file.
+const DRY_RUN: &str = "--dry-run";
+
+/// What the words in front of a command ask for.
+#[derive(Clone, Copy)]
+struct Options {
+    explains: bool,
+    is_dry: bool,
+}
 
 /// Does what the words ask for, and gives the status that the program ends with: 0 done, 2 bad
 /// command line, 3 bad file, 4 refused, 5 want of memory.
@@ -23,7 +34,8 @@ pub fn run<R: FileLocks + Input + Print + Eprint + AllocGlobal>(rt: &R, words: &
 }
 
 /// The same. Behind the line of a refusal stands what explains it, where somebody reads it at a
-/// terminal or asks for it by a first word `--explain`.
+/// terminal or asks for it by a word `--explain` in front of the command. Where `--dry-run` stands
+/// there no file is written.
 pub fn run_for<R: FileLocks + Input + Print + Eprint + AllocGlobal>(
     rt: &R,
     words: &[String],
@@ -35,27 +47,34 @@ pub fn run_for<R: FileLocks + Input + Print + Eprint + AllocGlobal>(
             return out_of_memory(rt);
         }
     }
-    if let Some((first, words)) = texts.split_first() {
-        if *first == EXPLAIN {
-            return do_words(rt, words, true);
-        }
+    let (explains_first, words) = split_option(EXPLAIN, texts.as_slice());
+    let (is_dry, words) = split_option(DRY_RUN, words);
+    let (explains, words) = split_option(EXPLAIN, words);
+    let explains = is_terminal || explains_first || explains;
+    do_words(rt, words, Options { explains, is_dry })
+}
+
+/// The words behind an option, and whether it is given.
+fn split_option<'w, 'a>(option: &str, words: &'w [&'a str]) -> (bool, &'w [&'a str]) {
+    match words.split_first() {
+        Some((first, behind)) if *first == option => (true, behind),
+        _ => (false, words),
     }
-    do_words(rt, texts.as_slice(), is_terminal)
 }
 
 /// Does what the words ask for, and explains a refusal, if that is wanted.
 fn do_words<R: FileLocks + Input + Print + Eprint + AllocGlobal>(
     rt: &R,
     words: &[&str],
-    explains: bool,
+    options: Options,
 ) -> u8 {
     match job(words) {
-        None => refuse_words(rt, words, explains),
-        Some(job) => match work(rt, &job) {
+        None => refuse_words(rt, words, options.explains),
+        Some(job) => match work(rt, options.is_dry, &job) {
             Ok(()) => 0,
             Err(fault) => {
                 let status = tell(rt, &fault);
-                if explains {
+                if options.explains {
                     explain(rt, &job, &fault);
                 }
                 status
@@ -97,10 +116,19 @@ fn explain<R: Files + Eprint + AllocGlobal>(rt: &R, job: &Job<'_>, fault: &Fault
             file: File::Script,
             line,
         } => push_script_line(rt, &mut text, job, line),
+        Fault::UnknownName => push_unknown_name(&mut text, name_of(job)),
         _ => push_remedy(&mut text, fault),
     };
     if told.is_ok() {
         eprint_bytes(rt, &text);
+    }
+}
+
+/// The name of the setting that a job is about.
+fn name_of<'a>(job: &Job<'a>) -> &'a str {
+    match *job {
+        Job::Get { name, .. } | Job::Set { name, .. } | Job::Unset { name, .. } => name,
+        _ => "",
     }
 }
 

@@ -4,7 +4,7 @@ ghost use Rattle.std.specs.Prelude.{◌≡◌};
 
 use ee_by_name::{
     Language, apply_values, get_setting, header_text, list_text, set_setting, stale_text,
-    tidy_image,
+    tidy_image, unset_setting, verify_values,
 };
 use ee_command_line::{HELP, Job, VERSION, read_whole, write_whole};
 use ee_commands::{
@@ -31,40 +31,41 @@ const STANDARD_OUTPUT: &str = "/dev/stdout";
 /// The status of want of memory.
 pub const OUT_OF_MEMORY: u8 = 5;
 
-/// Does a job.
+/// Does a job. In a dry run no file is written.
 pub(crate) fn work<R: FileLocks + Input + Print + AllocGlobal>(
     rt: &R,
+    is_dry: bool,
     job: &Job<'_>,
 ) -> Result<(), Fault> {
     match *job {
         Job::Try { shape } => try_input(rt, shape),
-        Job::Format { shape, image } => format_file(rt, shape, image),
+        Job::Format { shape, image } => format_file(rt, is_dry, shape, image),
         Job::Import {
             pairs,
             shape,
             dump,
             image,
-        } => import_file(rt, pairs, shape, dump, image),
-        Job::Export { pairs, image, dump } => export_file(rt, pairs, image, dump),
+        } => import_file(rt, is_dry, pairs, shape, dump, image),
+        Job::Export { pairs, image, dump } => export_file(rt, is_dry, pairs, image, dump),
         Job::ImportHex {
             pairs,
             shape,
             base,
             dump,
             image,
-        } => import_hex_file(rt, pairs, shape, base, dump, image),
+        } => import_hex_file(rt, is_dry, pairs, shape, base, dump, image),
         Job::ExportHex {
             pairs,
             image,
             base,
             dump,
-        } => export_hex_file(rt, pairs, image, base, dump),
+        } => export_hex_file(rt, is_dry, pairs, image, base, dump),
         Job::Inspect { image } => tell_inside(rt, image),
         Job::Run {
             indexed,
             image,
             script,
-        } => run_files(rt, indexed, image, script),
+        } => run_files(rt, is_dry, indexed, image, script),
         Job::Get {
             image,
             settings,
@@ -75,12 +76,22 @@ pub(crate) fn work<R: FileLocks + Input + Print + AllocGlobal>(
             settings,
             name,
             value,
-        } => set_file(rt, image, settings, name, value),
+        } => set_file(rt, is_dry, image, settings, name, value),
+        Job::Unset {
+            image,
+            settings,
+            name,
+        } => unset_file(rt, is_dry, image, settings, name),
+        Job::Verify {
+            image,
+            settings,
+            values,
+        } => verify_file(rt, image, settings, values),
         Job::Apply {
             image,
             settings,
             values,
-        } => apply_file(rt, image, settings, values),
+        } => apply_file(rt, is_dry, image, settings, values),
         Job::Header { rust, settings } => tell_header(rt, rust, settings),
         Job::Plan { image, script } => tell_plan(rt, image, script),
         Job::Check {
@@ -90,11 +101,11 @@ pub(crate) fn work<R: FileLocks + Input + Print + AllocGlobal>(
         } => check_files(rt, image, script, certificate),
         Job::Wear { image, before } => tell_wear(rt, image, before),
         Job::States { image } => tell_states(rt, image),
-        Job::Clean { image } => clean_file(rt, image),
-        Job::Rescue { image } => rescue_file(rt, image),
-        Job::ForgetAll { force, image } => forget_in_file(rt, force, image),
+        Job::Clean { image } => clean_file(rt, is_dry, image),
+        Job::Rescue { image } => rescue_file(rt, is_dry, image),
+        Job::ForgetAll { force, image } => forget_in_file(rt, is_dry, force, image),
         Job::Stale { image, settings } => tell_stale(rt, image, settings),
-        Job::Tidy { image, settings } => tidy_file(rt, image, settings),
+        Job::Tidy { image, settings } => tidy_file(rt, is_dry, image, settings),
         Job::List { image, settings } => tell_values(rt, image, settings),
         Job::Size {
             words,
@@ -120,10 +131,17 @@ fn try_input<R: Input + Print + AllocGlobal>(rt: &R, shape: Shape) -> Result<(),
 /// Writes a new image.
 fn format_file<R: FileLocks + Print + AllocGlobal>(
     rt: &R,
+    is_dry: bool,
     shape: Shape,
     image: &str,
 ) -> Result<(), Fault> {
-    write_new(rt, image, format_image(rt.alloc(), shape), b"formatted\n")
+    write_new(
+        rt,
+        is_dry,
+        image,
+        format_image(rt.alloc(), shape),
+        b"formatted\n",
+    )
 }
 
 /// How a part keeps its words: `pairs` says that each stands beside its complement.
@@ -134,6 +152,7 @@ fn form_of(pairs: bool) -> Form {
 /// Writes the image of a part, from its bytes.
 fn import_file<R: FileLocks + Print + AllocGlobal>(
     rt: &R,
+    is_dry: bool,
     pairs: bool,
     shape: Shape,
     dump: &str,
@@ -141,24 +160,26 @@ fn import_file<R: FileLocks + Print + AllocGlobal>(
 ) -> Result<(), Fault> {
     let bytes = read_file(rt, File::Dump, dump)?;
     let imported = import_image(rt.alloc(), shape, form_of(pairs), &bytes);
-    write_new(rt, image, imported, b"imported\n")
+    write_new(rt, is_dry, image, imported, b"imported\n")
 }
 
 /// Writes the bytes of the part of an image.
 fn export_file<R: FileLocks + Print + AllocGlobal>(
     rt: &R,
+    is_dry: bool,
     pairs: bool,
     image: &str,
     dump: &str,
 ) -> Result<(), Fault> {
     let text = read_file(rt, File::Image, image)?;
     let bytes = export_image(rt.alloc(), form_of(pairs), &text);
-    write_dump(rt, dump, bytes)
+    write_dump(rt, is_dry, dump, bytes)
 }
 
 /// Writes the image of a part, from Intel HEX. The part begins at the base.
 fn import_hex_file<R: FileLocks + Print + AllocGlobal>(
     rt: &R,
+    is_dry: bool,
     pairs: bool,
     shape: Shape,
     base: u32,
@@ -167,12 +188,13 @@ fn import_hex_file<R: FileLocks + Print + AllocGlobal>(
 ) -> Result<(), Fault> {
     let lines = read_file(rt, File::Dump, dump)?;
     let imported = import_hex(rt.alloc(), shape, form_of(pairs), base, &lines);
-    write_new(rt, image, imported, b"imported\n")
+    write_new(rt, is_dry, image, imported, b"imported\n")
 }
 
 /// Writes the bytes of the part of an image as Intel HEX. The part begins at the base.
 fn export_hex_file<R: FileLocks + Print + AllocGlobal>(
     rt: &R,
+    is_dry: bool,
     pairs: bool,
     image: &str,
     base: u32,
@@ -180,7 +202,7 @@ fn export_hex_file<R: FileLocks + Print + AllocGlobal>(
 ) -> Result<(), Fault> {
     let text = read_file(rt, File::Image, image)?;
     let lines = export_hex(rt.alloc(), form_of(pairs), &text, base);
-    write_dump(rt, dump, lines)
+    write_dump(rt, is_dry, dump, lines)
 }
 
 /// Prints what stands in an image, whatever it is.
@@ -193,6 +215,7 @@ fn tell_inside<R: Files + Print + AllocGlobal>(rt: &R, image: &str) -> Result<()
 /// report. `indexed` says whether the store keeps an index in memory.
 fn run_files<R: FileLocks + Print + AllocGlobal>(
     rt: &R,
+    is_dry: bool,
     indexed: bool,
     image: &str,
     script: &str,
@@ -204,7 +227,7 @@ fn run_files<R: FileLocks + Print + AllocGlobal>(
     } else {
         replay(rt.alloc(), &before, &lines)?
     };
-    write_image(rt, image, Some(&before), &replayed.image)?;
+    write_image(rt, is_dry, image, Some(&before), &replayed.image)?;
     print(rt, &replayed.report)
 }
 
@@ -224,6 +247,7 @@ fn tell_setting<R: Files + Print + AllocGlobal>(
 /// Gives a setting of an image a value, and writes the image in its place.
 fn set_file<R: FileLocks + Print + AllocGlobal>(
     rt: &R,
+    is_dry: bool,
     image: &str,
     settings: &str,
     name: &str,
@@ -232,19 +256,53 @@ fn set_file<R: FileLocks + Print + AllocGlobal>(
     let before = read_file(rt, File::Image, image)?;
     let table = read_file(rt, File::Settings, settings)?;
     let set = set_setting(rt.alloc(), rt.alloc(), &before, &table, name, value);
-    write_changed(rt, image, &before, set)
+    write_changed(rt, is_dry, image, &before, set)
+}
+
+/// Forgets the value of a setting of an image, and writes the image in its place.
+fn unset_file<R: FileLocks + Print + AllocGlobal>(
+    rt: &R,
+    is_dry: bool,
+    image: &str,
+    settings: &str,
+    name: &str,
+) -> Result<(), Fault> {
+    let before = read_file(rt, File::Image, image)?;
+    let table = read_file(rt, File::Settings, settings)?;
+    let unset = unset_setting(rt.alloc(), rt.alloc(), &before, &table, name);
+    write_changed(rt, is_dry, image, &before, unset)
+}
+
+/// Prints which settings of an image have not the values of a file. Where there are some, that is
+/// told behind it.
+fn verify_file<R: Files + Print + AllocGlobal>(
+    rt: &R,
+    image: &str,
+    settings: &str,
+    values: &str,
+) -> Result<(), Fault> {
+    let image = read_file(rt, File::Image, image)?;
+    let table = read_file(rt, File::Settings, settings)?;
+    let wanted = read_file(rt, File::Values, values)?;
+    let verified = verify_values(rt.alloc(), rt.alloc(), &image, &table, &wanted)?;
+    print(rt, &verified.text)?;
+    if verified.all_stored {
+        return Ok(());
+    }
+    Err(Fault::ValuesDiffer)
 }
 
 /// Gives settings of an image the values of a file, and writes the image in its place.
 fn apply_file<R: FileLocks + Print + AllocGlobal>(
     rt: &R,
+    is_dry: bool,
     image: &str,
     settings: &str,
     values: &str,
 ) -> Result<(), Fault> {
     let before = read_file(rt, File::Image, image)?;
     let applied = applied_to(rt, &before, settings, values);
-    write_changed(rt, image, &before, applied)
+    write_changed(rt, is_dry, image, &before, applied)
 }
 
 /// What giving settings of an image the values of a file makes of it.
@@ -324,29 +382,38 @@ fn tell_states<R: Files + Print + AllocGlobal>(rt: &R, image: &str) -> Result<()
 
 /// Erases the pages of an image that wait for it, writes the image in its place, and
 /// prints their number.
-fn clean_file<R: FileLocks + Print + AllocGlobal>(rt: &R, image: &str) -> Result<(), Fault> {
+fn clean_file<R: FileLocks + Print + AllocGlobal>(
+    rt: &R,
+    is_dry: bool,
+    image: &str,
+) -> Result<(), Fault> {
     let before = read_file(rt, File::Image, image)?;
     let cleaned = clean_image(rt.alloc(), &before);
-    write_changed(rt, image, &before, cleaned)
+    write_changed(rt, is_dry, image, &before, cleaned)
 }
 
 /// Makes an image legal, whatever stands in it, writes it in its place, and prints its bad words.
-fn rescue_file<R: FileLocks + Print + AllocGlobal>(rt: &R, image: &str) -> Result<(), Fault> {
+fn rescue_file<R: FileLocks + Print + AllocGlobal>(
+    rt: &R,
+    is_dry: bool,
+    image: &str,
+) -> Result<(), Fault> {
     let before = read_file(rt, File::Image, image)?;
     let rescued = rescue_image(rt.alloc(), &before);
-    write_changed(rt, image, &before, rescued)
+    write_changed(rt, is_dry, image, &before, rescued)
 }
 
 /// Forgets all addresses of an image, by force or only where none has a value, writes it in its
 /// place, and prints how many had one.
 fn forget_in_file<R: FileLocks + Print + AllocGlobal>(
     rt: &R,
+    is_dry: bool,
     force: bool,
     image: &str,
 ) -> Result<(), Fault> {
     let before = read_file(rt, File::Image, image)?;
     let forgotten = forget_all(rt.alloc(), force, &before);
-    write_changed(rt, image, &before, forgotten)
+    write_changed(rt, is_dry, image, &before, forgotten)
 }
 
 /// Prints the settings whose stored value in an image isn't in their range.
@@ -365,13 +432,14 @@ fn tell_stale<R: Files + Print + AllocGlobal>(
 /// prints their number.
 fn tidy_file<R: FileLocks + Print + AllocGlobal>(
     rt: &R,
+    is_dry: bool,
     image: &str,
     settings: &str,
 ) -> Result<(), Fault> {
     let before = read_file(rt, File::Image, image)?;
     let table = read_file(rt, File::Settings, settings)?;
     let tidied = tidy_image(rt.alloc(), rt.alloc(), &before, &table);
-    write_changed(rt, image, &before, tidied)
+    write_changed(rt, is_dry, image, &before, tidied)
 }
 
 /// Prints what each address of an image has, with the names of settings where their file is named.
@@ -444,15 +512,19 @@ fn is_output<R: Files>(rt: &R, path: &str) -> bool {
 }
 
 /// Writes an image in the place of its file, of which `before` was read, if it was: then only where
-/// the file still is that. Its file is closed afterwards.
+/// the file still is that. Its file is closed afterwards. In a dry run it is left as it was.
 fn write_image<R: FileLocks + AllocGlobal>(
     rt: &R,
+    is_dry: bool,
     path: &str,
     before: Option<&[u8]>,
     image: &[u8],
 ) -> Result<(), Fault> {
     if is_output(rt, path) {
         return Err(Fault::OutputIsWritten);
+    }
+    if is_dry {
+        return Ok(());
     }
     match save(rt, path, before, image) {
         Ok(()) => Ok(()),
@@ -463,11 +535,12 @@ fn write_image<R: FileLocks + AllocGlobal>(
 /// Writes the image that a command made, in the place of whatever its file was, and says so.
 fn write_new<R: FileLocks + Print + AllocGlobal>(
     rt: &R,
+    is_dry: bool,
     path: &str,
     image: Result<Vec<u8>, Fault>,
     said: &[u8],
 ) -> Result<(), Fault> {
-    write_image(rt, path, None, &image?)?;
+    write_image(rt, is_dry, path, None, &image?)?;
     print(rt, said)
 }
 
@@ -475,24 +548,29 @@ fn write_new<R: FileLocks + Print + AllocGlobal>(
 /// and prints its text.
 fn write_changed<R: FileLocks + Print + AllocGlobal>(
     rt: &R,
+    is_dry: bool,
     path: &str,
     before: &[u8],
     changed: Result<ImageAndText, Fault>,
 ) -> Result<(), Fault> {
     let changed = changed?;
-    write_image(rt, path, Some(before), &changed.image)?;
+    write_image(rt, is_dry, path, Some(before), &changed.image)?;
     print(rt, &changed.text)
 }
 
 /// Writes the dump that a command made, in the place of whatever its file was, and says so.
 fn write_dump<R: FileLocks + Print + AllocGlobal>(
     rt: &R,
+    is_dry: bool,
     path: &str,
     dump: Result<Vec<u8>, Fault>,
 ) -> Result<(), Fault> {
     let dump = dump?;
     if is_output(rt, path) {
         return Err(Fault::OutputIsWritten);
+    }
+    if is_dry {
+        return print(rt, b"exported\n");
     }
     match save(rt, path, None, &dump) {
         Ok(()) => print(rt, b"exported\n"),

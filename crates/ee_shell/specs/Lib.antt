@@ -27,3 +27,5 @@ pub use Rattle.ee_part.specs.Inspecting
 pub use Rattle.ee_part.specs.InspectLaws
 pub use Rattle.ee_by_name.specs.Header
 pub use Rattle.ee_by_name.specs.Applying
+pub use Rattle.ee_by_name.specs.Unsetting
+pub use Rattle.ee_by_name.specs.Verifying

@@ -37,13 +37,15 @@
 //! numbers of erases that some page has at the least, in every store of this kind and in every one
 //! that programs a word for each change (`sized`); `get_setting`, `set_setting`, `stale_text`,
 //! `tidy_image`, `list_text` and `wear_text` give what `ee_settings` and `ee_wear` define, of the
-//! image that a text spells (`got`, `set`, `stale`, `tidied`, `list`, `wear`); of these nine each
-//! fault is the first that applies, and none is passed over (`fault`, `names`). What
-//! `format_image`, `clean_image` and `set_setting` leave is said word for word, as what formatting
-//! leaves of a new device, and as what an opening and the clean steps or the write leave
-//! (`formatted`, `cleaned`, `set`); so is what `rescue_image` leaves of any image, which tells each
-//! bad word, and what `forget_all` leaves, in which no address has a value (`rescued`, `forgotten`;
-//! `fault`, `names`); `states_text` gives the state of each page (`states`; `fault`, `names`).
+//! image that a text spells (`got`, `set`, `stale`, `tidied`, `list`, `wear`); `verify_values`
+//! tells which of a text's values are not stored in it (`verified`); of these ten each fault is the
+//! first that applies, and none is passed over (`fault`, `names`). What `format_image`,
+//! `clean_image`, `set_setting` and `unset_setting` leave is said word for word, as what formatting
+//! leaves of a new device, and as what an opening and the clean steps, the write or the forgetting
+//! leave (`formatted`, `cleaned`, `set`, `unset`); so is what `rescue_image` leaves of any image,
+//! which tells each bad word, and what `forget_all` leaves, in which no address has a value
+//! (`rescued`, `forgotten`; `fault`, `names`); `states_text` gives the state of each page (`states`;
+//! `fault`, `names`).
 //! `laws` joins what `size_parts` tells to the store: one that is formatted and then asked, without
 //! cuts, for the changes of a script so many times moves the map no more often than the line of its
 //! size tells, and erases no page more often, whatever it answers (`each_size_wears_as_told`); it
@@ -56,8 +58,8 @@
 pub mod laws;
 
 pub use ee_by_name::{
-    Language, apply_values, get_setting, header_text, list_text, set_setting, stale_text,
-    tidy_image,
+    Language, Verified, apply_values, get_setting, header_text, list_text, set_setting, stale_text,
+    tidy_image, unset_setting, verify_values,
 };
 pub use ee_command_line::{
     Job, MOST_BYTES, MOST_READS, ReadFault, Stopped, job, read_whole, write_whole,

@@ -22,7 +22,9 @@ run --indexed IMAGE SCRIPT
 list IMAGE [SETTINGS]
 get IMAGE SETTINGS NAME
 set IMAGE SETTINGS NAME VALUE
+unset IMAGE SETTINGS NAME
 apply IMAGE SETTINGS VALUES
+verify IMAGE SETTINGS VALUES
 header --rust SETTINGS
 stale IMAGE SETTINGS
 tidy IMAGE SETTINGS
@@ -54,7 +56,9 @@ ee list a.image
 ee list a.image a.settings
 ee get a.image a.settings volume
 ee set a.image a.settings volume 4294967295
+ee unset a.image a.settings volume
 ee apply a.image a.settings a.values
+ee verify a.image a.settings a.values
 ee header a.settings
 ee header --rust a.settings
 ee stale a.image a.settings
@@ -140,6 +144,13 @@ fn starts(found: &ArgMatches<'_>, base: u32) -> bool {
     }
 }
 
+/// Whether it found this image, these settings, and this text for the word behind them.
+fn names(found: &ArgMatches<'_>, image: &str, settings: &str, id: &str, text: &str) -> bool {
+    has(found, "IMAGE", Some(image))
+        & has(found, "SETTINGS", Some(settings))
+        & has(found, id, Some(text))
+}
+
 /// The command that a job is of, and whether `clap` found each value that the job has.
 fn told(job: &Job<'_>, found: &ArgMatches<'_>) -> (&'static str, bool) {
     match *job {
@@ -188,19 +199,9 @@ fn told(job: &Job<'_>, found: &ArgMatches<'_>) -> (&'static str, bool) {
     }
 }
 
-// The same of a job that may take settings.
+// The same of a job on settings of an image.
 fn told_of_settings(job: &Job<'_>, found: &ArgMatches<'_>) -> (&'static str, bool) {
     match *job {
-        Job::Get {
-            image,
-            settings,
-            name,
-        } => (
-            "get",
-            has(found, "IMAGE", Some(image))
-                & has(found, "SETTINGS", Some(settings))
-                & has(found, "NAME", Some(name)),
-        ),
         Job::Set {
             image,
             settings,
@@ -208,21 +209,35 @@ fn told_of_settings(job: &Job<'_>, found: &ArgMatches<'_>) -> (&'static str, boo
             value,
         } => (
             "set",
-            has(found, "IMAGE", Some(image))
-                & has(found, "SETTINGS", Some(settings))
-                & has(found, "NAME", Some(name))
-                & counts(found, "VALUE", u64::from(value)),
+            names(found, image, settings, "NAME", name) & counts(found, "VALUE", u64::from(value)),
         ),
+        Job::Get {
+            image,
+            settings,
+            name,
+        } => ("get", names(found, image, settings, "NAME", name)),
+        Job::Unset {
+            image,
+            settings,
+            name,
+        } => ("unset", names(found, image, settings, "NAME", name)),
         Job::Apply {
             image,
             settings,
             values,
-        } => (
-            "apply",
-            has(found, "IMAGE", Some(image))
-                & has(found, "SETTINGS", Some(settings))
-                & has(found, "VALUES", Some(values)),
-        ),
+        } => ("apply", names(found, image, settings, "VALUES", values)),
+        Job::Verify {
+            image,
+            settings,
+            values,
+        } => ("verify", names(found, image, settings, "VALUES", values)),
+        _ => told_of_schemas(job, found),
+    }
+}
+
+// The same of a job on all settings of a file.
+fn told_of_schemas(job: &Job<'_>, found: &ArgMatches<'_>) -> (&'static str, bool) {
+    match *job {
         Job::Header { rust, settings } => (
             "header",
             (found.get_flag("--rust") == rust) & has(found, "SETTINGS", Some(settings)),
@@ -243,7 +258,7 @@ fn told_of_settings(job: &Job<'_>, found: &ArgMatches<'_>) -> (&'static str, boo
     }
 }
 
-// The same of a job on an image or a part alone.
+// The same of a job on a part's dump.
 fn told_of_parts(job: &Job<'_>, found: &ArgMatches<'_>) -> (&'static str, bool) {
     match *job {
         Job::Import {
@@ -264,6 +279,13 @@ fn told_of_parts(job: &Job<'_>, found: &ArgMatches<'_>) -> (&'static str, bool) 
                 & has(found, "IMAGE", Some(image))
                 & has(found, "DUMP", Some(dump)),
         ),
+        _ => told_of_hex(job, found),
+    }
+}
+
+// The same of a job on a part's dump in Intel HEX.
+fn told_of_hex(job: &Job<'_>, found: &ArgMatches<'_>) -> (&'static str, bool) {
+    match *job {
         Job::ImportHex {
             pairs,
             shape,
@@ -290,6 +312,13 @@ fn told_of_parts(job: &Job<'_>, found: &ArgMatches<'_>) -> (&'static str, bool) 
                 & starts(found, base)
                 & has(found, "DUMP", Some(dump)),
         ),
+        _ => told_of_images(job, found),
+    }
+}
+
+// The same of a job on an image alone.
+fn told_of_images(job: &Job<'_>, found: &ArgMatches<'_>) -> (&'static str, bool) {
+    match *job {
         Job::Wear { image, before } => (
             "wear",
             has(found, "IMAGE", Some(image)) & has(found, "[BEFORE]", before),
@@ -374,5 +403,5 @@ fn each_row_of_the_help_has_a_line(rt: HostRuntime) {
         }
     }
     // One for each command at least.
-    same(&rt, "rows", rows >= 23, true);
+    same(&rt, "rows", rows >= 25, true);
 }

@@ -9,7 +9,7 @@ use ee_shell::{
     clean_image, export_hex, export_image, fault_line, forget_all, format_image, get_setting,
     header_text, import_hex, import_image, inspect_text, list_text, plan_script, replay,
     replay_indexed, replay_reader, rescue_image, set_setting, size_parts, stale_text, states_text,
-    tidy_image, try_script, wear_text,
+    tidy_image, try_script, unset_setting, verify_values, wear_text,
 };
 use std::alloc::{Allocator, Global};
 
@@ -35,13 +35,19 @@ pub const TEN: &[u8] = b"ee 1 6
 0 - - - - - -
 ";
 
-/// The same, with all addresses forgotten.
+/// The same, with address 1 forgotten.
+const FORGOTTEN: &[u8] = b"ee 1 6
+0 aaaaaaaa00000001 aaaaaaaaaaaaaaaa - - 0000000a00000001 0000000a00010001
+0 - - - - - -
+";
+
+/// With 10 at address 1, and then all addresses forgotten.
 const EMPTIED: &[u8] = b"ee 1 6
 0 aaaaaaaa00000001 aaaaaaaaaaaaaaaa - aaaaaaaaaaaaaaaa 0000000a00000001 -
 0 aaaaaaaa00000002 aaaaaaaaaaaaaaaa - - - -
 ";
 
-/// The same, with a word that no store wrote, and rescued from that.
+/// With 10 at address 1 and a word that no store wrote, and rescued from that.
 const BAD: &[u8] = b"ee 1 6
 0 aaaaaaaa00000001 aaaaaaaaaaaaaaaa - - 0000000a00000001 0000000b00000000
 0 - - - - - -
@@ -123,6 +129,7 @@ pub enum Text {
     ExportHex,
     Inspect,
     Header,
+    Verify,
 }
 
 pub const BASE: u32 = 0x0807_f000;
@@ -145,6 +152,9 @@ pub const STALE: &[u8] = b"volume 13\n";
 pub const LISTED: &[u8] = b"1 13\n2 5\n";
 
 pub const NAMED: &[u8] = b"1 13 stale volume\n2 5\n";
+
+/// What differs then from the greatest value of the setting.
+pub const DIFFERENCE: &[u8] = b"volume 13 stale wanted 10\n";
 
 // What it gives. The tables of settings are read on the heap.
 fn text_of<A: Allocator + Copy>(
@@ -172,6 +182,10 @@ fn text_of<A: Allocator + Copy>(
         Text::ExportHex => export_hex(alloc, Form::Words, FORMATTED, BASE),
         Text::Inspect => inspect_text(alloc, FORMATTED),
         Text::Header => header_text(alloc, heap, VOLUME, Language::Rust),
+        Text::Verify => {
+            let verified = verify_values(alloc, heap, TWO_MOVES, VOLUME, b"volume = 10\n")?;
+            Ok(verified.text)
+        }
     }
 }
 
@@ -218,6 +232,7 @@ pub enum Change {
     Rescue,
     ForgetAll,
     Set,
+    Unset,
     Tidy,
     Apply,
 }
@@ -234,6 +249,10 @@ pub fn change_given<A: Allocator + Copy>(change: Change, alloc: A, heap: Global)
         Change::Set => {
             let given = set_setting(alloc, heap, FORMATTED, VOLUME, "volume", 10);
             (given, TEN, b"set\n")
+        }
+        Change::Unset => {
+            let given = unset_setting(alloc, heap, TEN, VOLUME, "volume");
+            (given, FORGOTTEN, b"unset\n")
         }
         Change::Tidy => {
             let given = tidy_image(alloc, heap, TWO_MOVES, VOLUME);
