@@ -4265,7 +4265,7 @@ static Step lent_index_transfer(LentIndex *self, Device *flash, Layout *layout,
 }
 #endif
 
-/* ---- ee_pairs/pairs.rs: A device of words on a flash of numbers. */
+/* ---- ee_nor/pairs.rs: A device of words on a flash of numbers. */
 
 /* The word that two numbers are: erased where both are `u64::MAX`, held where the second is the
  * complement of the first, which is below `u64::MAX`; else torn. */
@@ -4314,7 +4314,7 @@ static Step pairs_program(Numbers *self, uint32_t page, uint32_t at, uint64_t va
     return numbers_program(self, page, 2u * at + 1u, check);
 }
 
-/* ---- ee_pairs/runs.rs: The numbers of words one behind another, each of two numbers of the
+/* ---- ee_nor/runs.rs: The numbers of words one behind another, each of two numbers of the
  * flash. */
 
 /* Puts the numbers of as many words as there is room for into the room, from a place of a page on:
@@ -4401,7 +4401,7 @@ static U32AndU32 halves(uint64_t number) {
             .second = (uint32_t)(number >> 32u) };
 }
 
-/* ---- ee_pairs/low_pair.rs: The first word of a flash of numbers whose numbers sum to less than
+/* ---- ee_nor/low_pair.rs: The first word of a flash of numbers whose numbers sum to less than
  * all ones. */
 
 /* The first word whose numbers sum to less than all ones. */

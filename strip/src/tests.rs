@@ -341,17 +341,17 @@ fn sources_with_a_line_more() {
         ),
         ("ee_core/src/lib.rt", "mod marking;", "#[doc(hidden)]"),
         (
-            "ee_pairs/src/pairs.rt",
+            "ee_nor/src/pairs.rt",
             "    nor: N,",
             "    ghost blank = { 1 },",
         ),
         (
-            "ee_pairs/src/pairs.rt",
+            "ee_nor/src/pairs.rt",
             "        self.nor",
             "        ghost blank: { 1 },",
         ),
         (
-            "ee_pairs/src/pairs.rt",
+            "ee_nor/src/pairs.rt",
             "    nor: N,",
             "    static count: usize,",
         ),
@@ -365,11 +365,11 @@ fn sources_with_a_line_more() {
             "use itoa::Buffer;",
             "use crate::laws::kept;",
         ),
-        ("ee_faults/src/fault.rt", "pub enum Fault {", "#[from]"),
+        ("ee_interface/src/fault.rt", "pub enum Fault {", "#[from]"),
         (
-            "ee_faults/src/fault.rt",
+            "ee_interface/src/fault.rt",
             "impl fmt::Display for File {",
-            "use ee_files;",
+            "use ee_text;",
         ),
         (
             "ee_program/src/running.rt",
@@ -412,7 +412,7 @@ fn damaged_sources() {
     for home in package
         .crates
         .iter()
-        .filter(|home| ["ee_core", "ee_faults"].contains(&home.name.as_str()))
+        .filter(|home| ["ee_core", "ee_interface"].contains(&home.name.as_str()))
     {
         let folder = top().join("crates").join(&home.name).join("src");
         for path in super::tree::files_below(&folder).expect("a folder") {

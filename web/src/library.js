@@ -20,7 +20,7 @@
 
 const ERASE = -1;
 const ALL_ONES = 2n ** 64n - 1n;
-// those of ee_page's Answers.antt that are asked for by name
+// those of ee_web's Answers.antt that are asked for by name
 const STATUS = { OK: 0, NOTHING: 2, SPENT: 4, UNFORMATTED: 6, FOREIGN: 9, TWICE: 13, NOTHING_BEGUN: 14 };
 const MEMORY_PAGE = 65536;
 

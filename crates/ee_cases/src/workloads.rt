@@ -18,7 +18,7 @@ mod playing;
 mod reading_out;
 mod scripts;
 
-use ee_faults::Fault;
+use ee_interface::Fault;
 use job::{JOBS, Job, job_of};
 use naming::settings;
 use part::Part;

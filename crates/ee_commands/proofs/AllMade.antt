@@ -19,7 +19,7 @@ use Rattle.ee_check.specs.declared.change.Change.{Change}
 use Rattle.ee_check.specs.declared.change.Change.TheVariants as changes
 use Rattle.ee_check.specs.Live.{KeepsWithin, live_after_one}
 use Rattle.ee_check.specs.Schedule.{Append, Carry, Copy, EachMove, IsLate, IsProper, Move, Situation, after_move, changes_of, cost}
-use Rattle.ee_planner.proofs.Public.{keeps_tail}
+use Rattle.ee_plan.proofs.PlannerLemmas.Public.{keeps_tail}
 use Rattle.ee_plan.proofs.Public.{live_after_forget, live_after_put, appends, forgetting_fits, moves_on, not_full, start_stays}
 use Rattle.ee_plan.specs.Start.{AreLive, IsStartOf}
 use Rattle.ee_commands.specs.ToldSizes.{ForgetsLive, asked_by_calls, is_of_several, made_by_calls, wants_memory}

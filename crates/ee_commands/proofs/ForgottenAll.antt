@@ -9,10 +9,10 @@ use Rattle.ee_pages.specs.Sets.{fill_of, set_of, slots_of}
 use Rattle.ee_pages.specs.declared.side.Side.{Side}
 use Rattle.ee_core.specs.Emptying.{Clears}
 use Rattle.ee_core.specs.State.{State, state_in, state_of}
-use Rattle.ee_faults.specs.Fault.{fault_of_replay}
-use Rattle.ee_faults.specs.declared.fault.Fault.{Fault}
-use Rattle.ee_faults.specs.declared.fault.Fault.TheVariants.{HoldsValues, Memory, Spent}
-use Rattle.ee_faults.specs.declared.replay_fault.ReplayFault.{ReplayFault}
+use Rattle.ee_interface.specs.Fault.{fault_of_replay}
+use Rattle.ee_interface.specs.declared.fault.Fault.{Fault}
+use Rattle.ee_interface.specs.declared.fault.Fault.TheVariants.{HoldsValues, Memory, Spent}
+use Rattle.ee_interface.specs.declared.replay_fault.ReplayFault.{ReplayFault}
 use Rattle.ee_image_store.specs.Opening.{IsOpenFault, IsOpened, IsStoreLeft, IsStoreText}
 use Rattle.ee_image_store.proofs.Public.{not_opened, opening_good, opening_named, same_at_rest, same_state}
 use Rattle.ee_commands.specs.Forgetting.{IsForgottenImage, IsForgetAllFault, IsHeldBack, IsSpentStore, StaysFull, forgotten_text}

@@ -11,10 +11,10 @@ use Rattle.ee_image.proofs.Public.{one_device_lem}
 use Rattle.ee_wear.specs.Since.{IsFirstFallen, IsSinceFault, NoneFell}
 use Rattle.ee_wear.specs.declared.since.SinceFault.{SinceFault}
 use Rattle.ee_wear.specs.declared.since.SinceFault.TheVariants as since
-use Rattle.ee_faults.specs.Fault.{fault_of_since}
-use Rattle.ee_faults.specs.declared.fault.Fault.{Fault}
-use Rattle.ee_faults.specs.declared.fault.Fault.TheVariants.{Memory}
-use Rattle.ee_faults.specs.declared.fault.File.TheVariants.{Image, Before}
+use Rattle.ee_interface.specs.Fault.{fault_of_since}
+use Rattle.ee_interface.specs.declared.fault.Fault.{Fault}
+use Rattle.ee_interface.specs.declared.fault.Fault.TheVariants.{Memory}
+use Rattle.ee_interface.specs.declared.fault.File.TheVariants.{Image, Before}
 use Rattle.ee_image_store.specs.Opening.{SpellsDevice}
 use Rattle.ee_commands.specs.Wear.{IsDifferenceFault, IsWear, IsWearFault, count_lines, count_text}
 use Rattle.ee_image_store.proofs.Public.{one_file_fault, only_memory}

@@ -20,12 +20,12 @@ use Rattle.ee_check.specs.declared.change.Change.{Change}
 use Rattle.ee_check.specs.declared.change.Change.TheVariants as changes
 use Rattle.ee_check.specs.Live.{KeepsWithin, live_after_one}
 use Rattle.ee_check.specs.Schedule.{Append, Carry, EachMove, IsLate, IsProper, Move, Situation, after_move, carried_at, changes_of}
-use Rattle.ee_planner.proofs.Public.{keeps_more}
+use Rattle.ee_plan.proofs.PlannerLemmas.Public.{keeps_more}
 use Rattle.ee_plan.proofs.Public.{live_after_forget, live_after_put, appends, forgetting_fits, moves_on, start_stays, write_fits}
-use Rattle.ee_planner.specs.Rounds.{repeated_trace}
+use Rattle.ee_plan.specs.Planner.Rounds.{repeated_trace}
 use Rattle.ee_plan.specs.Start.{AreLive, IsStartOf}
-use Rattle.ee_script.specs.declared.command.Command.{Command}
-use Rattle.ee_script.specs.declared.command.Command.TheVariants as command
+use Rattle.ee_interface.specs.declared.script.command.Command.{Command}
+use Rattle.ee_interface.specs.declared.script.command.Command.TheVariants as command
 use Rattle.ee_commands.specs.Planning.{IsTraceCommand}
 use Rattle.ee_commands.specs.ToldSizes.{is_of_several, made_by_calls}
 use Rattle.ee_image_store.specs.Trace.{trace_of}

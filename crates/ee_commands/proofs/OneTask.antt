@@ -12,9 +12,9 @@ use Rattle.ee_flash.specs.Device.{Device}
 use Rattle.ee_flash.specs.Size.{Size, slot_count}
 use Rattle.ee_pages.specs.Meaning.{Map}
 use Rattle.ee_core.specs.State.{State, state_of}
-use Rattle.ee_script.specs.declared.session.ScriptFault.{ScriptFault}
-use Rattle.ee_script.specs.declared.session.ScriptFault.TheVariants as script
-use Rattle.ee_script.proofs.Public.{one_reading}
+use Rattle.ee_interface.specs.declared.script.session.ScriptFault.{ScriptFault}
+use Rattle.ee_interface.specs.declared.script.session.ScriptFault.TheVariants as script
+use Rattle.ee_interface.proofs.ScriptLemmas.Public.{one_reading}
 use Rattle.ee_check.specs.declared.change.Change.{Change}
 use Rattle.ee_check.specs.declared.checking.CheckFault.{CheckFault}
 use Rattle.ee_check.specs.declared.checking.CheckFault.TheVariants as check
@@ -25,15 +25,15 @@ use Rattle.ee_check.specs.Fault.{IsCause}
 use Rattle.ee_check.specs.Schedule.{Situation}
 use Rattle.ee_check.specs.Text.{IsText, IsCertificateTextFault}
 use Rattle.ee_check.proofs.Public.{one_bad_line, one_text_lem, texts_are_good_lem}
-use Rattle.ee_planner.specs.Plan.{IsFirstNotFitting, IsPlanFault}
+use Rattle.ee_plan.specs.Planner.Plan.{IsFirstNotFitting, IsPlanFault}
 use Rattle.ee_plan.specs.Start.{AreLive, IsStartOf}
-use Rattle.ee_planner.specs.declared.planned.PlanFault.{PlanFault}
-use Rattle.ee_planner.specs.declared.planned.PlanFault.TheVariants as plan
-use Rattle.ee_faults.specs.Fault.{fault_of_certificate, fault_of_check, fault_of_replay, fault_of_script}
-use Rattle.ee_faults.specs.declared.fault.Fault.{Fault}
-use Rattle.ee_faults.specs.declared.fault.Fault.TheVariants.{Memory, NotFitting}
-use Rattle.ee_faults.specs.declared.replay_fault.ReplayFault.{ReplayFault}
-use Rattle.ee_faults.specs.declared.replay_fault.ReplayFault.TheVariants as replay
+use Rattle.ee_plan.specs.declared.planner.planned.PlanFault.{PlanFault}
+use Rattle.ee_plan.specs.declared.planner.planned.PlanFault.TheVariants as plan
+use Rattle.ee_interface.specs.Fault.{fault_of_certificate, fault_of_check, fault_of_replay, fault_of_script}
+use Rattle.ee_interface.specs.declared.fault.Fault.{Fault}
+use Rattle.ee_interface.specs.declared.fault.Fault.TheVariants.{Memory, NotFitting}
+use Rattle.ee_interface.specs.declared.replay_fault.ReplayFault.{ReplayFault}
+use Rattle.ee_interface.specs.declared.replay_fault.ReplayFault.TheVariants as replay
 use Rattle.ee_image_store.specs.Opening.{IsOpenFault, IsOpened, IsStoreText}
 use Rattle.ee_commands.specs.Planning.{fault_of_plan, IsCertificateFault, IsCheckingFault, IsImageStart, IsPlanningFault, IsRefusal, IsTask, IsTaskFault, IsTrace, IsTraceFault}
 use Rattle.ee_image_store.proofs.Public.{one_open_fault, store_is_good, memory_or_not, same_at_rest, same_state}

@@ -5,8 +5,8 @@ use Rattle.ee_check.specs.Certificate.{claim_of}
 use Rattle.ee_check.specs.Schedule.{IsProper, Situation}
 use Rattle.ee_check.specs.Text.{text_of}
 use Rattle.ee_check.proofs.Public.{certificates_bound_schedules_lem, tight_are_certificates_lem, tight_is_met_lem}
-use Rattle.ee_planner.specs.declared.planned.Plan.{Plan}
-use Rattle.ee_planner.specs.Plan.{IsPlan}
+use Rattle.ee_plan.specs.declared.planner.planned.Plan.{Plan}
+use Rattle.ee_plan.specs.Planner.Plan.{IsPlan}
 use Rattle.ee_commands.specs.Planning.{IsPlanned, IsTask}
 
 pub is_planned : {A : Type 0} (image text planned : List ℕ) (start : Situation)

@@ -9,8 +9,8 @@ use Rattle.ee_image.specs.Text.{image_text}
 use Rattle.ee_pages.specs.Rescue.{rescued_side}
 use Rattle.ee_core.specs.Rescues.{IsRescued}
 use Rattle.ee_core.specs.declared.rescuing.Rescued.{Rescued}
-use Rattle.ee_faults.specs.declared.fault.Fault.TheVariants as fault
-use Rattle.ee_faults.specs.declared.fault.File.TheVariants.{Image}
+use Rattle.ee_interface.specs.declared.fault.Fault.TheVariants as fault
+use Rattle.ee_interface.specs.declared.fault.File.TheVariants.{Image}
 use Rattle.ee_image_store.specs.Opening.{IsStoreLeft, SpellsDevice}
 use Rattle.ee_image_store.proofs.Public.{formed_of, no_memory_for}
 use Rattle.ee_commands.specs.Rescuing.{IsRescueFault, IsRescuedImage, bad_lines, rescued_text}

@@ -9,9 +9,9 @@ use Rattle.ee_check.proofs.Public.{changed-le}
 use Rattle.ee_check.specs.declared.change.Change.{Change}
 use Rattle.ee_check.specs.Schedule.{Append, Carry, Copy, EachMove, IsAllowed, IsProper, Move, Situation, after_move, changes_of, cost}
 use Rattle.ee_plan.proofs.Public.{fewest_transfers_wear_lem}
-use Rattle.ee_planner.specs.Rounds.{IsFewest, unused_situation}
-use Rattle.ee_planner.specs.declared.demand.Demand.{Demand}
-use Rattle.ee_planner.specs.declared.demand.Demand.TheVariants.{Transfers, NotFitting}
+use Rattle.ee_plan.specs.Planner.Rounds.{IsFewest, unused_situation}
+use Rattle.ee_plan.specs.declared.planner.demand.Demand.{Demand}
+use Rattle.ee_plan.specs.declared.planner.demand.Demand.TheVariants.{Transfers, NotFitting}
 use Rattle.ee_commands.specs.Sizing.{AreDemands, AreWears, EachWears, limit_for, least_for}
 use Rattle.ee_commands.proofs.AskedRuns.{carried_fits}
 

@@ -14,12 +14,12 @@ use Rattle.ee_check.proofs.Public.{late_moves, late_stores_meet_it_lem}
 use Rattle.ee_check.specs.declared.change.Change.{Change}
 use Rattle.ee_check.specs.Live.{KeepsWithin}
 use Rattle.ee_check.specs.Schedule.{IsProper, Situation, cost}
-use Rattle.ee_planner.proofs.Public.{none_breaks}
+use Rattle.ee_plan.proofs.PlannerLemmas.Public.{none_breaks}
 use Rattle.ee_plan.proofs.Public.{length_map, none_sorted}
-use Rattle.ee_planner.specs.Rounds.{IsDemand, repeated_trace, unused_situation}
+use Rattle.ee_plan.specs.Planner.Rounds.{IsDemand, repeated_trace, unused_situation}
 use Rattle.ee_plan.specs.Start.{AreLive, IsStartOf}
-use Rattle.ee_planner.specs.declared.demand.Demand.{Demand}
-use Rattle.ee_planner.specs.declared.demand.Demand.TheVariants.{Transfers, NotFitting}
+use Rattle.ee_plan.specs.declared.planner.demand.Demand.{Demand}
+use Rattle.ee_plan.specs.declared.planner.demand.Demand.TheVariants.{Transfers, NotFitting}
 use Rattle.ee_commands.specs.ToldSizes.{ForgetsLive, IsDemandOf, WearsAsTold, asked_by_calls, is_of_several, made_by_calls, wants_memory}
 use Rattle.ee_commands.specs.Sizing.{AreDemands, IsSized, erases_for, is_spent_by, most_transfers}
 use Rattle.ee_commands.proofs.AllMade.{all_made}

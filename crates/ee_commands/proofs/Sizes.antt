@@ -5,12 +5,12 @@ use Rattle.std.proofs.lemmas.List.{take_more, length-take-le, append-nil}
 use Rattle.ee_flash.specs.Size.{size_of, slot_count}
 use Rattle.ee_text.specs.Line.{line_of}
 use Rattle.ee_check.specs.declared.change.Change.{Change}
-use Rattle.ee_planner.specs.Rounds.{IsDemand, unused_situation}
-use Rattle.ee_planner.specs.declared.demand.Demand.{Demand}
-use Rattle.ee_script.specs.declared.session.ScriptFault.{ScriptFault}
-use Rattle.ee_faults.specs.Fault.{fault_of_script}
-use Rattle.ee_faults.specs.declared.fault.Fault.{Fault}
-use Rattle.ee_faults.specs.declared.fault.Fault.TheVariants.{Memory}
+use Rattle.ee_plan.specs.Planner.Rounds.{IsDemand, unused_situation}
+use Rattle.ee_plan.specs.declared.planner.demand.Demand.{Demand}
+use Rattle.ee_interface.specs.declared.script.session.ScriptFault.{ScriptFault}
+use Rattle.ee_interface.specs.Fault.{fault_of_script}
+use Rattle.ee_interface.specs.declared.fault.Fault.{Fault}
+use Rattle.ee_interface.specs.declared.fault.Fault.TheVariants.{Memory}
 use Rattle.ee_commands.specs.Planning.{IsTrace, IsTraceFault}
 use Rattle.ee_commands.specs.Sizing.{AreDemands, IsSizingFault, size_lines, sizing_text}
 use Rattle.ee_commands.proofs.OneTask.{one_name, one_trace_fault, other_cause, trace_memory}

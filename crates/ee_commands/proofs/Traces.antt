@@ -6,11 +6,11 @@ use Rattle.std.proofs.lemmas.List.{append-nil}
 use Rattle.ee_check.specs.declared.change.Change.{Change}
 use Rattle.ee_check.specs.declared.change.Change.TheVariants as change
 use Rattle.ee_text.specs.Line.{line_of}
-use Rattle.ee_script.specs.declared.command.Command.{Command}
-use Rattle.ee_script.specs.declared.command.Command.TheVariants.{Write, Read, Forget, Clean, Arm, PowerOn}
-use Rattle.ee_script.specs.Command.{command_text}
-use Rattle.ee_script.specs.Script.{IsFirstBadLineOf, NoLineOf, script}
-use Rattle.ee_script.proofs.Public.{no_bad_line, one_bad_line}
+use Rattle.ee_interface.specs.declared.script.command.Command.{Command}
+use Rattle.ee_interface.specs.declared.script.command.Command.TheVariants.{Write, Read, Forget, Clean, Arm, PowerOn}
+use Rattle.ee_interface.specs.Script.Command.{command_text}
+use Rattle.ee_interface.specs.Script.Script.{IsFirstBadLineOf, NoLineOf, script}
+use Rattle.ee_interface.proofs.ScriptLemmas.Public.{no_bad_line, one_bad_line}
 use Rattle.ee_commands.specs.Planning.{IsTrace, IsTraceCommand}
 use Rattle.ee_image_store.specs.Trace.{trace_of}
 

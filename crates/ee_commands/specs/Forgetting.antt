@@ -8,8 +8,8 @@ use Rattle.ee_core.specs.Emptying.{Clears}
 use Rattle.ee_core.specs.Changes.{greatest_generation}
 use Rattle.ee_core.specs.Openings.{Opens}
 use Rattle.ee_core.specs.State.{state_of}
-use Rattle.ee_faults.specs.declared.fault.Fault.{Fault}
-use Rattle.ee_faults.specs.declared.fault.Fault.TheVariants.{HoldsValues, Spent}
+use Rattle.ee_interface.specs.declared.fault.Fault.{Fault}
+use Rattle.ee_interface.specs.declared.fault.Fault.TheVariants.{HoldsValues, Spent}
 use Rattle.ee_image_store.specs.FileFaults.{IsOpeningFault}
 use Rattle.ee_image_store.specs.Opening.{IsStoreLeft, IsStoreText}
 

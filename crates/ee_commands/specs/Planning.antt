@@ -13,19 +13,19 @@ use Rattle.ee_check.specs.Certificate.{Claim, IsCertificate, IsTight}
 use Rattle.ee_check.specs.Fault.{IsCause}
 use Rattle.ee_check.specs.Schedule.{IsSchedule, Move, Situation, cost}
 use Rattle.ee_check.specs.Text.{IsText, IsCertificateTextFault, text_of}
-use Rattle.ee_planner.specs.Plan.{IsPlanFault}
+use Rattle.ee_plan.specs.Planner.Plan.{IsPlanFault}
 use Rattle.ee_plan.specs.Start.{IsStartOf}
-use Rattle.ee_planner.specs.declared.planned.PlanFault.{PlanFault}
-use Rattle.ee_planner.specs.declared.planned.PlanFault.TheVariants as plan
-use Rattle.ee_script.specs.declared.command.Command.{Command}
-use Rattle.ee_script.specs.declared.command.Command.TheVariants.{Arm, PowerOn}
-use Rattle.ee_script.specs.declared.session.ScriptFault.{ScriptFault}
-use Rattle.ee_script.specs.declared.session.ScriptFault.TheVariants.{BadLine, Memory}
-use Rattle.ee_script.specs.Command.{IsCommand}
-use Rattle.ee_script.specs.Script.{IsFirstBadLineOf, script}
-use Rattle.ee_faults.specs.Fault.{fault_of_certificate, fault_of_check, fault_of_script}
-use Rattle.ee_faults.specs.declared.fault.Fault.{Fault}
-use Rattle.ee_faults.specs.declared.fault.Fault.TheVariants as fault
+use Rattle.ee_plan.specs.declared.planner.planned.PlanFault.{PlanFault}
+use Rattle.ee_plan.specs.declared.planner.planned.PlanFault.TheVariants as plan
+use Rattle.ee_interface.specs.declared.script.command.Command.{Command}
+use Rattle.ee_interface.specs.declared.script.command.Command.TheVariants.{Arm, PowerOn}
+use Rattle.ee_interface.specs.declared.script.session.ScriptFault.{ScriptFault}
+use Rattle.ee_interface.specs.declared.script.session.ScriptFault.TheVariants.{BadLine, Memory}
+use Rattle.ee_interface.specs.Script.Command.{IsCommand}
+use Rattle.ee_interface.specs.Script.Script.{IsFirstBadLineOf, script}
+use Rattle.ee_interface.specs.Fault.{fault_of_certificate, fault_of_check, fault_of_script}
+use Rattle.ee_interface.specs.declared.fault.Fault.{Fault}
+use Rattle.ee_interface.specs.declared.fault.Fault.TheVariants as fault
 use Rattle.ee_image_store.specs.FileFaults.{IsOpeningFault}
 use Rattle.ee_image_store.specs.Opening.{IsStoreText}
 use Rattle.ee_image_store.specs.Trace.{trace_of}

@@ -9,8 +9,8 @@ use Rattle.ee_pages.specs.declared.side.Side.{Side}
 use Rattle.ee_core.specs.Changes.{greatest_generation}
 use Rattle.ee_core.specs.Rescues.{IsRescued}
 use Rattle.ee_core.specs.declared.rescuing.Rescued.{Rescued}
-use Rattle.ee_faults.specs.declared.fault.Fault.{Fault}
-use Rattle.ee_faults.specs.declared.fault.Fault.TheVariants.{NothingToRescue, Spent}
+use Rattle.ee_interface.specs.declared.fault.Fault.{Fault}
+use Rattle.ee_interface.specs.declared.fault.Fault.TheVariants.{NothingToRescue, Spent}
 use Rattle.ee_image_store.specs.FileFaults.{IsReadingFault}
 use Rattle.ee_image_store.specs.Opening.{IsStoreLeft, SpellsDevice}
 use Rattle.ee_image_store.specs.Told.{each_below}

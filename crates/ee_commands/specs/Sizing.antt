@@ -10,12 +10,12 @@ use Rattle.ee_core.specs.Changes.{greatest_generation}
 use Rattle.ee_text.specs.Field.{joined_fields}
 use Rattle.ee_text.specs.Line.{line_of}
 use Rattle.ee_check.specs.declared.change.Change.{Change}
-use Rattle.ee_planner.specs.Rounds.{IsDemand, repeated_trace, unused_situation}
+use Rattle.ee_plan.specs.Planner.Rounds.{IsDemand, repeated_trace, unused_situation}
 use Rattle.ee_plan.specs.Wearing.{NoneWearsLess}
-use Rattle.ee_planner.specs.declared.demand.Demand.{Demand}
-use Rattle.ee_planner.specs.declared.demand.Demand.TheVariants.{Transfers, NotFitting}
-use Rattle.ee_faults.specs.Fault.{fault_of_script}
-use Rattle.ee_faults.specs.declared.fault.Fault.{Fault}
+use Rattle.ee_plan.specs.declared.planner.demand.Demand.{Demand}
+use Rattle.ee_plan.specs.declared.planner.demand.Demand.TheVariants.{Transfers, NotFitting}
+use Rattle.ee_interface.specs.Fault.{fault_of_script}
+use Rattle.ee_interface.specs.declared.fault.Fault.{Fault}
 use Rattle.ee_commands.specs.Planning.{IsTrace, IsTraceFault, NamesFault}
 
 -- ---- how often pages are erased

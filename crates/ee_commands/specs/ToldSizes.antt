@@ -9,9 +9,9 @@ use Rattle.ee_core.specs.declared.variables.WriteFault.TheVariants as write
 use Rattle.ee_check.specs.Live.{live_after_one}
 use Rattle.ee_check.specs.declared.change.Change.{Change}
 use Rattle.ee_check.specs.declared.change.Change.TheVariants as change
-use Rattle.ee_planner.specs.Rounds.{repeated_trace}
-use Rattle.ee_planner.specs.declared.demand.Demand.{Demand}
-use Rattle.ee_planner.specs.declared.demand.Demand.TheVariants.{Transfers}
+use Rattle.ee_plan.specs.Planner.Rounds.{repeated_trace}
+use Rattle.ee_plan.specs.declared.planner.demand.Demand.{Demand}
+use Rattle.ee_plan.specs.declared.planner.demand.Demand.TheVariants.{Transfers}
 use Rattle.ee_commands.specs.Sizing.{IsSized, erases_for, is_enough, is_spent_by}
 
 -- whether the call is of a list of values, or a clear

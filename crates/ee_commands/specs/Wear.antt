@@ -6,9 +6,9 @@ use Rattle.ee_flash.specs.Device.{Device}
 use Rattle.ee_wear.specs.Counts.{greatest_of, least_of}
 use Rattle.ee_wear.specs.Since.{IsSinceFault, NoneFell, differences}
 use Rattle.ee_wear.specs.declared.since.SinceFault.{SinceFault}
-use Rattle.ee_faults.specs.Fault.{fault_of_since}
-use Rattle.ee_faults.specs.declared.fault.Fault.{Fault}
-use Rattle.ee_faults.specs.declared.fault.File.TheVariants.{Image, Before}
+use Rattle.ee_interface.specs.Fault.{fault_of_since}
+use Rattle.ee_interface.specs.declared.fault.Fault.{Fault}
+use Rattle.ee_interface.specs.declared.fault.File.TheVariants.{Image, Before}
 use Rattle.ee_image_store.specs.FileFaults.{IsFileFault}
 use Rattle.ee_image_store.specs.Opening.{SpellsDevice}
 

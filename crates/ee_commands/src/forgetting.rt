@@ -4,11 +4,11 @@ ghost use Rattle.ee_flash.specs.Device.{IsOn};
 ghost use Rattle.ee_core.specs.Emptying.{Clears};
 ghost use Rattle.ee_commands.specs.Forgetting.{IsForgottenImage, IsForgetAllFault, IsHeldBack, IsSpentStore, forgotten_text};
 ghost use Rattle.ee_image_store.specs.Opening.{StaysOn};
-ghost use Rattle.ee_faults.specs.Causes.{NamesEach};
+ghost use Rattle.ee_interface.specs.Causes.{NamesEach};
 
 use ee_core::{ClearFault, Variables};
-use ee_faults::Fault;
 use ee_image_store::{ImageAndText, open_image, text_left};
+use ee_interface::Fault;
 use ee_text::push_number_behind;
 use std::alloc::{AllocError, Allocator};
 

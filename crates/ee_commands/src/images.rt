@@ -7,13 +7,13 @@ ghost use Rattle.ee_core.specs.State.{Wears, pending_pages, state_of, with_pendi
 ghost use Rattle.ee_image_store.specs.FileFaults.{IsReadingFault, IsOpeningFault};
 ghost use Rattle.ee_commands.specs.Images.{AreStates, IsCleaned, IsFormattedText, cleaned_text, state_lines, state_name, state_text};
 ghost use Rattle.ee_image_store.specs.Opening.{StaysOn};
-ghost use Rattle.ee_faults.specs.Causes.{NamesEach};
+ghost use Rattle.ee_interface.specs.Causes.{NamesEach};
 
 use ee_core::Variables;
-use ee_faults::{Fault, File};
 use ee_flash::{Flash, Shape};
 use ee_image::read_image;
 use ee_image_store::{ImageAndText, new_store, open_image, text_left};
+use ee_interface::{Fault, File};
 use ee_pages::{State, state_of as state_of_page};
 use ee_text::push_number;
 use std::alloc::{AllocError, Allocator};

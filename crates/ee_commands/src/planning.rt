@@ -1,17 +1,17 @@
 //! Plans of scripts on images, and the certificates that prove them.
 ghost use Rattle.std.specs.Prelude.{◌≡◌, ◌++◌, ◌∷◌, [], IfErr, IfNone, IfOk, IfSome, OnOk};
 ghost use Rattle.ee_text.specs.Line.{line_of};
-ghost use Rattle.ee_script.specs.Command.{command_text};
-ghost use Rattle.ee_script.specs.Script.{NoLineOf};
+ghost use Rattle.ee_interface.specs.Script.Command.{command_text};
+ghost use Rattle.ee_interface.specs.Script.Script.{NoLineOf};
 ghost use Rattle.ee_commands.specs.Planning.{IsCheckingFault, IsPlanned, IsPlanningFault, IsProved, IsTask, IsTaskFault, IsTrace, IsTraceCommand, IsTraceFault, fault_of_plan, proved_text};
 ghost use Rattle.ee_image_store.specs.Trace.{trace_of};
-ghost use Rattle.ee_faults.specs.Causes.{NamesEach};
+ghost use Rattle.ee_interface.specs.Causes.{NamesEach};
 
 use ee_check::{Change, Start, check, read_certificate, write_certificate};
-use ee_faults::Fault;
 use ee_image_store::open_image;
+use ee_interface::Fault;
+use ee_interface::script::{Command, ScriptFault, next_command};
 use ee_plan::{PlanFault, plan, start_of};
-use ee_script::{Command, ScriptFault, next_command};
 use ee_text::push_number;
 use std::alloc::{AllocError, Allocator};
 

@@ -7,13 +7,13 @@ ghost use Rattle.ee_core.specs.Rescues.{IsRescued};
 ghost use Rattle.ee_commands.specs.Rescuing.{IsNotRescued, IsRescueFault, IsRescuedImage, bad_line, bad_lines, part_name, rescued_text};
 ghost use Rattle.ee_image_store.specs.Opening.{StaysOn};
 ghost use Rattle.ee_image_store.specs.Told.{each_below};
-ghost use Rattle.ee_faults.specs.Causes.{NamesEach};
+ghost use Rattle.ee_interface.specs.Causes.{NamesEach};
 
 use ee_core::{RescueFault, Rescued, Store, rescue};
-use ee_faults::{Fault, File};
 use ee_flash::{Flash, HEADER_WORDS};
 use ee_image::read_image;
 use ee_image_store::{ImageAndText, text_left};
+use ee_interface::{Fault, File};
 use ee_pages::{RescuedSet, first_page, is_bad_word, rescued_set};
 use ee_text::push_number_behind;
 use std::alloc::{AllocError, Allocator};

@@ -3,14 +3,14 @@ ghost use Rattle.std.specs.Prelude.{◌≡◌, ◌+◌, ◌≤◌, ◌++◌, IfE
 ghost use Rattle.std.specs.List.{list_any};
 ghost use Rattle.ee_flash.specs.Size.{size_of, slot_count};
 ghost use Rattle.ee_text.specs.Line.{line_of};
-ghost use Rattle.ee_planner.specs.Rounds.{repeated_trace};
+ghost use Rattle.ee_plan.specs.Planner.Rounds.{repeated_trace};
 ghost use Rattle.ee_commands.specs.Sizing.{AreDemands, EachWears, IsSized, IsSizingFault, erases_for, fitting_text, is_enough, least_for, limit_for, not_fitting_text, numbers_text, size_lines, sizing_text, verdict};
-ghost use Rattle.ee_faults.specs.Causes.{NamesEach};
+ghost use Rattle.ee_interface.specs.Causes.{NamesEach};
 
 use super::planning::read_trace;
 use ee_check::Change;
-use ee_faults::Fault;
 use ee_flash::HEADER_WORDS;
+use ee_interface::Fault;
 use ee_plan::{Demand, Rounds, RoundsFault};
 use ee_text::push_number_behind;
 use std::alloc::{AllocError, Allocator, Global};

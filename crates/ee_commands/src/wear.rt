@@ -4,10 +4,10 @@ ghost use Rattle.std.specs.Option.{option_map};
 ghost use Rattle.ee_text.specs.Line.{line_of};
 ghost use Rattle.ee_image_store.specs.FileFaults.{IsFileFault};
 ghost use Rattle.ee_commands.specs.Wear.{AreWearCountsOf, IsWear, IsWearFault, count_lines, count_text, ledger_text, total_text};
-ghost use Rattle.ee_faults.specs.Causes.{NamesEach};
+ghost use Rattle.ee_interface.specs.Causes.{NamesEach};
 
-use ee_faults::{Fault, File};
 use ee_image::read_image;
+use ee_interface::{Fault, File};
 use ee_text::push_number;
 use ee_wear::Ledger;
 use std::alloc::{AllocError, Allocator};

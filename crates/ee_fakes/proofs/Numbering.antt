@@ -4,7 +4,7 @@ use Rattle.std.specs.Vec.{with_items}
 use Rattle.std.specs.List.{All}
 use Rattle.std.proofs.lemmas.List.{get_or-map, get_or-set_same, length-map, length-set, map-set, take_at}
 use Rattle.std.proofs.lemmas.List.Elements.{All-set}
-use Rattle.ee_pairs.specs.Nor.{EraseNumbers, IsNorCutIn, IsNorNumber, KeepsBits, NorDevice, numbers_at, with_nor_page_worn, with_numbers}
+use Rattle.ee_nor.specs.Nor.{EraseNumbers, IsNorCutIn, IsNorNumber, KeepsBits, NorDevice, numbers_at, with_nor_page_worn, with_numbers}
 use Rattle.ee_fakes.specs.Numbers.{with_power_lost}
 
 module _ {A : Type 0} (pages : List (Vec ℕ A)) where

@@ -6,7 +6,7 @@ use Rattle.ee_flash.specs.Formed.{below_all_ones, length-pages_of, page_lengths}
 use Rattle.ee_flash.specs.Pages.{pages_of}
 use Rattle.ee_flash.specs.Size.{IsWithinLimits, Size, page_count}
 use Rattle.ee_flash.specs.declared.word.Word.{Word}
-use Rattle.ee_pairs.specs.Nor.{IsNorFormed, IsNorNumber, number_count}
+use Rattle.ee_nor.specs.Nor.{IsNorFormed, IsNorNumber, number_count}
 
 pub IsFormed-listed : (size : Size) (cells : List Word) (wear : List ℕ) (cuts : ℕ) (on : Bool)
     → IsWithinLimits size → length cells ≡ page_count size * size.words → All IsBelowAllOnes cells

@@ -3,7 +3,7 @@ use Rattle.std.specs.Prelude.{None, map, replicate, true, false}
 use Rattle.ee_flash.specs.Device.{all_ones}
 use Rattle.ee_flash.specs.Size.{Size, page_count}
 use Rattle.ee_flash.specs.Step.{one_more}
-use Rattle.ee_pairs.specs.Nor.{NorDevice, number_count}
+use Rattle.ee_nor.specs.Nor.{NorDevice, number_count}
 use Rattle.ee_fakes.specs.declared.numbers.ListNor.{ListNor}
 
 -- the device with nothing on it

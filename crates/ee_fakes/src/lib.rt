@@ -1,17 +1,12 @@
-//! What tests need beside the product.
+//! What tests need beside the product. Only tests stand on it, so the product holds no unsafe code.
 //!
 //! - `Refusing`: an allocator that refuses one request for memory.
-//! - `FailingReader`, `FailingWriter`: streams that give or take a few bytes a call
-//!   and fail at one call.
-//! - `ListFlash`: a flash device whose steps are done or cut as a list says, each word of a cut
-//!   step by itself, and that counts the words that are read.
-//! - `ListNor`: the same of a flash of plain numbers, each bit of a cut step by itself;
-//!   it counts its steps.
+//! - `FailingReader`, `FailingWriter`: streams that give or take a few bytes a call and fail at
+//!   one.
+//! - `ListFlash`, `ListNor`: flashes whose steps are done or cut as a list says, each word or each
+//!   bit of a cut step by itself; they count words read or steps.
 //! - `LastValue`: what serves a script with the value that was written last.
 //! - `images`: the texts that several tests read.
-//!
-//! Only tests stand on this crate. So the product's crates hold no unsafe code and no help for
-//! tests; the one `unsafe impl` stands here, with its proof.
 #![tactic(auto)]
 
 mod fate;

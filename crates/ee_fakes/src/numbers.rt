@@ -3,10 +3,10 @@ ghost use Rattle.std.specs.Prelude.{◌≡◌, ◌+◌, ◌*◌, ◌<◌, ◌≤
 ghost use Rattle.std.specs.List.{All};
 ghost use Rattle.ee_flash.specs.Device.{all_ones};
 ghost use Rattle.ee_flash.specs.Size.{IsWithinLimits, page_count};
-ghost use Rattle.ee_pairs.specs.Nor.{HasBits, IsNorNumber, KeepsBits, number_count};
+ghost use Rattle.ee_nor.specs.Nor.{HasBits, IsNorNumber, KeepsBits, number_count};
 
 use ee_flash::{Cut, Shape};
-use ee_pairs::Nor;
+use ee_nor::Nor;
 use std::alloc::{AllocError, Allocator, Global};
 
 /// What becomes of a step of a flash of numbers.
@@ -107,7 +107,7 @@ fn blank_pages<A: Allocator + Copy>(
 
 impl<'a, A: Allocator> ListNor<'a, A> {
     ghost use Rattle.ee_fakes.specs.Numbers.{nor_of_list, with_power_lost};
-    ghost use Rattle.ee_pairs.specs.Nor.{IsNorCutIn, EraseNumbers, with_nor_page_worn, with_number, with_numbers};
+    ghost use Rattle.ee_nor.specs.Nor.{IsNorCutIn, EraseNumbers, with_nor_page_worn, with_number, with_numbers};
 
     /// How many steps were begun so far.
     pub fn steps(&self) -> u64 {

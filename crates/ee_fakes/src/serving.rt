@@ -1,5 +1,5 @@
 //! What serves a script, and keeps one value.
-use ee_script::{Answer, Command, Serve};
+use ee_interface::script::{Answer, Command, Serve};
 use std::alloc::AllocError;
 
 /// Serves with the value that was written last, at any address.

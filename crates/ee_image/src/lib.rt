@@ -1,19 +1,28 @@
 //! Images as text: a device in one text, and a text that is one device's.
 //!
-//! The first line says the size, and each page has a line with its wear and its words; power, cuts
-//! and fuse are not in the text. A device's text is a function of it (`specs/Text.antt`), so that
-//! reading and writing are stated once: what is read is written so, and what is written so is read.
-//! A text that is no device's has one first fault (`specs/Fault.antt`). `laws` says that devices
-//! are told apart by their texts, and that no text has two faults or a fault and a device.
+//! The first line says the size, and each page has a line with its wear and its words. Power, cuts
+//! and fuse are not in the text.
+//!
+//! # What a contract sees
+//!
+//! The text is a function of the device (`specs/Text.antt`). A text that is no device's has one
+//! first fault (`specs/Fault.antt`).
 //!
 //! # What is proved
 //!
-//! What `read_image` reads is a device's text, and that device is on, with no cuts and no fuse
-//! (`found`, `at_rest`); every device's text is read, want of memory aside, and every other text
-//! has one fault, which is named (`only`, `fault`, `names`). `write_image` appends the text of any
-//! device, or leaves its buffer as it was (`ok`, `err`). `laws`: each text is a device's or has a
-//! fault; devices are told apart by their texts but for power and cuts, and no text has two faults,
-//! or a fault and a device.
+//! `read_image` gives the device whose text it is, on, with no cuts and no fuse, or names the one
+//! fault, want of memory aside (`found`, `at_rest`, `only`, `fault`, `names`). `write_image`
+//! appends the text of any device, or leaves its buffer as it was (`ok`, `err`). `laws`: a text is
+//! a device's or has a fault, never both and never two; devices are told apart by their texts, but
+//! for power and cuts.
+//!
+//! # What is only tested
+//!
+//! Images of the greatest size.
+//!
+//! # Read first
+//!
+//! `specs/Text.antt`.
 #![tactic(auto)]
 
 mod fault;

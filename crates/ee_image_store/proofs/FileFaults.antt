@@ -6,11 +6,11 @@ use Rattle.ee_image.specs.Fault.{IsImageFault}
 use Rattle.ee_image.specs.declared.fault.ImageFault.{ImageFault}
 use Rattle.ee_image.specs.declared.fault.ImageFault.TheVariants as image
 use Rattle.ee_image.proofs.Public.{one_fault_lem, short}
-use Rattle.ee_faults.specs.Fault.{fault_of_image}
-use Rattle.ee_faults.specs.declared.fault.Fault.{Fault}
-use Rattle.ee_faults.specs.declared.fault.Fault.TheVariants.{Memory}
-use Rattle.ee_faults.specs.declared.fault.File.{File}
-use Rattle.ee_faults.specs.declared.fault.File.TheVariants.{Image}
+use Rattle.ee_interface.specs.Fault.{fault_of_image}
+use Rattle.ee_interface.specs.declared.fault.Fault.{Fault}
+use Rattle.ee_interface.specs.declared.fault.Fault.TheVariants.{Memory}
+use Rattle.ee_interface.specs.declared.fault.File.{File}
+use Rattle.ee_interface.specs.declared.fault.File.TheVariants.{Image}
 use Rattle.ee_image_store.specs.FileFaults.{IsFileFault, IsReadingFault}
 use Rattle.ee_image_store.specs.Opening.{SpellsDevice}
 use Rattle.ee_image_store.proofs.OneCause.{is_no_text}

@@ -14,8 +14,8 @@ use Rattle.ee_image.specs.Text.{at_rest}
 use Rattle.ee_image.specs.Fault.{IsImageTextFault}
 use Rattle.ee_image.specs.declared.fault.ImageFault.{ImageFault}
 use Rattle.ee_image.proofs.Public.{one_device_lem, one_fault_lem, texts_are_good_lem}
-use Rattle.ee_faults.specs.declared.replay_fault.ReplayFault.{ReplayFault}
-use Rattle.ee_faults.specs.declared.replay_fault.ReplayFault.TheVariants.{Image, Open, Script, Memory, Read}
+use Rattle.ee_interface.specs.declared.replay_fault.ReplayFault.{ReplayFault}
+use Rattle.ee_interface.specs.declared.replay_fault.ReplayFault.TheVariants.{Image, Open, Script, Memory, Read}
 use Rattle.ee_image_store.specs.Opening.{IsOpenFault, IsStoreText, SpellsDevice}
 
 pub same_at_rest : (text : List ℕ) (device other : Device) → SpellsDevice text device

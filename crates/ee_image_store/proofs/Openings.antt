@@ -2,11 +2,11 @@
 -- where a store is opened.
 use Rattle.std.proofs.Common.{◌≡◌, ◌≢◌, ◌⊎◌, ◌∙◌, ℕ, List, inl, inr, refl, sym, ap, rules}
 use Rattle.ee_flash.specs.Device.{Device}
-use Rattle.ee_faults.specs.Fault.{fault_of_replay}
-use Rattle.ee_faults.specs.declared.fault.Fault.{Fault}
-use Rattle.ee_faults.specs.declared.fault.Fault.TheVariants.{Memory}
-use Rattle.ee_faults.specs.declared.replay_fault.ReplayFault.{ReplayFault}
-use Rattle.ee_faults.specs.declared.replay_fault.ReplayFault.TheVariants as replay
+use Rattle.ee_interface.specs.Fault.{fault_of_replay}
+use Rattle.ee_interface.specs.declared.fault.Fault.{Fault}
+use Rattle.ee_interface.specs.declared.fault.Fault.TheVariants.{Memory}
+use Rattle.ee_interface.specs.declared.replay_fault.ReplayFault.{ReplayFault}
+use Rattle.ee_interface.specs.declared.replay_fault.ReplayFault.TheVariants as replay
 use Rattle.ee_image_store.specs.FileFaults.{IsOpeningFault}
 use Rattle.ee_image_store.specs.Opening.{HasStore, IsOpenFault, IsStoreText}
 use Rattle.ee_image_store.proofs.OneCause.{one_open_fault, store_is_good}

@@ -4,8 +4,8 @@ use Rattle.std.specs.List.{sum_by}
 use Rattle.ee_flash.specs.Device.{Device}
 use Rattle.ee_flash.specs.Size.{Size}
 use Rattle.ee_core.specs.State.{WearRises, state_of}
-use Rattle.ee_script.specs.declared.answer.Answer.{Answer}
-use Rattle.ee_script.specs.declared.answer.Answer.TheVariants.{Moved}
+use Rattle.ee_interface.specs.declared.script.answer.Answer.{Answer}
+use Rattle.ee_interface.specs.declared.script.answer.Answer.TheVariants.{Moved}
 
 -- how many pages an answer leaves to be erased: those of a set for a move, and none for any other
 abbrev pub erases_left_by : Size → Answer → ℕ

@@ -3,11 +3,11 @@
 use Rattle.std.specs.Prelude.{◌≡◌, List, ℕ}
 use Rattle.ee_image.specs.Fault.{IsImageFault}
 use Rattle.ee_image.specs.declared.fault.ImageFault.{ImageFault}
-use Rattle.ee_faults.specs.Fault.{fault_of_image, fault_of_replay}
-use Rattle.ee_faults.specs.declared.fault.Fault.{Fault}
-use Rattle.ee_faults.specs.declared.fault.File.{File}
-use Rattle.ee_faults.specs.declared.fault.File.TheVariants.{Image}
-use Rattle.ee_faults.specs.declared.replay_fault.ReplayFault.{ReplayFault}
+use Rattle.ee_interface.specs.Fault.{fault_of_image, fault_of_replay}
+use Rattle.ee_interface.specs.declared.fault.Fault.{Fault}
+use Rattle.ee_interface.specs.declared.fault.File.{File}
+use Rattle.ee_interface.specs.declared.fault.File.TheVariants.{Image}
+use Rattle.ee_interface.specs.declared.replay_fault.ReplayFault.{ReplayFault}
 use Rattle.ee_image_store.specs.Opening.{IsOpenFault}
 
 -- why no device is found in the text of a file

@@ -7,10 +7,10 @@ use Rattle.ee_pages.specs.Meaning.{Change, Put}
 use Rattle.ee_pages.specs.Meaning as meaning
 use Rattle.ee_core.specs.State.{State, appended_state, moved_state, with_pending}
 use Rattle.ee_core.specs.Changes.{IsAccepted, IsCutAppend, IsCutMove, IsFull, IsSpent}
-use Rattle.ee_script.specs.declared.command.Command.{Command}
-use Rattle.ee_script.specs.declared.command.Command.TheVariants.{Write, Read, Forget, Clean, Arm, PowerOn}
-use Rattle.ee_script.specs.declared.answer.Answer.{Answer}
-use Rattle.ee_script.specs.declared.answer.Answer.TheVariants.{Appended, Moved, Full, Spent, Cleaned, Idle, Value, NoValue, Absent, Armed, Cut, Off, Opened}
+use Rattle.ee_interface.specs.declared.script.command.Command.{Command}
+use Rattle.ee_interface.specs.declared.script.command.Command.TheVariants.{Write, Read, Forget, Clean, Arm, PowerOn}
+use Rattle.ee_interface.specs.declared.script.answer.Answer.{Answer}
+use Rattle.ee_interface.specs.declared.script.answer.Answer.TheVariants.{Appended, Moved, Full, Spent, Cleaned, Idle, Value, NoValue, Absent, Armed, Cut, Off, Opened}
 
 -- ---- a store that is open, while power is not cut
 

@@ -9,10 +9,10 @@ use Rattle.ee_check.specs.declared.change.Change.TheVariants as change
 use Rattle.ee_check.specs.Certificate.{Claim, IsCertificate, IsTight}
 use Rattle.ee_check.specs.Live.{KeepsWithin}
 use Rattle.ee_check.specs.Schedule.{IsSchedule, Move, Situation, after_moves, cost}
-use Rattle.ee_script.specs.declared.command.Command.{Command}
-use Rattle.ee_script.specs.declared.command.Command.TheVariants.{Write, Forget}
-use Rattle.ee_script.specs.declared.answer.Answer.{Answer}
-use Rattle.ee_script.specs.declared.answer.Answer.TheVariants.{Appended, Moved}
+use Rattle.ee_interface.specs.declared.script.command.Command.{Command}
+use Rattle.ee_interface.specs.declared.script.command.Command.TheVariants.{Write, Forget}
+use Rattle.ee_interface.specs.declared.script.answer.Answer.{Answer}
+use Rattle.ee_interface.specs.declared.script.answer.Answer.TheVariants.{Appended, Moved}
 
 -- each write and each forgetting of a script, as a change of a trace
 abbrev pub trace_of : List Command → List Change

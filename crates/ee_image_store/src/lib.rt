@@ -1,13 +1,23 @@
-//! What the commands of `ee` on images share: the store that is opened of an image's text, the text
-//! that is left of a device, and what a command gives that changes an image.
+//! What the commands on images share: the store that is opened of an image's text, the text that is
+//! left of a device, and the report machine, which answers a script.
+//!
+//! # What a contract sees
 //!
 //! `specs/Opening.antt` says what is opened and what is left, `specs/FileFaults.antt` why nothing
-//! is, as the program tells it, `specs/Machine.antt` is the report machine, which answers a
-//! script's commands, `specs/Erases.antt` and `specs/Steps.antt` say what its answers erase, and
-//! `specs/Trace.antt` what changes a script makes and when its moves are the fewest.
+//! is, `specs/Machine.antt` what a command is answered and leaves, `specs/Trace.antt` which changes
+//! a script makes and when its moves are the fewest.
 //!
-//! What the layers above may use: these calls, each with its faults. They are for `ee_replay`,
-//! `ee_commands`, `ee_by_name` and `ee_part`; what those give stands in `ee_shell`.
+//! # What is proved
+//!
+//! Of these calls each its relation, and each fault under its cause.
+//!
+//! # What is only tested
+//!
+//! Nothing.
+//!
+//! # Read first
+//!
+//! `specs/Machine.antt`.
 #![tactic(auto)]
 
 mod opening;

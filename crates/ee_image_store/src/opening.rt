@@ -5,9 +5,9 @@ ghost use Rattle.ee_core.specs.Openings.{IsFormatted, Opens};
 ghost use Rattle.ee_image_store.specs.Opening.{IsNewStore, IsOpenFault, IsOpened, IsStoreLeft, SpellsDevice, StaysOn};
 
 use ee_core::{OpenFault, Store, format, open};
-use ee_faults::ReplayFault;
 use ee_flash::{Flash, MemFlash, Shape};
 use ee_image::{read_image, write_image};
+use ee_interface::ReplayFault;
 use ee_pages::ScanFault;
 use std::alloc::{AllocError, Allocator, Global};
 

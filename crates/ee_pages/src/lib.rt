@@ -1,36 +1,30 @@
 //! What an image means: page states, the live set, its slots and the map that they hold.
 //!
-//! A set is a list of pages. `specs/Page.antt` says what a page's header and words say,
-//! `specs/Sets.antt` which set is live and what its slots are, `specs/Meaning.antt` which map the
-//! slots hold, `specs/LiveOrder.antt` which live addresses come next, `specs/Loading.antt` which
-//! values a list of addresses has, `specs/Legal.antt` which
-//! images a store can work on, `specs/Layout.antt` what a scan finds, and `specs/Rescue.antt` what
-//! is rescued of any image, with `specs/RescuedSets.antt` and `specs/RescueLaws.antt`. All of it is
-//! a function or a relation of the device.
+//! # What a contract sees
 //!
-//! The layers above may use: a scan is `Ok` exactly on a legal image; the readers give the image's
-//! values; a mark is one step at most, and none where its word is written; and `laws` says what
-//! every outcome of a step keeps. Nothing here takes memory.
+//! `specs/Page.antt` says what a page's header and words say, `specs/Sets.antt` which set is live,
+//! `specs/Meaning.antt` which map its slots hold, `specs/Legal.antt` which images a store can work
+//! on, `specs/Layout.antt` what a scan finds, `specs/Rescue.antt` what is rescued of any image.
 //!
 //! # What is proved
 //!
-//! `scan` gives the live set, its generation, its fill and its last used page exactly on a legal
-//! image, and else the first fault that applies (`layout`, `fault`, `legal`); `state_of`,
-//! `is_blank`, `slot_word`, `latest`, `next_live`, `live_count` are their definitions, forgettings
-//! included, of any device but for `latest`; `next_batch` gives the next live addresses, one after
-//! another, with their values, and up to where there are no others (`live`, `proper`); `load` gives
-//! each entry of a list the value of its address; `torn_slots`
-//! is how many slots of the live set are torn; `mark` takes no step where its word is written, and
-//! else programs that word alone (`present`, `on`, `done`, `cut`). `laws`: every outcome of a step
-//! in the set that is not live, whole or cut, keeps the live set, its fill and its meaning, and the
-//! image legal, unless the step can commit that set; a step leaves other pages as they were; a
-//! program leaves its page written, or all as it was; every outcome of a commit keeps the live set
-//! or makes the filled one live; how many pages aren't blank after an erase or a program; how many
-//! addresses are live after a change, and that each takes a slot; what a mark and what a change in
-//! the first free slot leave of the live set; and what whole steps make of the set that a transfer
-//! fills. `rescued_side`, `named_generation` and `bad_words` are their definitions, of any device;
-//! `rescued_set` and `is_bad_word` tell which words are bad; and `laws` says what one word that
-//! went bad costs.
+//! `scan` gives the live set, its generation, fill and last used page exactly on a legal image,
+//! else the first fault that applies (`layout`, `fault`, `legal`). `state_of`, `is_blank`,
+//! `slot_word`, `latest`, `next_live`, `live_count`, `torn_slots` are their definitions;
+//! `next_batch` gives the next live addresses with their values (`live`, `proper`), `load` the
+//! value of each address of a list. `mark` takes no step where its word is written, and else
+//! programs that word alone (`present`, `on`, `done`, `cut`). `rescued_side`, `named_generation`
+//! and `bad_words` are their definitions, of any device. `laws`: each outcome of a step, whole or
+//! cut, in the set that is not live keeps the live one and its meaning, unless the step can commit;
+//! what whole steps make of a set; what one bad word costs.
+//!
+//! # What is only tested
+//!
+//! Nothing.
+//!
+//! # Read first
+//!
+//! `specs/Page.antt`, `specs/Sets.antt`, `specs/Meaning.antt`.
 #![tactic(auto)]
 
 mod batch;

@@ -1,3 +1,4 @@
+pub mod PlannerLemmas
 mod Gathering
 mod LiveLists
 mod Starts

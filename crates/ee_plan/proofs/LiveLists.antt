@@ -20,7 +20,7 @@ use Rattle.ee_pages.proofs.Public.{gap_to, live_to-next, live_to-zero}
 use Rattle.ee_check.specs.declared.change.Change.TheVariants.{Forget, Write}
 use Rattle.ee_check.specs.Live.{live_after_one}
 use Rattle.ee_check.proofs.Public.{greater, same, smaller}
-use Rattle.ee_planner.proofs.Public.{from_less, insert_sorted, not_at, remove_sorted}
+use Rattle.ee_plan.proofs.PlannerLemmas.Public.{from_less, insert_sorted, not_at, remove_sorted}
 use Rattle.ee_plan.specs.Start.{AreLive}
 
 -- ---- what a list contains

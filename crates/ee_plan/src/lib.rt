@@ -1,23 +1,38 @@
-//! Plans on a device: the calls of the planner, `ee_planner`, what a store gives a trace to start
-//! from, and what holds of every schedule on a device.
+//! Plans: how few transfers a trace takes, at which changes, how much room they leave, and how
+//! often any schedule erases on a device.
 //!
-//! Certificates and plans stand on no flash; here is what they have to do with one.
+//! `planner` is the store that transfers exactly when each slot is used, without a flash. Its
+//! `Rounds` answers the same of a trace that is made many times over, without writing it out.
 //!
-//! What the layers above may use: the calls, types and definitions of `ee_planner`, whose lemmas
-//! they cite from there; a start is the store's; and `laws` says how often any schedule erases.
+//! # What a contract sees
+//!
+//! Traces, certificates and schedules of `ee_check`; `specs/Start.antt` is what a store gives a
+//! trace to start from.
 //!
 //! # What is proved
 //!
-//! `start_of` gives a store's slots, fill and live addresses, of any `Variables`. `laws`: where no
-//! schedule makes fewer than K transfers, each of them erases the first page of one set K / 2
-//! times, whatever its steps are (`fewest_transfers_wear`). So where a store's calls made no more
-//! transfers, each erases its most worn page as often as they erased theirs, or once less
-//! (`fewest_moves_last`), and as often where no clean step erased a page, and at the start no page
-//! of the other set waited, or its first page did (`fewest_moves_last_as_long`).
+//! `plan` gives the tight certificate of any trace that keeps within the slots, with its positions,
+//! size and room, or names the first change that doesn't fit, want of memory aside (`planned`,
+//! `refused`, `fits`, `names`). Some schedule reaches it, the checker accepts it, and wherever the
+//! trace is broken off no schedule betters it (`reached`, `certificate`, `best`). `demand` of
+//! `Rounds` is the length of the tight certificate of the whole long trace. `start_of` gives a
+//! store's slots, fill and live addresses, of any `Variables`. `laws`: where no schedule makes
+//! fewer than K transfers, each erases the first page of one set K / 2 times
+//! (`fewest_transfers_wear`), so the store's most worn page wears as little, or once more
+//! (`fewest_moves_last`, `fewest_moves_last_as_long`).
+//!
+//! # What is only tested
+//!
+//! Nothing.
+//!
+//! # Read first
+//!
+//! `specs/Planner/Plan.antt`, then `laws`.
 #![tactic(auto)]
 
 pub mod laws;
+pub mod planner;
 mod starting;
 
-pub use ee_planner::{Demand, Plan, PlanFault, Rounds, RoundsFault, plan};
+pub use planner::{Demand, Plan, PlanFault, Rounds, RoundsFault, plan};
 pub use starting::start_of;

@@ -1,12 +1,12 @@
 //! What is asked of the program by its words, and what is said where it is refused.
-use crate::running::{bad_command_line, eprint_bytes, out_of_memory, print, read_file, tell, work};
-use ee_command_line::{Job, job};
-use ee_explain::{
+use crate::explain::{
     help_asked, push_help, push_line_cause, push_remedy, push_unknown_name, push_words_cause,
     why_bad_line,
 };
-use ee_faults::{Fault, File};
-use ee_files::FileLocks;
+use crate::files::FileLocks;
+use crate::running::{bad_command_line, eprint_bytes, out_of_memory, print, read_file, tell, work};
+use ee_interface::command_line::{Job, job};
+use ee_interface::{Fault, File};
 use ee_text::next_line;
 use std::alloc::{AllocError, Global};
 use std::rt::Files;

@@ -1,20 +1,32 @@
-//! What the program `ee` does, apart from its `main`: its jobs over files and standard streams, and
-//! the exit status, on any runtime. What its words ask for is `ee_command_line`, how its faults are
-//! told `ee_faults`, what it does over bytes the crates behind the door `ee_shell`, how a file is
-//! replaced `ee_files`.
+//! What the program `ee` does, apart from its `main`: its jobs over files and standard streams, on
+//! any runtime. `files` replaces the file of an image, and `explain` says beside a refusal what is
+//! wrong and what to type.
 //!
-//! `run` is the program over its words, `run_for` where a terminal may read what it refuses. Beyond
-//! the statuses of what it says itself, it is proved here that nothing goes wrong by itself and
-//! that each call ends.
+//! # What a contract sees
 //!
-//! What the layer above may use: `main` calls `run`, and what it says where its words can't be
-//! had; a runtime over other streams and files runs the same code, if it says by `FileLocks`
-//! how a file is locked.
+//! What the system gives and takes no contract can say. `specs/Files/Saving.antt` has what an error
+//! of the system is to a saving, `specs/Explain/Explaining.antt` the causes of a refusal.
+//!
+//! # What is proved
+//!
+//! That nothing goes wrong by itself and each call ends; that a new file gets its text whole, and
+//! how it is compared with the old one; and that a cause is told exactly where it applies
+//! (`why_no_job`, `unended`, `with_return`, `spaced`, `upper_case`).
+//!
+//! # What is only tested
+//!
+//! That a file has its old text or its new one, whatever fails and whoever else runs.
+//!
+//! # Read first
+//!
+//! `asking.rt`, `running.rt`, and the head of `files/saving.rt`.
 #![tactic(auto)]
 
 mod asking;
+pub mod explain;
+pub mod files;
 mod running;
 
 pub use asking::{run, run_for};
-pub use ee_files::FileLocks;
+pub use files::FileLocks;
 pub use running::{bad_command_line, out_of_memory};

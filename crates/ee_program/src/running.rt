@@ -2,21 +2,21 @@
 //! written.
 ghost use Rattle.std.specs.Prelude.{◌≡◌};
 
-use ee_by_name::{
-    Language, apply_values, get_setting, header_text, list_text, set_setting, stale_text,
-    tidy_image, unset_setting, verify_values,
-};
-use ee_command_line::{HELP, Job, VERSION, read_whole, write_whole};
+use crate::files::{FileLocks, save};
 use ee_commands::{
     check_script, clean_image, forget_all, format_image, plan_script, rescue_image, size_parts,
     states_text, wear_text,
 };
-use ee_faults::{Fault, File, fault_line, status_of};
-use ee_files::{FileLocks, save};
 use ee_flash::Shape;
 use ee_image_store::ImageAndText;
-use ee_part::{Form, export_hex, export_image, import_hex, import_image, inspect_text};
+use ee_interface::command_line::{HELP, Job, VERSION, read_whole, write_whole};
+use ee_interface::{Fault, File, fault_line, status_of};
 use ee_replay::{replay, replay_indexed, try_script};
+use ee_shell::by_name::{
+    Language, apply_values, get_setting, header_text, list_text, set_setting, stale_text,
+    tidy_image, unset_setting, verify_values,
+};
+use ee_shell::part::{Form, export_hex, export_image, import_hex, import_image, inspect_text};
 use std::alloc::Global;
 use std::os::unix::fs::MetadataExt;
 use std::rt::Files;

@@ -2,11 +2,11 @@
 use Rattle.std.proofs.Common.{◌≡◌, ◌∙◌, Bool, List, [], ◌∷◌, ap, false, not, refl, true, rules}
 use Rattle.std.specs.Prelude.{◌&&◌, ◌||◌}
 use Rattle.ee_flash.specs.Size.{Size}
-use Rattle.ee_script.specs.Run.{Run}
-use Rattle.ee_script.specs.declared.answer.Answer.{Answer}
-use Rattle.ee_script.specs.declared.answer.Answer.TheVariants.{Cut, Opened}
-use Rattle.ee_script.specs.declared.command.Command.{Command}
-use Rattle.ee_script.specs.declared.command.Command.TheVariants.{Write, Read, Forget, Clean, Arm, PowerOn}
+use Rattle.ee_interface.specs.Script.Run.{Run}
+use Rattle.ee_interface.specs.declared.script.answer.Answer.{Answer}
+use Rattle.ee_interface.specs.declared.script.answer.Answer.TheVariants.{Cut, Opened}
+use Rattle.ee_interface.specs.declared.script.command.Command.{Command}
+use Rattle.ee_interface.specs.declared.script.command.Command.TheVariants.{Write, Read, Forget, Clean, Arm, PowerOn}
 use Rattle.ee_replay.specs.ArmedCuts.{CutsAreArmed}
 use Rattle.ee_image_store.specs.Machine.{CallStep, Desk, DeskStep, PowerStep, is_arming, is_cut_answer}
 

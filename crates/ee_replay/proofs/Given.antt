@@ -2,13 +2,13 @@
 use Rattle.std.proofs.Common.{◌≡◌, ◌⊎◌, ◌∙◌, ℕ, List, ap, inl, inr, subst, sym, Some, rules}
 use Rattle.std.specs.Prelude.{Option}
 use Rattle.std.specs.Io.KnownBytes.{Consumes}
-use Rattle.ee_script.specs.Script.{IsFirstBadCommandLine}
-use Rattle.ee_script.specs.declared.session.ScriptFault.TheVariants as script
-use Rattle.ee_script.specs.declared.session.StreamFault.TheVariants as stream
-use Rattle.ee_script.proofs.Public.{scripts_are_good_lem, all_given, stream_names}
-use Rattle.ee_faults.specs.ReplayFault.{of_stream}
-use Rattle.ee_faults.specs.declared.replay_fault.ReplayFault.{ReplayFault}
-use Rattle.ee_faults.specs.declared.replay_fault.ReplayFault.TheVariants.{Script, Memory, Read}
+use Rattle.ee_interface.specs.Script.Script.{IsFirstBadCommandLine}
+use Rattle.ee_interface.specs.declared.script.session.ScriptFault.TheVariants as script
+use Rattle.ee_interface.specs.declared.script.session.StreamFault.TheVariants as stream
+use Rattle.ee_interface.proofs.ScriptLemmas.Public.{scripts_are_good_lem, all_given, stream_names}
+use Rattle.ee_interface.specs.ReplayFault.{of_stream}
+use Rattle.ee_interface.specs.declared.replay_fault.ReplayFault.{ReplayFault}
+use Rattle.ee_interface.specs.declared.replay_fault.ReplayFault.TheVariants.{Script, Memory, Read}
 use Rattle.ee_replay.specs.Reading.{IsGiven, IsNotAnswered}
 use Rattle.ee_image_store.specs.Opening.{HasStore, IsOpenFault}
 use Rattle.ee_replay.specs.Replaying.{IsReplayed}

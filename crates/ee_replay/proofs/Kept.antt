@@ -10,11 +10,11 @@ use Rattle.ee_pages.specs.Pending.{address_of}
 use Rattle.ee_core.proofs.Public.{forget-other, put-other, made, apart}
 use Rattle.ee_core.specs.Changes.{HasChange, IsCutAppend, IsCutMove}
 use Rattle.ee_core.specs.State.{State, with_pending}
-use Rattle.ee_script.specs.Run.{Run}
-use Rattle.ee_script.specs.declared.answer.Answer.{Answer}
-use Rattle.ee_script.specs.declared.answer.Answer.TheVariants.{Appended, Moved, Full, Spent, Cleaned, Idle, Value, NoValue, Absent, Armed, Cut, Off, Opened}
-use Rattle.ee_script.specs.declared.command.Command.{Command}
-use Rattle.ee_script.specs.declared.command.Command.TheVariants.{Write, Read, Forget, Clean, Arm, PowerOn}
+use Rattle.ee_interface.specs.Script.Run.{Run}
+use Rattle.ee_interface.specs.declared.script.answer.Answer.{Answer}
+use Rattle.ee_interface.specs.declared.script.answer.Answer.TheVariants.{Appended, Moved, Full, Spent, Cleaned, Idle, Value, NoValue, Absent, Armed, Cut, Off, Opened}
+use Rattle.ee_interface.specs.declared.script.command.Command.{Command}
+use Rattle.ee_interface.specs.declared.script.command.Command.TheVariants.{Write, Read, Forget, Clean, Arm, PowerOn}
 use Rattle.ee_image_store.specs.Machine.{CallStep, CutStep, CutsChange, Desk, DeskStep, PowerStep, MachineStep, StoreStep, is_cut_answer}
 use Rattle.ee_replay.specs.Kept.{Keeps, KeepsChange, command_asks_change_of, change_answered}
 

@@ -11,15 +11,15 @@ use Rattle.ee_check.specs.Live.{KeepsWithin, live_after_one}
 use Rattle.ee_check.specs.Schedule.{Append, Carry, EachMove, IsLate, IsProper, Move, Situation, after_move, after_moves, carried_at, changes_of}
 use Rattle.ee_check.proofs.Public.{changed-le, certificates_bound_schedules_lem, certificates_dominate_lem, late_stores_meet_it_lem, tight_are_certificates_lem, tight_is_met_lem}
 use Rattle.ee_plan.specs.Start.{AreLive, IsStartOf}
-use Rattle.ee_script.specs.Run.{Run}
-use Rattle.ee_script.specs.Script.{AreCommands}
-use Rattle.ee_script.specs.declared.answer.Answer.{Answer}
-use Rattle.ee_script.specs.declared.answer.Answer.TheVariants.{Appended, Moved, Full, Spent, Cleaned, Idle, Value, NoValue, Absent, Armed, Opened}
-use Rattle.ee_script.specs.declared.command.Command.{Command}
-use Rattle.ee_script.specs.declared.command.Command.TheVariants.{Write, Read, Forget, Clean, Arm, PowerOn}
+use Rattle.ee_interface.specs.Script.Run.{Run}
+use Rattle.ee_interface.specs.Script.Script.{AreCommands}
+use Rattle.ee_interface.specs.declared.script.answer.Answer.{Answer}
+use Rattle.ee_interface.specs.declared.script.answer.Answer.TheVariants.{Appended, Moved, Full, Spent, Cleaned, Idle, Value, NoValue, Absent, Armed, Opened}
+use Rattle.ee_interface.specs.declared.script.command.Command.{Command}
+use Rattle.ee_interface.specs.declared.script.command.Command.TheVariants.{Write, Read, Forget, Clean, Arm, PowerOn}
 use Rattle.ee_image_store.specs.Machine.{MachineStep}
 use Rattle.ee_image_store.specs.Trace.{AreFewest, TraceFits, ForgetsWhatIsHeld, NoneEndsWithMoreRoom, accepted_commands, moved_at, moves, map_changes, trace_of}
-use Rattle.ee_planner.proofs.Public.{keeps_more, keeps_tail}
+use Rattle.ee_plan.proofs.PlannerLemmas.Public.{keeps_more, keeps_tail}
 use Rattle.ee_plan.proofs.Public.{live_after_forget, live_after_put, appends, forgetting_fits, length_map, moves_on, not_full, start_stays, stays, write_fits}
 
 -- ---- a run

@@ -17,18 +17,18 @@ use Rattle.ee_check.specs.Certificate.{IsCertificateHeader, IsTight}
 use Rattle.ee_check.specs.Live.{live_after_one}
 use Rattle.ee_check.specs.Schedule.{Append, Carry, IsProper, Situation, after_move}
 use Rattle.ee_check.proofs.Public.{changed-le}
-use Rattle.ee_planner.specs.LateStore.{HasMade}
+use Rattle.ee_plan.specs.Planner.LateStore.{HasMade}
 use Rattle.ee_plan.specs.Start.{AreLive, IsStartOf}
-use Rattle.ee_planner.proofs.Public.{made_more, made_none, whole_tight}
+use Rattle.ee_plan.proofs.PlannerLemmas.Public.{made_more, made_none, whole_tight}
 use Rattle.ee_plan.proofs.Public.{live_after_forget, live_after_put, appends, forgetting_fits, moves_on, start_stays, write_fits}
-use Rattle.ee_script.specs.Run.{Run}
-use Rattle.ee_script.specs.Script.{AreCommands}
-use Rattle.ee_script.specs.Whole.{IsAnswered}
-use Rattle.ee_script.specs.declared.answer.Answer.{Answer}
-use Rattle.ee_script.specs.declared.answer.Answer.TheVariants.{Appended, Moved, Full, Spent, Cleaned, Idle, Value, NoValue, Absent, Armed, Cut, Opened}
-use Rattle.ee_script.specs.declared.command.Command.{Command}
-use Rattle.ee_script.specs.declared.command.Command.TheVariants.{Write, Read, Forget, Clean, Arm, PowerOn}
-use Rattle.ee_script.proofs.Public.{IsAnswered-seen}
+use Rattle.ee_interface.specs.Script.Run.{Run}
+use Rattle.ee_interface.specs.Script.Script.{AreCommands}
+use Rattle.ee_interface.specs.Script.Whole.{IsAnswered}
+use Rattle.ee_interface.specs.declared.script.answer.Answer.{Answer}
+use Rattle.ee_interface.specs.declared.script.answer.Answer.TheVariants.{Appended, Moved, Full, Spent, Cleaned, Idle, Value, NoValue, Absent, Armed, Cut, Opened}
+use Rattle.ee_interface.specs.declared.script.command.Command.{Command}
+use Rattle.ee_interface.specs.declared.script.command.Command.TheVariants.{Write, Read, Forget, Clean, Arm, PowerOn}
+use Rattle.ee_interface.proofs.ScriptLemmas.Public.{IsAnswered-seen}
 use Rattle.ee_core.specs.Finished.{IsStore}
 use Rattle.ee_core.specs.Points.{Point}
 use Rattle.ee_core.specs.Runs.{Forgot, Wrote}

@@ -2,9 +2,9 @@
 use Rattle.std.proofs.Common.{◌≡◌, ◌≢◌, ◌⊎◌, inl, inr, ℕ, List, refl, ap, rules}
 use Rattle.ee_flash.specs.Size.{Size}
 use Rattle.ee_core.specs.State.{State}
-use Rattle.ee_script.proofs.Public.{one_first_bad_line_lem, scripts_are_good_lem}
-use Rattle.ee_faults.specs.declared.replay_fault.ReplayFault.{ReplayFault}
-use Rattle.ee_faults.specs.declared.replay_fault.ReplayFault.TheVariants.{Image, Open, Script, Memory, Read}
+use Rattle.ee_interface.proofs.ScriptLemmas.Public.{one_first_bad_line_lem, scripts_are_good_lem}
+use Rattle.ee_interface.specs.declared.replay_fault.ReplayFault.{ReplayFault}
+use Rattle.ee_interface.specs.declared.replay_fault.ReplayFault.TheVariants.{Image, Open, Script, Memory, Read}
 use Rattle.ee_replay.specs.Replaying.{IsReplayFault, IsReplayed, IsScriptRun, IsRunFault}
 use Rattle.ee_image_store.proofs.Public.{one_open_fault, store_is_good}
 

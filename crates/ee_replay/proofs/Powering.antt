@@ -30,8 +30,8 @@ use Rattle.ee_flash.specs.declared.fuse.Fuse.{Fuse}
 use Rattle.ee_replay.specs.Desk.{CallsAtDesk, SaysTheSame, Stand, stand_of}
 use Rattle.ee_core.specs.Lookups.{slots_by}
 use Rattle.ee_flash.specs.declared.word.Word.{Word}
-use Rattle.ee_script.specs.declared.answer.Answer.{Answer}
-use Rattle.ee_script.specs.declared.answer.Answer.TheVariants.{Cut, Opened}
+use Rattle.ee_interface.specs.declared.script.answer.Answer.{Answer}
+use Rattle.ee_interface.specs.declared.script.answer.Answer.TheVariants.{Cut, Opened}
 use Rattle.ee_replay.specs.Serving.{ArmsItsFuse, IsSound, PowerAnswers, with_cut_to_come}
 
 pub state_armed : (device : Device) → state_of (with_cut_to_come device) ≡ state_of device

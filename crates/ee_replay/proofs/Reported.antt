@@ -6,13 +6,13 @@ use Rattle.ee_flash.specs.Size.{slot_count}
 use Rattle.ee_check.specs.Schedule.{IsProper, Situation}
 use Rattle.ee_check.specs.Text.{text_of}
 use Rattle.ee_plan.specs.Start.{IsStartOf}
-use Rattle.ee_script.specs.Answer.{report}
-use Rattle.ee_script.specs.Script.{IsFirstBadCommandLine}
-use Rattle.ee_script.proofs.Public.{scripts_are_good_lem}
+use Rattle.ee_interface.specs.Script.Answer.{report}
+use Rattle.ee_interface.specs.Script.Script.{IsFirstBadCommandLine}
+use Rattle.ee_interface.proofs.ScriptLemmas.Public.{scripts_are_good_lem}
 use Rattle.ee_pages.specs.Meaning.{live_in}
 use Rattle.ee_core.specs.State.{State, state_of}
 use Rattle.ee_core.specs.Points.{Point}
-use Rattle.ee_script.specs.Run.{Run}
+use Rattle.ee_interface.specs.Script.Run.{Run}
 use Rattle.ee_image_store.specs.Machine.{Desk, DeskStep, desk_with, was_cut}
 use Rattle.ee_replay.specs.Report.{IsReported, cut_report_text, desk_line, end_line}
 use Rattle.ee_replay.specs.Serving.{IsServed, IsTraced, Notes, claim_noted, desk_of, serving_on, stand_on}

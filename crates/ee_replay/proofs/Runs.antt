@@ -8,11 +8,11 @@ use Rattle.ee_flash.specs.Device.{Device}
 use Rattle.ee_flash.specs.Size.{Size}
 use Rattle.ee_core.specs.Runs.{Call, Follows, IsRun, IsWholeRun, is_cut}
 use Rattle.ee_core.specs.State.{state_of}
-use Rattle.ee_script.specs.declared.command.Command.{Command}
-use Rattle.ee_script.specs.declared.command.Command.TheVariants.{Write, Read, Forget, Clean, Arm, PowerOn}
-use Rattle.ee_script.specs.declared.answer.Answer.{Answer}
-use Rattle.ee_script.specs.declared.answer.Answer.TheVariants.{Appended, Moved, Full, Spent, Cleaned, Idle, Value, NoValue, Absent, Armed, Opened}
-use Rattle.ee_script.specs.Run.{Run}
+use Rattle.ee_interface.specs.declared.script.command.Command.{Command}
+use Rattle.ee_interface.specs.declared.script.command.Command.TheVariants.{Write, Read, Forget, Clean, Arm, PowerOn}
+use Rattle.ee_interface.specs.declared.script.answer.Answer.{Answer}
+use Rattle.ee_interface.specs.declared.script.answer.Answer.TheVariants.{Appended, Moved, Full, Spent, Cleaned, Idle, Value, NoValue, Absent, Armed, Opened}
+use Rattle.ee_interface.specs.Script.Run.{Run}
 use Rattle.ee_image_store.specs.Erases.{ErasesRise, erases_left_by, erases_of_all}
 use Rattle.ee_image_store.specs.Machine.{MachineStep, is_arming}
 use Rattle.ee_replay.specs.Serving.{UncutLineAnswers, call_of_command, calls_of, is_armed_by, with_call}

@@ -13,11 +13,11 @@ use Rattle.ee_core.specs.declared.variables.ForgetFault.TheVariants as forgettin
 use Rattle.ee_core.specs.declared.variables.WriteFault.TheVariants as fault
 use Rattle.ee_core.specs.declared.variables.Written.TheVariants as written
 use Rattle.ee_core.proofs.Public.{Aged, Ages, ages, none_more, one_more, stays, wears_at_most}
-use Rattle.ee_script.specs.Run.{Run}
-use Rattle.ee_script.specs.declared.answer.Answer.{Answer}
-use Rattle.ee_script.specs.declared.answer.Answer.TheVariants.{Appended, Moved, Full, Spent, Cleaned, Idle, Value, NoValue, Absent, Armed, Opened}
-use Rattle.ee_script.specs.declared.command.Command.{Command}
-use Rattle.ee_script.specs.declared.command.Command.TheVariants.{Write, Read, Forget, Clean, Arm, PowerOn}
+use Rattle.ee_interface.specs.Script.Run.{Run}
+use Rattle.ee_interface.specs.declared.script.answer.Answer.{Answer}
+use Rattle.ee_interface.specs.declared.script.answer.Answer.TheVariants.{Appended, Moved, Full, Spent, Cleaned, Idle, Value, NoValue, Absent, Armed, Opened}
+use Rattle.ee_interface.specs.declared.script.command.Command.{Command}
+use Rattle.ee_interface.specs.declared.script.command.Command.TheVariants.{Write, Read, Forget, Clean, Arm, PowerOn}
 use Rattle.ee_image_store.specs.Machine.{was_cut}
 use Rattle.ee_image_store.specs.Trace.{moved_at, moves}
 use Rattle.ee_replay.specs.Desk.{Stand}

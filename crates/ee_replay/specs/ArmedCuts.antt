@@ -1,9 +1,9 @@
 -- What holds of every run at a desk.
 use Rattle.std.specs.Prelude.{◌≡◌, ◌&&◌, ◌||◌, Bool, not, true, List, ◌∷◌}
 use Rattle.ee_flash.specs.Size.{Size}
-use Rattle.ee_script.specs.Run.{Run}
-use Rattle.ee_script.specs.declared.answer.Answer.{Answer}
-use Rattle.ee_script.specs.declared.command.Command.{Command}
+use Rattle.ee_interface.specs.Script.Run.{Run}
+use Rattle.ee_interface.specs.declared.script.answer.Answer.{Answer}
+use Rattle.ee_interface.specs.declared.script.command.Command.{Command}
 use Rattle.ee_image_store.specs.Machine.{Desk, DeskStep, is_arming, is_cut_answer}
 
 -- A line is answered `cut` only where a cut is to come, as it is, or not, before the first line.

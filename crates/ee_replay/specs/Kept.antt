@@ -5,11 +5,11 @@ use Rattle.ee_pages.specs.Meaning.{Change, Map, Put, map_after}
 use Rattle.ee_pages.specs.Meaning as meaning
 use Rattle.ee_pages.specs.Pending.{address_of}
 use Rattle.ee_core.specs.Changes.{HasChange}
-use Rattle.ee_script.specs.declared.command.Command.{Command}
-use Rattle.ee_script.specs.declared.command.Command.TheVariants.{Write, Read, Forget}
-use Rattle.ee_script.specs.declared.answer.Answer.{Answer}
-use Rattle.ee_script.specs.declared.answer.Answer.TheVariants.{Appended, Moved, Value, NoValue, Cut}
-use Rattle.ee_script.specs.Run.{Run}
+use Rattle.ee_interface.specs.declared.script.command.Command.{Command}
+use Rattle.ee_interface.specs.declared.script.command.Command.TheVariants.{Write, Read, Forget}
+use Rattle.ee_interface.specs.declared.script.answer.Answer.{Answer}
+use Rattle.ee_interface.specs.declared.script.answer.Answer.TheVariants.{Appended, Moved, Value, NoValue, Cut}
+use Rattle.ee_interface.specs.Script.Run.{Run}
 
 -- A change answered `ok` or `moved` is made; one in which power is cut is made or not; no other is.
 abbrev pub KeepsChange : Change → Map → Answer → Map → Type 0

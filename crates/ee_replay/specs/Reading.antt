@@ -3,10 +3,10 @@
 use Rattle.std.specs.Prelude.{◌≡◌, ◌⊎◌, Option, List, ℕ}
 use Rattle.std.specs.Io.KnownBytes.{Consumes, IsAtEnd, Keeps}
 use Rattle.ee_flash.specs.Device.{Device}
-use Rattle.ee_script.specs.Reading.{IsStreamFault}
-use Rattle.ee_script.specs.declared.session.StreamFault.{StreamFault}
-use Rattle.ee_faults.specs.ReplayFault.{of_stream}
-use Rattle.ee_faults.specs.declared.replay_fault.ReplayFault.{ReplayFault}
+use Rattle.ee_interface.specs.Script.Reading.{IsStreamFault}
+use Rattle.ee_interface.specs.declared.script.session.StreamFault.{StreamFault}
+use Rattle.ee_interface.specs.ReplayFault.{of_stream}
+use Rattle.ee_interface.specs.declared.replay_fault.ReplayFault.{ReplayFault}
 use Rattle.ee_image_store.specs.Opening.{IsOpenFault, IsStoreText}
 
 -- the reader gave this text, and has no more

@@ -6,9 +6,9 @@ use Rattle.ee_core.specs.Points.{Point}
 use Rattle.ee_core.specs.Openings.{IsFormatted, Opens}
 use Rattle.ee_core.specs.Runs.{WearsAtMost}
 use Rattle.ee_core.specs.State.{State, WearRises, formatted_state, state_of}
-use Rattle.ee_script.specs.Script.{IsFirstBadCommandLine}
-use Rattle.ee_faults.specs.declared.replay_fault.ReplayFault.{ReplayFault}
-use Rattle.ee_faults.specs.declared.replay_fault.ReplayFault.TheVariants.{Image, Open, Script, Memory, Read}
+use Rattle.ee_interface.specs.Script.Script.{IsFirstBadCommandLine}
+use Rattle.ee_interface.specs.declared.replay_fault.ReplayFault.{ReplayFault}
+use Rattle.ee_interface.specs.declared.replay_fault.ReplayFault.TheVariants.{Image, Open, Script, Memory, Read}
 use Rattle.ee_image_store.specs.Erases.{ErasesRise, erases_of_all}
 use Rattle.ee_image_store.specs.Opening.{IsOpenFault, IsStoreText, SpellsDevice}
 use Rattle.ee_image_store.specs.Machine.{was_cut}

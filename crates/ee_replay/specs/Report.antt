@@ -9,11 +9,11 @@ use Rattle.ee_check.specs.Schedule.{Situation}
 use Rattle.ee_check.specs.Text.{text_of}
 use Rattle.ee_plan.specs.Start.{IsStartOf}
 use Rattle.ee_plan.specs.Wearing.{NoneWearsLess}
-use Rattle.ee_script.specs.Answer.{report}
-use Rattle.ee_script.specs.Run.{Run}
-use Rattle.ee_script.specs.Script.{IsScript}
-use Rattle.ee_script.specs.declared.answer.Answer.{Answer}
-use Rattle.ee_script.specs.declared.command.Command.{Command}
+use Rattle.ee_interface.specs.Script.Answer.{report}
+use Rattle.ee_interface.specs.Script.Run.{Run}
+use Rattle.ee_interface.specs.Script.Script.{IsScript}
+use Rattle.ee_interface.specs.declared.script.answer.Answer.{Answer}
+use Rattle.ee_interface.specs.declared.script.command.Command.{Command}
 use Rattle.ee_image_store.specs.Machine.{Desk, DeskStep, MachineStep, desk_with, was_cut}
 use Rattle.ee_replay.specs.Kept.{Keeps}
 use Rattle.ee_image_store.specs.Trace.{AreFewest, TraceFits, NoneEndsWithMoreRoom, accepted_commands, moves, map_changes, trace_of}

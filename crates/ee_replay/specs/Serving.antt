@@ -21,12 +21,12 @@ use Rattle.ee_check.specs.declared.certificate.Stretch.{Stretch}
 use Rattle.ee_check.specs.Certificate.{Claim, IsTight}
 use Rattle.ee_check.specs.Schedule.{IsProper, Situation}
 use Rattle.ee_plan.specs.Start.{IsStartOf}
-use Rattle.ee_script.specs.declared.command.Command.{Command}
-use Rattle.ee_script.specs.declared.command.Command.TheVariants.{Write, Read, Forget, Clean, Arm, PowerOn}
-use Rattle.ee_script.specs.declared.answer.Answer.{Answer}
-use Rattle.ee_script.specs.declared.answer.Answer.TheVariants.{Appended, Moved, Full, Spent, Cleaned, Idle, Value, NoValue, Absent, Armed, Cut, Off, Opened}
-use Rattle.ee_script.specs.Run.{Run}
-use Rattle.ee_script.specs.Whole.{IsAnswered}
+use Rattle.ee_interface.specs.declared.script.command.Command.{Command}
+use Rattle.ee_interface.specs.declared.script.command.Command.TheVariants.{Write, Read, Forget, Clean, Arm, PowerOn}
+use Rattle.ee_interface.specs.declared.script.answer.Answer.{Answer}
+use Rattle.ee_interface.specs.declared.script.answer.Answer.TheVariants.{Appended, Moved, Full, Spent, Cleaned, Idle, Value, NoValue, Absent, Armed, Cut, Off, Opened}
+use Rattle.ee_interface.specs.Script.Run.{Run}
+use Rattle.ee_interface.specs.Script.Whole.{IsAnswered}
 use Rattle.ee_image_store.specs.Erases.{ErasesRise, erases_of_all}
 use Rattle.ee_image_store.specs.Machine.{Desk, is_arming, was_cut}
 use Rattle.ee_replay.specs.Desk.{Stand}

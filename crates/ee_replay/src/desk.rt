@@ -20,12 +20,12 @@ use ee_check::Start;
 use ee_codec::Address;
 use ee_core::inner::{Known, clean, open_on, parts_of, store_of};
 use ee_core::{ForgetFault, Lookup, Off, OpenFault, Slots, Store, WriteFault, Written};
-use ee_faults::ReplayFault;
 use ee_flash::{Cut, Flash, Fuse, MemFlash};
 use ee_image_store::open_image;
 use ee_index::inner::{Costs, index_of};
+use ee_interface::ReplayFault;
+use ee_interface::script::Answer;
 use ee_plan::start_of;
-use ee_script::Answer;
 use std::alloc::{AllocError, Allocator, Global};
 use std::marker::Model;
 

@@ -1,15 +1,31 @@
-//! The commands of `ee` that answer a script.
+//! The commands that answer a script, a crate apart for the prover's sake: `replay` on the image
+//! that a text spells, `replay_reader` from a stream, `try_script` on a formatted image,
+//! `replay_indexed` on a store with an index. `replay` makes an index while it runs, where that
+//! pays (`desk.rt`).
 //!
-//! `replay` and `try_script` answer a script, on the image that a text spells and on a formatted
-//! one; `replay_indexed` does so on a store with an index, and `replay` on one that makes an index
-//! while it runs, where that pays (`desk.rt`). Their contract is the report machine
-//! (`Machine.antt` of `ee_image_store`): the report is that of a run of it, and the new image has
-//! the state that the run came to (`specs/Replaying.antt`). The report ends with a certificate,
-//! and the contract says what it shows: no store moves less often (`specs/Report.antt`, and
-//! `Trace.antt` of `ee_image_store`).
+//! # What a contract sees
 //!
-//! What the layers above may use: these calls, each with its faults. What is proved of them the
-//! head of `ee_shell` says.
+//! The report machine (`specs/Machine.antt` of `ee_image_store`): the report is that of a run of
+//! it, and the new image has the state that the run came to (`specs/Replaying.antt`,
+//! `specs/Report.antt`).
+//!
+//! # What is proved
+//!
+//! The answers are a run of the machine from the store that the text spells to the one whose text
+//! the new image is, by the clause of each call, whole or cut (`replayed`, `tried`); whatever is
+//! cut, an answered change is kept and each read is the map at its point (`kept`). Where no line is
+//! answered `cut`, the moves are the fewest, and the certificate says so (`uncut`). Or the first
+//! cause is named that applies, and none is passed over (`fault`, `names`, `bad`). `laws`: a change
+//! that was answered is in the new image, unless a later line changes its address; a fuse cuts once
+//! at most.
+//!
+//! # What is only tested
+//!
+//! That the store of `replay_indexed` keeps an index.
+//!
+//! # Read first
+//!
+//! `specs/Replaying.antt`, `specs/Report.antt`.
 #![tactic(auto)]
 
 mod desk;

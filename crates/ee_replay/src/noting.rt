@@ -2,11 +2,11 @@
 ghost use Rattle.std.specs.Prelude.{◌≡◌, ◌<◌, ◌+◌, ◌^◌, IfOk, OnErr, OnOk, length};
 ghost use Rattle.ee_check.specs.Certificate.{claim_of};
 ghost use Rattle.ee_replay.specs.Serving.{claim_noted, no_notes, notes_after, stored_answer};
-ghost use Rattle.ee_script.specs.declared.answer.Answer.TheVariants.{Cut, Moved};
+ghost use Rattle.ee_interface.specs.declared.script.answer.Answer.TheVariants.{Cut, Moved};
 
 use ee_check::{Certificate, Start, Stretch};
 use ee_core::Written;
-use ee_script::Answer;
+use ee_interface::script::Answer;
 use std::alloc::{AllocError, Allocator, Global};
 use std::marker::Model;
 

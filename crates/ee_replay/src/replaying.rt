@@ -7,22 +7,22 @@ ghost use Rattle.ee_check.specs.Schedule.{IsProper};
 ghost use Rattle.ee_core.specs.Points.{open_point};
 ghost use Rattle.ee_core.specs.State.{state_of};
 ghost use Rattle.ee_plan.specs.Start.{IsStartOf};
-ghost use Rattle.ee_script.specs.Script.{IsFirstBadCommandLine};
+ghost use Rattle.ee_interface.specs.Script.Script.{IsFirstBadCommandLine};
 ghost use Rattle.ee_replay.specs.Serving.{IsTraced};
 ghost use Rattle.ee_replay.specs.Replaying.{IsReplayFault, IsReplayed, IsRunFault, IsRunOn, IsTried};
 ghost use Rattle.ee_replay.specs.Reading.{IsGiven, IsNotAnswered, IsReaderFault};
 ghost use Rattle.ee_image_store.specs.Opening.{HasStore, IsOpenFault, StaysOn};
-ghost use Rattle.ee_faults.specs.Causes.{NamesEach};
+ghost use Rattle.ee_interface.specs.Causes.{NamesEach};
 
 use super::desk::{Desk, Kind};
 use super::reporting::report_on;
 use super::serving::Server;
 use ee_check::Start;
-use ee_command_line::MOST_READS;
-use ee_faults::ReplayFault;
 use ee_flash::{MemFlash, Shape};
 use ee_image_store::{new_store, text_of};
-use ee_script::{answer_reader, answer_script};
+use ee_interface::ReplayFault;
+use ee_interface::command_line::MOST_READS;
+use ee_interface::script::{answer_reader, answer_script};
 use std::alloc::{Allocator, Global};
 use std::io::Read;
 

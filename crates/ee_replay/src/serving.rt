@@ -1,6 +1,6 @@
 //! What serves a script's commands at a desk.
 ghost use Rattle.std.specs.Prelude.{◌≡◌, IfOk};
-ghost use Rattle.ee_script.specs.declared.command.Command.TheVariants.{Write, Read, Forget, Clean, Arm, PowerOn};
+ghost use Rattle.ee_interface.specs.declared.script.command.Command.TheVariants.{Write, Read, Forget, Clean, Arm, PowerOn};
 ghost use Rattle.ee_core.specs.Finished.{IsStore};
 ghost use Rattle.ee_core.specs.Points.{open_point};
 ghost use Rattle.ee_core.specs.State.{state_of};
@@ -13,7 +13,7 @@ use super::noting::Notes;
 use ee_codec::Address;
 use ee_core::{ForgetFault, Off, WriteFault};
 use ee_flash::Fuse;
-use ee_script::{Answer, Command, Serve};
+use ee_interface::script::{Answer, Command, Serve};
 use std::alloc::{AllocError, Allocator, Global};
 
 /// A desk, and what is noted of the changes that the store on it accepted.

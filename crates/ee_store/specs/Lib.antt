@@ -1,3 +1,4 @@
+pub mod PowerCuts
 pub use Rattle.ee_core.specs.State
 pub use Rattle.ee_core.specs.Picture
 pub use Rattle.ee_core.specs.Finished
@@ -13,10 +14,10 @@ pub use Rattle.ee_core.specs.PageStates
 pub use Rattle.ee_core.specs.Starts
 pub use Rattle.ee_core.specs.Rescues
 pub use Rattle.ee_index.specs.Index
-pub use Rattle.ee_bench.specs.Events
-pub use Rattle.ee_bench.specs.Outcome
-pub use Rattle.ee_bench.specs.Bench
-pub use Rattle.ee_pairs.specs.Nor
-pub use Rattle.ee_pairs.specs.Pairs
-pub use Rattle.ee_pairs.specs.Wiping
-pub use Rattle.ee_pairs.specs.Laws
+pub use Rattle.ee_store.specs.PowerCuts.Events
+pub use Rattle.ee_store.specs.PowerCuts.Outcome
+pub use Rattle.ee_store.specs.PowerCuts.Bench
+pub use Rattle.ee_nor.specs.Nor
+pub use Rattle.ee_nor.specs.Pairs
+pub use Rattle.ee_nor.specs.Wiping
+pub use Rattle.ee_nor.specs.Laws

@@ -1,20 +1,38 @@
-//! The store: a map of addresses to values in a flash device, through power cuts.
+//! The store for those who build on it: what `ee_core`, `ee_index` and `ee_nor` have, under one
+//! name, and `power_cuts`, which drives a store by a list of events. `ee_core` and `ee_index` are
+//! crates apart for the prover's sake.
 //!
-//! Three crates have it: `ee_core` the store itself, its contract `Variables` and how it comes to
-//! be; `ee_index` a store that keeps an index in memory, of its own or lent; `ee_bench` what
-//! drives a store by a list of events through power cuts and openings. The last two stand side by
-//! side on the first, and a layer above waits for those alone that it names. A flash that has no
-//! words of 64 bits with error correction gets them by `Pairs` (`ee_pairs`), from numbers that a
-//! driver gives as a `Nor`.
+//! # What a contract sees
+//!
+//! `Variables` (`ee_core`), and of `drive` a list of events and their answers
+//! (`specs/PowerCuts/Events.antt`, `Outcome.antt`).
+//!
+//! # What is proved
+//!
+//! Of the calls what the heads of their crates say. `drive` puts any list of events to a store,
+//! openings and power cuts among them: each is answered by the clause of its call, and from any
+//! legal image no change that was answered is lost, whatever is cut and however often; of values
+//! written at once that met a cut all are there, or none (`driven`, `no_answered_change_is_lost`,
+//! `a_kept_change_stays`). Where memory for the answers is refused, the device is as it was
+//! (`refused`).
+//!
+//! # What is only tested
+//!
+//! Nothing.
+//!
+//! # Read first
+//!
+//! `specs/PowerCuts/Outcome.antt`.
 #![tactic(auto)]
 
 pub mod laws;
+pub mod power_cuts;
 
-pub use ee_bench::{Answer, Driven, Event, drive};
 pub use ee_core::{
     ClearFault, ForgetFault, LiveBatch, Off, OpenFault, Put, RescueFault, Rescued, Store,
     Variables, WriteAllFault, WriteFault, Written, bad_words, count_pending, format, open, rescue,
     rescue_uncounted, start,
 };
 pub use ee_index::{Entry, IndexedFault, IndexedStore, LentIndex, OpenIndexed, open_indexed};
-pub use ee_pairs::{LowPair, Nor, Pairs};
+pub use ee_nor::{LowPair, Nor, Pairs};
+pub use power_cuts::{Answer, Driven, Event, drive};

@@ -21,7 +21,7 @@ ORDER = {
     "ee_core": "change puts marking cleaning live_cursor copying moving writing changing lookup "
                "variables known store formatting opening first_start rescuing",
     "ee_index": "entries listing lent_list entering reading lent_cursor index_changing lent_index",
-    "ee_pairs": "nor pairs runs low_pair wiping",
+    "ee_nor": "nor pairs runs low_pair wiping",
 }
 LOOKUPS = "value_of live_count live_with next_live make_ready make_room append transfer find_nothing".split()
 # What the parts by hand call.

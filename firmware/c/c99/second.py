@@ -9,7 +9,7 @@ from collections import namedtuple
 
 TOKEN = re.compile(r"0x[0-9a-fA-F_]+|\d[\d_]*|[A-Za-z_]\w*|\.\.|::|->|=>|==|!=|<=|>=|&&|\|\||<<|>>"
                    r"|\+\+|--|\+=|-=|[^\s\w]")
-FOLDERS = ("ee_flash", "ee_codec", "ee_pages", "ee_core", "ee_index", "ee_pairs")
+FOLDERS = ("ee_flash", "ee_codec", "ee_pages", "ee_core", "ee_index", "ee_nor")
 OPERATORS = {"&&", "||", "+", "-", "*", "/", "%", "<<", ">>", "&", "|", "+=", "-=", "<", "<=", ">",
              ">="}
 # Signs behind which `&`, `*` and `-` have one operand.

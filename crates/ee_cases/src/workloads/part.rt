@@ -2,8 +2,8 @@
 use super::dice::Dice;
 use super::digest::Digest;
 use super::job::Job;
-use ee_faults::Fault;
 use ee_flash::Shape;
+use ee_interface::Fault;
 use ee_shell::{ImageAndText, format_image, replay};
 use ee_text::push_number_behind;
 use std::alloc::Global;

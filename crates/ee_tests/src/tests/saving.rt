@@ -4,7 +4,7 @@
 use super::trail::Trail;
 use crate::tests::same;
 use ee_fakes::images::{CLEANED, FORMATTED, ONE_MOVE, TWO_MOVES};
-use ee_files::SaveFault;
+use ee_program::files::SaveFault;
 use std::fs;
 
 /// The calls by which a plain file is replaced.

@@ -2,7 +2,7 @@
 use crate::tests::same;
 use ee_fakes::images::{CERTIFICATE, FORMATTED, REPORT, SCRIPT, TWO_MOVES};
 use ee_fakes::{FailingReader, FailingWriter, LastValue, Stop};
-use ee_script::{StreamFault, answer_reader};
+use ee_interface::script::{StreamFault, answer_reader};
 use ee_shell::{
     MOST_BYTES, MOST_READS, ReadFault, ReplayFault, Stopped, read_whole, replay, replay_reader,
     write_whole,

@@ -3,7 +3,7 @@
 ghost use Rattle.std.specs.Prelude.{◌≤◌};
 
 use ee_fakes::images::{ONE_MOVE, TWO_MOVES};
-use ee_files::{FileLocks, SaveFault, save};
+use ee_program::files::{FileLocks, SaveFault, save};
 use std::alloc::{Allocator, Global};
 use std::cell::Cell;
 use std::fs::{File, Metadata, OpenFile, OpenOptions, Permissions, TryLockError};

@@ -41,7 +41,7 @@ mod ee_pages;
 #[allow(dead_code, unused_imports, unused_variables)]
 #[allow(clippy::complexity, clippy::style)]
 #[rustfmt::skip]
-mod ee_pairs;
+mod ee_nor;
 #[allow(dead_code, unused_imports, unused_variables)]
 #[allow(clippy::complexity, clippy::must_use_candidate, clippy::style)]
 #[rustfmt::skip]
@@ -99,6 +99,6 @@ pub mod proved {
     pub use crate::ee_flash::{Cut, Flash};
     pub use crate::ee_index::{Entry, LentIndex};
     pub use crate::ee_pages::ScanFault;
-    pub use crate::ee_pairs::{Nor, Pairs};
+    pub use crate::ee_nor::{Nor, Pairs};
     pub use crate::part::holds_more;
 }

@@ -12,7 +12,7 @@
 
 use crate::driver::{Driver, Kind};
 use crate::ee_flash::{Shape, Word};
-use crate::ee_pairs::{complement_of, is_low, word_of};
+use crate::ee_nor::{complement_of, is_low, word_of};
 use crate::error::{NorError, OpenError, Unfit};
 use crate::storage::{borrowed, NorFlash, ReadNorFlash};
 use crate::store::Store;

@@ -2,8 +2,8 @@
 
 use crate::driver::{Driver, Kind};
 use crate::ee_flash::{Cut, Flash, Shape, Word};
+use crate::ee_nor::{self as proved, LowPair, Nor};
 use crate::ee_pages::{blank_to, is_blank};
-use crate::ee_pairs::{self as proved, LowPair, Nor};
 use crate::error::{DriverError, Step};
 use core::cell::{Cell, RefCell};
 

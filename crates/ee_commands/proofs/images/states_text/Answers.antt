@@ -1,7 +1,7 @@
 use Rattle.std.proofs.Common.{rules}
 use Rattle.std.proofs.lemmas.Result.{err_from_is_err_and}
 use Rattle.ee_flash.specs.Memory.{device_of}
-use Rattle.ee_faults.specs.declared.fault.File.TheVariants.{Image}
+use Rattle.ee_interface.specs.declared.fault.File.TheVariants.{Image}
 use Rattle.ee_image_store.proofs.Public.{no_memory_for, reading_good, reading_named, formed_of}
 use Rattle.ee_commands.proofs.PageStates.{are_states}
 use Rattle.ee_commands.proofs.images.states_text.Goals as goal

@@ -1,8 +1,8 @@
 use Rattle.std.proofs.Common.{◌≡◌, ◌⊎◌, rules}
 use Rattle.ee_text.proofs.Public.{error_passed_on, passed_on}
 use Rattle.ee_check.specs.Certificate.{claim_of}
-use Rattle.ee_faults.specs.declared.fault.Fault.TheVariants.{Memory}
-use Rattle.ee_faults.specs.Fault.{fault_of_certificate, fault_of_check}
+use Rattle.ee_interface.specs.declared.fault.Fault.TheVariants.{Memory}
+use Rattle.ee_interface.specs.Fault.{fault_of_certificate, fault_of_check}
 use Rattle.ee_commands.specs.Planning.{IsCheckingFault, IsTask}
 use Rattle.ee_commands.proofs.OneTask.{cause_named, cause_of_check, first_of_check, later_of_check, not_proved, trace_renamed, text_of_check}
 use Rattle.ee_commands.proofs.planning.check_script.Goals as goal

@@ -1,7 +1,7 @@
 use Rattle.std.proofs.Common.{◌≡◌, ◌⊎◌, rules, subst, sym}
 use Rattle.ee_text.proofs.Public.{error_passed_on}
 use Rattle.ee_check.specs.Schedule.{IsProper}
-use Rattle.ee_faults.specs.declared.fault.Fault.TheVariants.{Memory}
+use Rattle.ee_interface.specs.declared.fault.Fault.TheVariants.{Memory}
 use Rattle.ee_commands.specs.Planning.{IsTask}
 use Rattle.ee_commands.proofs.Planned.{is_planned}
 use Rattle.ee_commands.proofs.OneTask.{change_named, change_of_plan, first_of_plan, trace_renamed}

@@ -1,8 +1,8 @@
 use Rattle.std.proofs.Common.{inl, refl}
 use Rattle.ee_text.proofs.Public.{passed_on}
-use Rattle.ee_faults.specs.Fault.{fault_of_script}
-use Rattle.ee_faults.specs.declared.fault.Fault.TheVariants.{Memory}
-use Rattle.ee_faults.specs.declared.replay_fault.ReplayFault.TheVariants as replay
+use Rattle.ee_interface.specs.Fault.{fault_of_script}
+use Rattle.ee_interface.specs.declared.fault.Fault.TheVariants.{Memory}
+use Rattle.ee_interface.specs.declared.replay_fault.ReplayFault.TheVariants as replay
 use Rattle.ee_commands.specs.Planning.{IsTaskFault}
 use Rattle.ee_image_store.specs.FileFaults.{IsOpeningFault}
 use Rattle.ee_commands.proofs.OneTask.{is_task, no_trace}

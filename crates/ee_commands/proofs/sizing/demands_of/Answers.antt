@@ -1,5 +1,5 @@
 use Rattle.std.proofs.Common.{rules, subst}
-use Rattle.ee_planner.specs.Rounds.{IsDemand, unused_situation}
+use Rattle.ee_plan.specs.Planner.Rounds.{IsDemand, unused_situation}
 use Rattle.ee_commands.proofs.Sizes.{demands_grow}
 use Rattle.ee_commands.proofs.SizeWears.{each_wears}
 use Rattle.ee_commands.proofs.sizing.demands_of.Goals as goal

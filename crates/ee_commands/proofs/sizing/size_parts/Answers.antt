@@ -1,7 +1,7 @@
 use Rattle.std.proofs.Common.{◌≡◌, ◌⊎◌}
 use Rattle.ee_text.proofs.Public.{error_passed_on}
-use Rattle.ee_faults.specs.declared.fault.Fault.TheVariants.{Memory}
-use Rattle.ee_faults.specs.Fault.{fault_of_script}
+use Rattle.ee_interface.specs.declared.fault.Fault.TheVariants.{Memory}
+use Rattle.ee_interface.specs.Fault.{fault_of_script}
 use Rattle.ee_commands.proofs.Sizes.{cause_of_trace, only_want_of_memory}
 use Rattle.ee_commands.proofs.sizing.size_parts.Goals as goal
 

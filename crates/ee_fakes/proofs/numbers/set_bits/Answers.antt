@@ -4,7 +4,7 @@ use Rattle.std.proofs.lemmas.Grind.{get_or-set_at}
 use Rattle.std.proofs.lemmas.List.{get_or-set_other, get_or_default}
 use Rattle.std.proofs.lemmas.List.Elements.{All-set}
 use Rattle.ee_flash.specs.Device.{all_ones}
-use Rattle.ee_pairs.specs.Nor.{IsNorNumber}
+use Rattle.ee_nor.specs.Nor.{IsNorNumber}
 use Rattle.ee_fakes.proofs.numbers.set_bits.Goals as goal
 
 pub loop-at-preserved : goal.loop-at-preserved

@@ -1,7 +1,7 @@
 use Rattle.std.proofs.Common.{◌≡◌, ◌<◌, ◌≤◌, ℕ, get_or}
 use Rattle.std.specs.List.{All}
 use Rattle.ee_flash.specs.Device.{all_ones}
-use Rattle.ee_pairs.specs.Nor.{HasBits, IsNorNumber}
+use Rattle.ee_nor.specs.Nor.{HasBits, IsNorNumber}
 use Rattle.ee_fakes.proofs.numbers.set_bits.Given as goal
 
 abbrev pub invariant-loop-at : goal.invariant-loop-at

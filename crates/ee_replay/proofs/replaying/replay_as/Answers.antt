@@ -1,7 +1,7 @@
 use Rattle.std.proofs.Common.{◌≡◌, ◌⊎◌, inl, inr}
 use Rattle.std.proofs.lemmas.Result.{IfErr-weaker, IfOk-weaker, MatchResult-from_both}
 use Rattle.ee_text.proofs.Public.{error_passed_on}
-use Rattle.ee_faults.specs.declared.replay_fault.ReplayFault.TheVariants.{Memory}
+use Rattle.ee_interface.specs.declared.replay_fault.ReplayFault.TheVariants.{Memory}
 use Rattle.ee_replay.proofs.OneReplayCause.{one_replay_fault, replayed_is_good}
 use Rattle.ee_replay.proofs.Replays.{is_replayed}
 use Rattle.ee_replay.proofs.replaying.replay_as.Goals as goal

@@ -1,6 +1,6 @@
 use Rattle.std.proofs.Common.{◌≡◌, ◌⊎◌, inl, inr}
 use Rattle.std.proofs.lemmas.Result.{IfErr-weaker, IfOk-weaker, MatchResult-from_both, err_from_is_err_and}
-use Rattle.ee_faults.specs.declared.replay_fault.ReplayFault.TheVariants.{Memory, Read, Script}
+use Rattle.ee_interface.specs.declared.replay_fault.ReplayFault.TheVariants.{Memory, Read, Script}
 use Rattle.ee_replay.proofs.Given.{given_is_good, named_of_stream, only_memory}
 use Rattle.ee_image_store.proofs.Public.{one_open_fault, store_is_good}
 use Rattle.ee_replay.proofs.Replays.{is_replayed}

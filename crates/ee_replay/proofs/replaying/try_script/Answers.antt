@@ -1,7 +1,7 @@
 use Rattle.std.proofs.Common.{◌≡◌, ◌⊎◌, subst, sym}
 use Rattle.std.proofs.lemmas.Result.{IfErr-weaker, IfOk-weaker, MatchResult-from_both}
 use Rattle.ee_flash.specs.Device.{Device}
-use Rattle.ee_faults.specs.declared.replay_fault.ReplayFault.TheVariants.{Script, Memory}
+use Rattle.ee_interface.specs.declared.replay_fault.ReplayFault.TheVariants.{Script, Memory}
 use Rattle.ee_image_store.specs.Opening.{IsNewStore}
 use Rattle.ee_replay.proofs.OneReplayCause.{one_run_fault, run_is_good, script_is_some}
 use Rattle.ee_replay.proofs.Replays.{is_tried}

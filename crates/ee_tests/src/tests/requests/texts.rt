@@ -2,16 +2,16 @@
 use super::commands::{BASE, DUMP, gives};
 use crate::tests::{device, shape};
 use ee_check::{Certificate, read_certificate, write_certificate};
-use ee_dump::intel_hex::{HexFault, read_hex, write_hex};
-use ee_dump::{DumpFault, Form, WriteFault, read_dump, write_dump};
 use ee_fakes::LastValue;
 use ee_fakes::images::{CERTIFICATE, FORMATTED, TWO_MOVES};
-use ee_faults::{Fault, File, ReplayFault};
 use ee_flash::{MemFlash, Shape};
 use ee_image::{read_image, write_image};
-use ee_script::{
+use ee_interface::script::{
     Answer, ScriptFault, Session, StreamFault, answer_reader, answer_script, push_answer,
 };
+use ee_interface::{Fault, File, ReplayFault};
+use ee_shell::dumps::intel_hex::{HexFault, read_hex, write_hex};
+use ee_shell::dumps::{DumpFault, Form, WriteFault, read_dump, write_dump};
 use ee_text::{push_number, push_number_behind};
 use std::alloc::{AllocError, Allocator, Global};
 use std::process::Abort;

@@ -1,20 +1,27 @@
 // Made by strip from crates/ee_codec/src/lib.rt. Change that file.
-//! The words of the store: what each number of 64 bits says as a slot, as a receive word and as a
+//! The words of the store: what a number of 64 bits says as a slot, as a receive word and as a
 //! mark.
 //!
-//! A slot holds an element (an address and its value) or a forgetting (an address that has no value
-//! from there on). A header word holds a receive word (the generation of a set) or a mark. Whether
-//! a word is a slot or a header word is told by its place alone.
+//! A slot holds an element (an address and its value) or a forgetting. A header word holds a
+//! receive word (the generation of a set) or a mark. The place of a word alone tells which of the
+//! two it is.
 //!
-//! What the layers above may use: reading a word is exactly the inverse of spelling it, and nothing
-//! else reads. `specs/Words.antt` has the spellings, `specs/Reading.antt` what each word says.
+//! # What a contract sees
+//!
+//! `Address`, and the spellings of `specs/Words.antt` as numbers.
 //!
 //! # What is proved
 //!
-//! `read_slot`, `read_receive`, `read_mark` are exactly the inverse of the spellings, and nothing
-//! else reads (`says`, `found`, `only`, `exact`); `ends_in` compares a word's low 16 bits with an
-//! address; `element_word`, `forget_word`, `receive_word` spell; `Address::new` takes exactly 1 to
-//! 65534.
+//! `read_slot`, `read_receive` and `read_mark` are exactly the inverse of the spellings, and
+//! nothing else reads (`says`, `found`, `only`, `exact`). `Address::new` takes exactly 1 to 65534.
+//!
+//! # What is only tested
+//!
+//! The spellings digit for digit, by the worked examples.
+//!
+//! # Read first
+//!
+//! `specs/Words.antt`, then `specs/Reading.antt`.
 
 mod address;
 mod header;

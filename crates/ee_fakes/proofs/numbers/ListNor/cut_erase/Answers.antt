@@ -1,6 +1,6 @@
 use Rattle.std.proofs.Common.{arith, ap, sym, refl, ◌∙◌, ◌<◌, ◌≡◌, length, set, List, ℕ}
 use Rattle.std.specs.Vec.{with_items}
-use Rattle.ee_pairs.specs.Nor.{KeepsBits, NorDevice, number_count, numbers_at, with_nor_page_worn}
+use Rattle.ee_nor.specs.Nor.{KeepsBits, NorDevice, number_count, numbers_at, with_nor_page_worn}
 use Rattle.ee_fakes.specs.Numbers.{nor_of_list, with_power_lost}
 use Rattle.ee_fakes.proofs.Numbering.{IsNorCutIn-erase, numbers_in, numbers_of-set, count-set, lengths-set, fits-set, fits_found, length_found, written_through}
 use Rattle.ee_fakes.proofs.numbers.ListNor.cut_erase.Goals as goal

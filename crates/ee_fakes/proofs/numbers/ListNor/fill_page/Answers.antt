@@ -2,7 +2,7 @@ use Rattle.std.proofs.Common.{arith, ap, ◌∙◌, ◌≡◌, length, set, repl
 use Rattle.std.proofs.lemmas.List.{length-replicate}
 use Rattle.std.proofs.lemmas.List.Elements.{All-replicate}
 use Rattle.ee_flash.specs.Device.{all_ones}
-use Rattle.ee_pairs.specs.Nor.{IsNorNumber, NorDevice, number_count}
+use Rattle.ee_nor.specs.Nor.{IsNorNumber, NorDevice, number_count}
 use Rattle.ee_fakes.specs.Numbers.{nor_of_list}
 use Rattle.ee_fakes.proofs.Numbering.{numbers_of-set, count-set, lengths-set, fits-set, length_found}
 use Rattle.ee_fakes.proofs.numbers.ListNor.fill_page.Goals as goal

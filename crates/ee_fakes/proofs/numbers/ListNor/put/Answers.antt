@@ -1,7 +1,7 @@
 use Rattle.std.proofs.Common.{arith, ap, sym, ◌∙◌, set, List, ℕ, map}
 use Rattle.std.proofs.lemmas.List.{length-set}
 use Rattle.std.proofs.lemmas.List.Elements.{All-set}
-use Rattle.ee_pairs.specs.Nor.{IsNorNumber, NorDevice, number_count}
+use Rattle.ee_nor.specs.Nor.{IsNorNumber, NorDevice, number_count}
 use Rattle.ee_fakes.specs.Numbers.{nor_of_list}
 use Rattle.ee_fakes.proofs.Numbering.{numbers_in, numbers_of-set, count-set, lengths-set, fits-set, length_found, fits_found}
 use Rattle.ee_fakes.proofs.numbers.ListNor.put.Goals as goal

@@ -1,5 +1,5 @@
 use Rattle.std.proofs.Common.{arith}
-use Rattle.ee_pairs.specs.Nor.{number_count}
+use Rattle.ee_nor.specs.Nor.{number_count}
 use Rattle.ee_fakes.proofs.Numbering.{length_found}
 use Rattle.ee_fakes.proofs.numbers.ListNorNor.window.Goals as goal
 

@@ -5,9 +5,9 @@ use Rattle.ee_core.specs.Points.{open_point}
 use Rattle.ee_core.specs.Runs.{Cleaned}
 use Rattle.ee_core.specs.declared.variables.WriteFault.{WriteFault}
 use Rattle.ee_core.specs.declared.variables.WriteFault.TheVariants as fault
-use Rattle.ee_script.specs.declared.answer.Answer.{Answer}
-use Rattle.ee_script.specs.declared.answer.Answer.TheVariants.{Cut}
-use Rattle.ee_script.specs.declared.command.Command.TheVariants.{Clean}
+use Rattle.ee_interface.specs.declared.script.answer.Answer.{Answer}
+use Rattle.ee_interface.specs.declared.script.answer.Answer.TheVariants.{Cut}
+use Rattle.ee_interface.specs.declared.script.command.Command.TheVariants.{Clean}
 use Rattle.ee_replay.specs.Desk.{CallsAtDesk, stand_of}
 use Rattle.ee_replay.specs.Serving.{CallAnswers, LineIsNoted, Notes, notes_after, with_notes}
 use Rattle.ee_replay.proofs.serving.Server.clean.Goals as goal

@@ -1,6 +1,0 @@
-use Rattle.std.proofs.Common.{rules}
-use Rattle.ee_bench.proofs.KeptChanges.{no_answered_change_is_lost_lem}
-use Rattle.ee_bench.proofs.laws.no_answered_change_is_lost.Goals as goal
-
-pub returns : goal.returns
-returns c = search (rules, no_answered_change_is_lost_lem)

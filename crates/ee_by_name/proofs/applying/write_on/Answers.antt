@@ -1,4 +1,0 @@
-use Rattle.ee_by_name.proofs.applying.write_on.Goals as goal
-
-pub returns-in-Err-Full-clause-written : goal.returns-in-Err-Full-clause-written
-returns-in-Err-Full-clause-written g c = search parts 0

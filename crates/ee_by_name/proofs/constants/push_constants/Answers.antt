@@ -1,9 +1,0 @@
-use Rattle.std.proofs.Common.{rules}
-use Rattle.std.proofs.lemmas.Result.{on_ok_weaker}
-use Rattle.ee_by_name.proofs.Writing.{constants_made}
-use Rattle.ee_by_name.proofs.constants.push_constants.Goals as goal
-
-pub returns : goal.returns
-returns g c =
-    on_ok_weaker c.push_constant-4.result (λ here. search (rules, constants_made))
-    c.push_constant-4.ensures

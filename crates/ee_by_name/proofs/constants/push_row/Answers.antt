@@ -1,9 +1,0 @@
-use Rattle.std.proofs.Common.{append_assoc, rules}
-use Rattle.std.proofs.lemmas.Result.{on_ok_weaker}
-use Rattle.ee_by_name.specs.Header.{c_row_of}
-use Rattle.ee_by_name.proofs.constants.push_row.Goals as goal
-
-pub returns-in-C : goal.returns-in-C
-unfolding c_row_of
-returns-in-C g c =
-    on_ok_weaker c.write.result (λ here. search (rules, append_assoc)) c.write.ensures.bytes

@@ -1,8 +1,0 @@
-use Rattle.std.proofs.Common.{◌≡◌, ◌++◌, take}
-use Rattle.ee_by_name.specs.SecondSchema.{stale_lines}
-use Rattle.ee_by_name.proofs.second_schema.push_stale.Given as goal
-
--- the lines so far are written
-abbrev pub invariant-loop-one : goal.invariant-loop-one
-invariant-loop-one g l =
-    l.out.items ≡ l.fn.out.items ++ stale_lines l.schema (take l.one-index l.stale)

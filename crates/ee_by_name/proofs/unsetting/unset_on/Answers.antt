@@ -1,7 +1,0 @@
-use Rattle.ee_by_name.proofs.Unset.{is_forgotten}
-use Rattle.ee_by_name.proofs.unsetting.unset_on.Goals as goal
-
-pub returns-in-Ok-clause-forgotten : goal.returns-in-Ok-clause-forgotten
-returns-in-Ok-clause-forgotten g c =
-    is_forgotten c.args.schema.now _ _ c.args.name.now c.in-Some.numbers c.in-Ok.field-0 c.requires
-    c.in-Some.ensures.found c.in-Ok.ensures

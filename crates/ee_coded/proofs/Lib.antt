@@ -1,9 +1,0 @@
-mod Bits
-mod Tables
-mod Near
-mod Spelling
-mod Numbers
-mod Steps
-mod CodeRuns
-mod Wipes
-mod Premises

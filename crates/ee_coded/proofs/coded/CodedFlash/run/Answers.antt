@@ -1,8 +1,0 @@
-use Rattle.std.proofs.Common.{◌∙◌}
-use Rattle.ee_coded.proofs.CodeRuns.{run-codes}
-use Rattle.ee_coded.proofs.coded.CodedFlash.run.Goals as goal
-
-pub returns : goal.returns
-returns g c = let coded = c.args.self.now in
-    c.fill_run.ensures ∙ run-codes (g.N.EccNor.ecc coded.nor) c.args.page c.args.at _
-    (g.met.N.EccNor.formed coded.nor) c.requires.page_in_range c.requires.places_in_range

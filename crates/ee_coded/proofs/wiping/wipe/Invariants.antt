@@ -1,6 +1,0 @@
-use Rattle.std.proofs.Common.{◌≡◌}
-use Rattle.ee_coded.specs.Wiping.{ecc_wiped_below}
-use Rattle.ee_coded.proofs.wiping.wipe.Given as goal
-
-abbrev pub invariant-pages : goal.invariant-pages
-invariant-pages g l = g.N.EccNor.ecc l.nor ≡ ecc_wiped_below l.page (g.N.EccNor.ecc l.fn.nor)

@@ -1,3 +1,0 @@
-mod Bases
-mod Streams
-mod Flags

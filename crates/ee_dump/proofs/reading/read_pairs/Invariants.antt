@@ -1,6 +1,0 @@
-use Rattle.ee_dump.proofs.Pairing.{ArePairsRead}
-use Rattle.ee_dump.proofs.reading.read_pairs.Given as goal
-
--- the words so far are read
-abbrev pub invariant-loop-pair : goal.invariant-loop-pair
-invariant-loop-pair g l = ArePairsRead l.pairs l.pair-index l.cells

@@ -1,6 +1,0 @@
-use Rattle.ee_dump.proofs.Growing.{AreRead}
-use Rattle.ee_dump.proofs.reading.read_words.Given as goal
-
--- the words so far are read
-abbrev pub invariant-loop-bytes : goal.invariant-loop-bytes
-invariant-loop-bytes g l = AreRead l.fn.dump l.bytes-index l.cells

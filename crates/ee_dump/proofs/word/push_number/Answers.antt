@@ -1,6 +1,0 @@
-use Rattle.std.proofs.Common.{arith}
-use Rattle.std.proofs.lemmas.Grind.{common_steps}
-use Rattle.ee_dump.proofs.word.push_number.Goals as goal
-
-pub returns-in-Pairs : goal.returns-in-Pairs
-returns-in-Pairs g c = grind (arith, common_steps)

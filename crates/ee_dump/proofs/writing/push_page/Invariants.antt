@@ -1,7 +1,0 @@
-use Rattle.ee_dump.proofs.Growing.{IsPageFront}
-use Rattle.ee_dump.proofs.writing.push_page.Given as goal
-
--- the words so far are written
-abbrev pub invariant-loop-at : goal.invariant-loop-at
-invariant-loop-at g l =
-    IsPageFront l.form (g.F.Flash.device l.flash) l.page l.at l.fn.out.items l.out.items

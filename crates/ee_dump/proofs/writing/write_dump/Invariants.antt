@@ -1,6 +1,0 @@
-use Rattle.ee_dump.proofs.Growing.{IsDumpFront}
-use Rattle.ee_dump.proofs.writing.write_dump.Given as goal
-
--- the pages so far are written
-abbrev pub invariant-loop-page : goal.invariant-loop-page
-invariant-loop-page g l = IsDumpFront l.form (g.F.Flash.device l.flash) l.page l.dump.items

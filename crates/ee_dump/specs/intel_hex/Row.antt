@@ -1,7 +1,0 @@
--- A record as the reader holds it.
-use Rattle.ee_dump.specs.intel_hex.Record.{Record}
-use Rattle.ee_dump.specs.declared.intel_hex.record.Row.{Row}
-
--- without where its bytes lie
-abbrev pub view : Row → Record
-view row = record { address = row.address; kind = row.kind; bytes = row.bytes.now }

@@ -1,4 +1,0 @@
-pub mod ReplayFault
-pub mod Fault
-pub mod Causes
-pub mod Beside

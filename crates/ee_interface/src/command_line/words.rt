@@ -1,0 +1,432 @@
+//! The words behind the program's name, read.
+ghost use Rattle.std.specs.Prelude.{◌≡◌, [], ◌∷◌, ◌<◌, ◌^◌, ℕ, Bool, List, Some, IfSome, IsSomeAnd, codes, option_map, decimal};
+ghost use Rattle.ee_flash.specs.Size.{IsWithinLimits, Size};
+ghost use Rattle.ee_interface.specs.CommandLine.Job.{ArePageWords, EndsWithin, HasBase, HaveNoFlag, IsBase, IsCount, GivesSpelled, IsPlain, SpellsGiven, texts_of, with_flag};
+
+use super::jobs::Job;
+use ee_flash::Shape;
+use ee_text::number_up_to;
+use hex::FromHex;
+
+/// The job that the words ask for. None where they spell no command. Pages are 1 to 64, words of a
+/// page 5 to 512 and a value 0 to 4294967295, in decimal, with no sign and no zero in front. A base
+/// is a multiple of 8 of 32 bits, in eight hexadecimal digits.
+///
+/// Source: ours.
+pub fn job<'a>(words: &[&'a str]) -> Option<Job<'a>>
+    // What is given is spelled so.
+    ensures found { SpellsGiven (texts_of words.now) result }
+    // What is spelled so is given.
+    ensures only { GivesSpelled (texts_of words.now) result }
+{
+    let Some((command, others)) = words.split_first() else {
+        return Some(Job::Try {
+            shape: Shape::new(1, 6)?,
+        });
+    };
+    match *command {
+        "run" => run_job(others),
+        "header" => header_job(others),
+        "export" => export_job(others),
+        "export-hex" => export_hex_job(others),
+        "import" => import_job(others),
+        "import-hex" => import_hex_job(others),
+        "forget-all" => forget_all_job(others),
+        command => match *others {
+            [] => job_of_one(command),
+            [first] => job_of_two(command, first),
+            [first, second] => job_of_three(command, first, second),
+            [first, second, third] => job_of_four(command, first, second, third),
+            [first, second, third, fourth] => job_of_five(command, first, second, third, fourth),
+            _ => None,
+        },
+    }
+}
+
+/// The words behind a flag, and whether it is given. None where it is given twice.
+fn split_flag<'w, 'a>(flag: &str, words: &'w [&'a str]) -> Option<(bool, &'w [&'a str])>
+    ensures found { IfSome result (λ split. HaveNoFlag flag.now (texts_of split.1.now)
+        × (texts_of words.now ≡ with_flag split.0 flag.now (texts_of split.1.now))) }
+    ensures only { (given : Bool) (operands : List (List ℕ)) → HaveNoFlag flag.now operands
+        → texts_of words.now ≡ with_flag given flag.now operands
+        → IsSomeAnd result (λ split. (split.0 ≡ given) × (texts_of split.1.now ≡ operands)) }
+{
+    let Some((first, operands)) = words.split_first() else {
+        return Some((false, words));
+    };
+    if *first != flag {
+        return Some((false, words));
+    }
+    match operands.split_first() {
+        None => Some((true, operands)),
+        Some((second, _)) if *second == flag => None,
+        Some(_) => Some((true, operands)),
+    }
+}
+
+/// The job of `run`.
+fn run_job<'a>(words: &[&'a str]) -> Option<Job<'a>>
+    ensures found { SpellsGiven (codes "run" ∷ texts_of words.now) result }
+    ensures only { GivesSpelled (codes "run" ∷ texts_of words.now) result }
+{
+    let (indexed, operands) = split_flag("--indexed", words)?;
+    match *operands {
+        [image, script] => Some(Job::Run {
+            indexed,
+            image,
+            script,
+        }),
+        _ => None,
+    }
+}
+
+/// The job of `header`.
+fn header_job<'a>(words: &[&'a str]) -> Option<Job<'a>>
+    ensures found { SpellsGiven (codes "header" ∷ texts_of words.now) result }
+    ensures only { GivesSpelled (codes "header" ∷ texts_of words.now) result }
+{
+    let (rust, operands) = split_flag("--rust", words)?;
+    match *operands {
+        [settings] => Some(Job::Header { rust, settings }),
+        _ => None,
+    }
+}
+
+/// The job of `export`.
+fn export_job<'a>(words: &[&'a str]) -> Option<Job<'a>>
+    ensures found { SpellsGiven (codes "export" ∷ texts_of words.now) result }
+    ensures only { GivesSpelled (codes "export" ∷ texts_of words.now) result }
+{
+    let (pairs, operands) = split_flag("--pairs", words)?;
+    match *operands {
+        [image, dump] => Some(Job::Export { pairs, image, dump }),
+        _ => None,
+    }
+}
+
+/// The job of `export-hex`.
+fn export_hex_job<'a>(words: &[&'a str]) -> Option<Job<'a>>
+    ensures found { SpellsGiven (codes "export-hex" ∷ texts_of words.now) result }
+    ensures only { GivesSpelled (codes "export-hex" ∷ texts_of words.now) result }
+{
+    let (pairs, operands) = split_flag("--pairs", words)?;
+    match *operands {
+        [image, base, dump] => Some(Job::ExportHex {
+            pairs,
+            image,
+            base: base_of(base)?,
+            dump,
+        }),
+        _ => None,
+    }
+}
+
+/// The job of `import`.
+fn import_job<'a>(words: &[&'a str]) -> Option<Job<'a>>
+    ensures found { SpellsGiven (codes "import" ∷ texts_of words.now) result }
+    ensures only { GivesSpelled (codes "import" ∷ texts_of words.now) result }
+{
+    let Some((pairs, shape, files)) = split_part(words) else {
+        return None;
+    };
+    match *files {
+        [dump, image] => Some(Job::Import {
+            pairs,
+            shape,
+            dump,
+            image,
+        }),
+        _ => None,
+    }
+}
+
+/// The job of `import-hex`.
+fn import_hex_job<'a>(words: &[&'a str]) -> Option<Job<'a>>
+    ensures found { SpellsGiven (codes "import-hex" ∷ texts_of words.now) result }
+    ensures only { GivesSpelled (codes "import-hex" ∷ texts_of words.now) result }
+{
+    let Some((pairs, shape, others)) = split_part(words) else {
+        return None;
+    };
+    match *others {
+        [base, dump, image] => Some(Job::ImportHex {
+            pairs,
+            shape,
+            base: base_for(pairs, shape, base)?,
+            dump,
+            image,
+        }),
+        _ => None,
+    }
+}
+
+/// The job of `forget-all`.
+fn forget_all_job<'a>(words: &[&'a str]) -> Option<Job<'a>>
+    ensures found { SpellsGiven (codes "forget-all" ∷ texts_of words.now) result }
+    ensures only { GivesSpelled (codes "forget-all" ∷ texts_of words.now) result }
+{
+    let (force, operands) = split_flag("--force", words)?;
+    match *operands {
+        [image] => Some(Job::ForgetAll { force, image }),
+        _ => None,
+    }
+}
+
+/// Whether `--pairs` is given, the shape behind it, and the words behind that.
+#[tactic(auto, using(crate::proofs::CommandLineLemmas::Flags::size_is_no_flag))]
+fn split_part<'w, 'a>(words: &'w [&'a str]) -> Option<(bool, Shape, &'w [&'a str])>
+    ensures found { IfSome result (λ split. IsWithinLimits split.1
+        × (texts_of words.now ≡ with_flag split.0 (codes "--pairs")
+        (decimal split.1.pages ∷ decimal split.1.words ∷ texts_of split.2.now))) }
+    ensures only { (pairs : Bool) (size : Size) (others : List (List ℕ)) → IsWithinLimits size
+        → texts_of words.now ≡ with_flag pairs (codes "--pairs")
+        (decimal size.pages ∷ decimal size.words ∷ others)
+        → IsSomeAnd result (λ split. (split.0 ≡ pairs) × (split.1 ≡ size)
+        × (texts_of split.2.now ≡ others)) }
+{
+    let (pairs, operands) = split_flag("--pairs", words)?;
+    let (pages, others) = operands.split_first()?;
+    let (page_words, others) = others.split_first()?;
+    Some((pairs, shape_of(pages, page_words)?, others))
+}
+
+/// The job that a word alone asks for.
+fn job_of_one<'a>(command: &'a str) -> Option<Job<'a>>
+    ensures found { SpellsGiven (command.now ∷ []) result }
+    ensures only { GivesSpelled (command.now ∷ []) result }
+{
+    let job = match command {
+        "--help" | "-h" | "help" => Job::Help,
+        "--version" => Job::Version,
+        _ => return None,
+    };
+    Some(job)
+}
+
+/// The job of a command on an image alone.
+fn job_of_two<'a>(command: &'a str, image: &'a str) -> Option<Job<'a>>
+    requires { IsPlain command.now }
+    ensures found { SpellsGiven (command.now ∷ image.now ∷ []) result }
+    ensures only { GivesSpelled (command.now ∷ image.now ∷ []) result }
+{
+    let job = match command {
+        "list" => Job::List {
+            image,
+            settings: None,
+        },
+        "wear" => Job::Wear {
+            image,
+            before: None,
+        },
+        "states" => Job::States { image },
+        "inspect" => Job::Inspect { image },
+        "clean" => Job::Clean { image },
+        "rescue" => Job::Rescue { image },
+        _ => return None,
+    };
+    Some(job)
+}
+
+/// The job of a command on two texts.
+fn job_of_three<'a>(command: &'a str, first: &'a str, second: &'a str) -> Option<Job<'a>>
+    requires { IsPlain command.now }
+    ensures found { SpellsGiven (command.now ∷ first.now ∷ second.now ∷ []) result }
+    ensures only { GivesSpelled (command.now ∷ first.now ∷ second.now ∷ []) result }
+{
+    let job = match command {
+        "try" => Job::Try {
+            shape: shape_of(first, second)?,
+        },
+        "plan" => Job::Plan {
+            image: first,
+            script: second,
+        },
+        "list" => Job::List {
+            image: first,
+            settings: Some(second),
+        },
+        "wear" => Job::Wear {
+            image: first,
+            before: Some(second),
+        },
+        "stale" => Job::Stale {
+            image: first,
+            settings: second,
+        },
+        "tidy" => Job::Tidy {
+            image: first,
+            settings: second,
+        },
+        _ => return None,
+    };
+    Some(job)
+}
+
+/// The job of a command on three texts.
+fn job_of_four<'a>(
+    command: &'a str,
+    first: &'a str,
+    second: &'a str,
+    third: &'a str,
+) -> Option<Job<'a>>
+    requires { IsPlain command.now }
+    ensures found { SpellsGiven (command.now ∷ first.now ∷ second.now ∷ third.now ∷ []) result }
+    ensures only { GivesSpelled (command.now ∷ first.now ∷ second.now ∷ third.now ∷ []) result }
+{
+    let job = match command {
+        "format" => Job::Format {
+            shape: shape_of(first, second)?,
+            image: third,
+        },
+        "get" => Job::Get {
+            image: first,
+            settings: second,
+            name: third,
+        },
+        "unset" => Job::Unset {
+            image: first,
+            settings: second,
+            name: third,
+        },
+        "apply" => Job::Apply {
+            image: first,
+            settings: second,
+            values: third,
+        },
+        "verify" => Job::Verify {
+            image: first,
+            settings: second,
+            values: third,
+        },
+        "check" => Job::Check {
+            image: first,
+            script: second,
+            certificate: third,
+        },
+        _ => return None,
+    };
+    Some(job)
+}
+
+/// The job of a command on four texts.
+fn job_of_five<'a>(
+    command: &'a str,
+    first: &'a str,
+    second: &'a str,
+    third: &'a str,
+    fourth: &'a str,
+) -> Option<Job<'a>>
+    requires { IsPlain command.now }
+    ensures found { SpellsGiven
+        (command.now ∷ first.now ∷ second.now ∷ third.now ∷ fourth.now ∷ []) result }
+    ensures only { GivesSpelled
+        (command.now ∷ first.now ∷ second.now ∷ third.now ∷ fourth.now ∷ []) result }
+{
+    let job = match command {
+        "set" => Job::Set {
+            image: first,
+            settings: second,
+            name: third,
+            value: value_of(fourth)?,
+        },
+        "size" => Job::Size {
+            words: page_words_of(first)?,
+            script: second,
+            cycles: count_of(third)?,
+            runs: count_of(fourth)?,
+        },
+        _ => return None,
+    };
+    Some(job)
+}
+
+/// The words of a page that a word spells.
+fn page_words_of(word: &str) -> Option<u16>
+    ensures found { IfSome result (λ words. ArePageWords words × (word.now ≡ decimal words)) }
+    ensures only { (words : ℕ) → ArePageWords words → word.now ≡ decimal words
+        → result ≡ Some words }
+{
+    let words = number_up_to(word.as_bytes(), 512)?;
+    if words < 5 {
+        return None;
+    }
+    Some(words as u16)
+}
+
+/// The count, one at least, that a word spells.
+fn count_of(word: &str) -> Option<u32>
+    ensures found { IfSome result (λ count. IsCount count × (word.now ≡ decimal count)) }
+    ensures only { (count : ℕ) → IsCount count → word.now ≡ decimal count
+        → result ≡ Some count }
+{
+    let count = value_of(word)?;
+    if count == 0 {
+        return None;
+    }
+    Some(count)
+}
+
+/// The base that a word spells: a multiple of 8.
+#[tactic(auto, unfolding(crate::specs::CommandLine::Job::IsBase))]
+fn base_of(word: &str) -> Option<u32>
+    ensures found { IfSome result (λ base. IsBase base × HasBase word.now base) }
+    ensures only { (base : ℕ) → IsBase base → HasBase word.now base → result ≡ Some base }
+{
+    let base = digits_of(word)?;
+    if base % 8 != 0 {
+        return None;
+    }
+    Some(base)
+}
+
+/// The number that a word of eight hexadecimal digits, in either case, spells.
+#[tactic(auto, using(crate::proofs::CommandLineLemmas::Bases::base_read, crate::proofs::CommandLineLemmas::Bases::one_base))]
+fn digits_of(word: &str) -> Option<u32>
+    ensures found { IfSome result (λ base. (base < 2 ^ 32) × HasBase word.now base) }
+    ensures only { (base : ℕ) → base < 2 ^ 32 → HasBase word.now base → result ≡ Some base }
+{
+    match <[u8; 4]>::from_hex(word) {
+        Ok(bytes) => Some(u32::from_be_bytes(bytes)),
+        Err(_) => None,
+    }
+}
+
+/// The base that a word spells, where a part of this size that begins there ends within the
+/// addresses of 32 bits.
+#[tactic(auto, unfolding(crate::specs::CommandLine::Job::EndsWithin))]
+fn base_for(pairs: bool, shape: Shape, word: &str) -> Option<u32>
+    ensures found { IfSome result
+        (λ base. IsBase base × EndsWithin pairs shape base × HasBase word.now base) }
+    ensures only { (base : ℕ) → IsBase base → EndsWithin pairs shape base → HasBase word.now base
+        → result ≡ Some base }
+{
+    let base = base_of(word)?;
+    // The words of one set, which the shape keeps at 2 ^ 15 or below.
+    let words = (shape.pages() * shape.words()) as u64;
+    let bytes = if pairs { 32 * words } else { 16 * words };
+    if u64::from(base) + bytes > 1 << 32 {
+        return None;
+    }
+    Some(base)
+}
+
+/// The shape that two words spell.
+fn shape_of(pages: &str, words: &str) -> Option<Shape>
+    ensures found { IfSome result (λ size. IsWithinLimits size
+        × (pages.now ≡ decimal size.pages) × (words.now ≡ decimal size.words)) }
+    ensures only { (size : Size) → IsWithinLimits size → pages.now ≡ decimal size.pages
+        → words.now ≡ decimal size.words → result ≡ Some size }
+{
+    let pages = number_up_to(pages.as_bytes(), 64)?;
+    let words = number_up_to(words.as_bytes(), 512)?;
+    Shape::new(pages as usize, words as usize)
+}
+
+/// The value that a word spells.
+fn value_of(word: &str) -> Option<u32>
+    ensures found { IfSome result (λ value. (value < 2 ^ 32) × (word.now ≡ decimal value)) }
+    ensures only { (value : ℕ) → value < 2 ^ 32 → word.now ≡ decimal value
+        → result ≡ Some value }
+{
+    Some(number_up_to(word.as_bytes(), u64::from(u32::MAX))? as u32)
+}

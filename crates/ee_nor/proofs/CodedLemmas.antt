@@ -1,0 +1,9 @@
+pub mod Bits
+pub mod Tables
+pub mod Near
+pub mod Spelling
+pub mod Numbers
+pub mod Steps
+pub mod CodeRuns
+pub mod Wipes
+pub mod Premises

@@ -1,0 +1,172 @@
+-- Numbers of a store as coded words, and what a cut leaves of them.
+use Rattle.std.proofs.Common.{◌≡◌, ◌≢◌, ◌⊎◌, inl, inr, ℕ, ◌+◌, ◌*◌, ◌/◌, ◌%◌, ◌^◌, ◌<◌, ◌≤◌, Option, Some, None, refl, sym, ap, ◌∙◌, subst, arith}
+use Rattle.std.specs.Prelude.{bit_and, count_ones}
+use Rattle.std.specs.Int.Bits.{and_self}
+use Rattle.std.specs.Int.Count.{ones-ones}
+use Rattle.std.proofs.lemmas.Bool.{cases_eq, cases_lt, eq-eqb, le-ltb, lt-ltb, ne_eqb}
+use Rattle.std.proofs.lemmas.Nat.{and_assoc, and_comm, and_mask}
+use Rattle.ee_flash.specs.Device.{all_ones}
+use Rattle.ee_flash.specs.Numbers.{IsSlotNumber, IsStoreNumber, header_half}
+use Rattle.ee_flash.specs.declared.word.Word.TheVariants.{Erased, Held, Torn}
+use Rattle.ee_nor.specs.Coded.Code.{IsPayload, codeword, decoded, payload_in}
+use Rattle.ee_nor.specs.Coded.Coded.{IsOverCoded, coded_number, coded_word, held_payload, number_of_payload, payload_of_number, word_of_ecc, word_read}
+use Rattle.ee_nor.specs.Coded.EccNor.{EccNumber, IsReadingOf}
+use Rattle.ee_nor.specs.Coded.Formed.{coded_cases}
+use Rattle.ee_nor.specs.Coded.Laws.{HasOnes}
+use Rattle.ee_nor.proofs.CodedLemmas.Near.{coded_fits, coded_ones, decoded_again, erase_makes_no_number, torn_is_told}
+
+-- ---- a number and its payload
+
+number_cases : (number : ℕ)
+    → ((number % 2 ^ 32 < 2 ^ 17) × (0 < number % 2 ^ 16)
+    × (payload_of_number number ≡ number / 2 ^ 32 * 2 ^ 17 + number % 2 ^ 17))
+    ⊎ ((IsSlotNumber number → ⊥) × (payload_of_number number ≡ number % 2 ^ 32 * 2 ^ 17))
+number_cases number = elim (cases_lt (number % 2 ^ 32) (2 ^ 17)) [
+  | inl low ↦ elim (cases_lt 0 (number % 2 ^ 16)) [
+    | inl some ↦ inl (
+      low,
+      some,
+      rw (lt-ltb (number % 2 ^ 32) (2 ^ 17) low, lt-ltb 0 (number % 2 ^ 16) some) refl,
+    )
+    | inr none ↦ inr (
+      λ slot. let some = slot.1 in omega (arith, some, none),
+      rw (lt-ltb (number % 2 ^ 32) (2 ^ 17) low, le-ltb 0 (number % 2 ^ 16) none) refl,
+    )
+  ]
+  | inr high ↦ inr (
+    λ slot. let low = slot.0 in omega (arith, low, high),
+    rw (le-ltb (number % 2 ^ 32) (2 ^ 17) high) refl,
+  )
+]
+
+pub payload_fits : (number : ℕ) → number ≤ all_ones → IsPayload (payload_of_number number)
+payload_fits number fits = elim (number_cases number) [
+  | inl slot ↦ let is = slot.2 in omega (arith, is)
+  | inr header ↦ let is = header.1 in omega (arith, is)
+]
+
+slot_again : (number : ℕ) → number % 2 ^ 32 < 2 ^ 17 → 0 < number % 2 ^ 16
+    → number_of_payload (number / 2 ^ 32 * 2 ^ 17 + number % 2 ^ 17) ≡ number
+slot_again number low some =
+    let apart = ne_eqb ((number / 2 ^ 32 * 2 ^ 17 + number % 2 ^ 17) % 2 ^ 17) 0
+    (λ none. omega (arith, none, some)) in
+    rw apart (omega (arith, low))
+
+header_again : (number : ℕ) → number / 2 ^ 32 ≡ header_half
+    → number_of_payload (number % 2 ^ 32 * 2 ^ 17) ≡ number
+header_again number half =
+    let none = eq-eqb (number % 2 ^ 32 * 2 ^ 17 % 2 ^ 17) 0 (omega arith) in
+    rw none (omega (arith, half))
+
+half : (number : ℕ) → IsStoreNumber number → (IsSlotNumber number → ⊥)
+    → number / 2 ^ 32 ≡ header_half
+half number (inl slot) none = absurd (none slot)
+half number (inr is) none = is
+
+pub number_again : (number : ℕ) → IsStoreNumber number
+    → number_of_payload (payload_of_number number) ≡ number
+number_again number store = elim (number_cases number) [
+  | inl slot ↦ ap number_of_payload slot.2 ∙ slot_again number slot.0 slot.1
+  | inr header ↦ ap number_of_payload header.1 ∙ header_again number (half number store header.0)
+]
+
+-- ---- coded words
+
+pub coded_below : (payload : ℕ) → IsPayload payload → codeword payload < all_ones
+coded_below payload bare =
+    let fits = coded_fits payload bare in
+    let apart : codeword payload ≢ all_ones =
+    λ same. omega (arith, coded_ones payload bare, ap count_ones same, ones-ones 64) in
+    omega (arith, fits, apart)
+
+pub reads_back : (number : ℕ) → number ≤ all_ones → IsStoreNumber number
+    → coded_word (coded_number number) ≡ Held number
+reads_back number fits store =
+    let bare = payload_fits number fits in
+    let below = coded_below (payload_of_number number) bare in
+    rw (ne_eqb (codeword (payload_of_number number)) all_ones (λ same. omega (arith, below, same)))
+    (ap held_payload (decoded_again (payload_of_number number) bare)
+    ∙ ap Held (number_again number store))
+
+-- ---- what a cut leaves
+
+read_payload : (read : ℕ) → read ≡ codeword (payload_in read)
+    → decoded read ≡ Some (payload_in read)
+read_payload read is = rw (eq-eqb read (codeword (payload_in read)) is) refl
+
+-- of a word that was cut on its way to a number
+pub program_cut : (number cells : ℕ) (reading : Option ℕ) → number ≤ all_ones
+    → IsStoreNumber number → cells ≤ all_ones
+    → ((read : ℕ) → reading ≡ Some read → IsReadingOf cells read)
+    → HasOnes cells (coded_number number)
+    → (word_read reading ≡ Erased)
+    ⊎ ((word_read reading ≡ Held number) ⊎ (word_read reading ≡ Torn))
+program_cut number cells None fits store cells_fit reads has = inr (inr refl)
+program_cut number cells (Some read) fits store cells_fit reads has = elim (coded_cases read) [
+  | inl erased ↦ inl erased.1
+  | inr (inl held) ↦
+      let reading = reads read refl in
+      let read_fits = reading.fits in
+      let same = torn_is_told read (decoded read) (omega (arith, read_fits)) refl
+      (payload_of_number number) cells (payload_in read) (payload_fits number fits)
+      (omega (arith, cells_fit)) has reading.near (read_payload read held.1) in
+      inr (inl (held.2 ∙ ap Held (ap number_of_payload same ∙ number_again number store)))
+  | inr (inr torn) ↦ inr (inr torn)
+]
+
+all_over : (number : ℕ) → number ≤ all_ones → bit_and all_ones number ≡ number
+all_over number fits = and_comm all_ones number ∙ and_mask number 64 ∙ omega arith
+
+-- what reads as coded after a cut erase had its ones there before
+had_ones : (before cells read : ℕ) → before ≤ all_ones → cells ≤ all_ones → IsReadingOf cells read
+    → IsOverCoded before → HasOnes cells before → read ≡ codeword (payload_in read)
+    → HasOnes before read
+had_ones before cells read fits cells_fit reading over has is =
+    elim (cases_eq (bit_and before read) read) [
+      | inl same ↦ same
+      | inr other ↦
+          let read_fits = reading.fits in
+          let whole : before ≡ all_ones = over (λ payload bare bits.
+          let same = erase_makes_no_number read (decoded read) (omega (arith, read_fits)) refl
+          payload before cells (payload_in read) bare (omega (arith, fits))
+          (omega (arith, cells_fit)) bits has reading.near (read_payload read is) in
+          other (subst (λ (number : ℕ). bit_and before number ≡ number)
+          (sym (is ∙ ap codeword same)) bits)) in
+          absurd (other (ap (λ (number : ℕ). bit_and number read) whole ∙ all_over read read_fits))
+    ]
+
+-- of a word whose page was cut in its erase
+pub erase_cut : (old : EccNumber) (cells : ℕ) (reading : Option ℕ) → old.cells ≤ all_ones
+    → cells ≤ all_ones → ((read : ℕ) → reading ≡ Some read → IsReadingOf cells read)
+    → IsOverCoded old.cells → HasOnes cells old.cells
+    → ((read : ℕ) → read ≢ all_ones → reading ≡ Some read → HasOnes old.cells read
+    → old.reading ≡ Some read)
+    → (word_read reading ≡ word_of_ecc old)
+    ⊎ ((word_read reading ≡ Erased) ⊎ (word_read reading ≡ Torn))
+erase_cut old cells None fits cells_fit reads over has whole = inr (inr refl)
+erase_cut old cells (Some read) fits cells_fit reads over has whole = elim (coded_cases read) [
+  | inl erased ↦ inr (inl erased.1)
+  | inr (inl held) ↦ inl (sym (ap word_read (whole read held.0 refl
+      (had_ones old.cells cells read fits cells_fit (reads read refl) over has held.1))))
+  | inr (inr torn) ↦ inr (inr torn)
+]
+
+-- ---- cells over coded words
+
+pub over_coded : (payload : ℕ) → IsPayload payload → IsOverCoded (codeword payload)
+over_coded payload bare none = absurd (none payload bare (and_self (codeword payload)))
+
+has_of : (before left other : ℕ) → HasOnes before other → HasOnes left before
+    → HasOnes left other
+has_of before left other has still =
+    ap (λ (k : ℕ). bit_and left k) (sym has) ∙ sym (and_assoc other left before)
+    ∙ ap (λ (k : ℕ). bit_and k other) still ∙ has
+
+pub over_kept : (before left : ℕ) → left ≤ all_ones → HasOnes left before → IsOverCoded before
+    → IsOverCoded left
+over_kept before left fits has over none =
+    let whole = over (λ payload bare bits.
+    none payload bare (has_of before left (codeword payload) bits has)) in
+    let both : bit_and left all_ones ≡ all_ones =
+    ap (λ (k : ℕ). bit_and left k) (sym whole) ∙ has ∙ whole in
+    sym (and_comm left all_ones ∙ all_over left fits) ∙ both

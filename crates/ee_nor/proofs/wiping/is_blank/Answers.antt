@@ -1,0 +1,6 @@
+use Rattle.std.proofs.Common.{rules}
+use Rattle.ee_nor.proofs.Wipes.{blank_page}
+use Rattle.ee_nor.proofs.wiping.is_blank.Goals as goal
+
+pub returns : goal.returns
+returns g c = search (rules, blank_page)

@@ -1,0 +1,32 @@
+use Rattle.std.proofs.Common.{rules, arith, ap, sym}
+use Rattle.ee_flash.specs.Size.{Size}
+use Rattle.ee_nor.proofs.Wipes.{wipe_left, wiped_blank, wiped_erased, wiped_none, wiped_size}
+use Rattle.ee_nor.proofs.wiping.wipe.Goals.{then-not-is_blank+in_ok-erase, else-not-is_blank}
+use Rattle.ee_nor.proofs.wiping.wipe.Goals as goal
+
+pub pages-init : goal.pages-init
+pages-init g c = sym (wiped_none _)
+
+pub is_blank-requires : goal.is_blank-requires
+is_blank-requires g c = search (rules, wiped_size)
+
+pub returns-in_err-erase-clause-cut : goal.returns-in_err-erase-clause-cut
+returns-in_err-erase-clause-cut g c =
+    let count = ap (λ (size : Size). size.pages) c.shape.ensures in
+    let left =
+    wipe_left c.pages.page (g.N.Nor.nor c.args.nor.now) (g.N.Nor.nor c.pages.nor)
+    (g.N.Nor.nor c.erase.new.self) c.requires c.pages.invariant
+    (omega (arith, count, c.pages-page-end.ensures.value, c.pages-test.true)) (search rules)
+    c.in_err-erase.ensures.cut in
+    search rules
+
+pub pages-preserved : goal.pages-preserved
+pages-preserved g c =
+    let old = g.N.Nor.nor c.args.nor.now in
+    let mid = g.N.Nor.nor c.pages.nor in
+    elim c.if-not-is_blank.branch [
+      | then-not-is_blank+in_ok-erase w ↦ wiped_erased c.pages.page old mid
+          (g.N.Nor.nor c.if-not-is_blank.nor) c.pages.invariant (search rules) (search rules)
+      | else-not-is_blank w ↦ rw w.nor-is
+          (wiped_blank c.pages.page old mid c.pages.invariant (search rules))
+    ]

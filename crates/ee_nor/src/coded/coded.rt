@@ -1,0 +1,111 @@
+//! A device of words on a flash of coded numbers.
+ghost use Rattle.std.specs.Prelude.{◌≡◌, ℕ, IfErr, IfOk, true};
+ghost use Rattle.ee_flash.specs.Device.{all_ones};
+ghost use Rattle.ee_nor.specs.Coded.Coded.{IsCodedSafe};
+ghost use Rattle.ee_nor.specs.Coded.EccNor.{ecc_at, whole_number};
+ghost use Rattle.ee_nor.specs.Coded.Wiping.{IsEccWipeCut, with_all_ecc_wiped};
+
+use crate::coded::ecc_nor::EccNor;
+use crate::coded::runs::fill_run;
+use crate::coded::wiping::wipe;
+use crate::coded::words::{coded_number, word_of_reading};
+use ee_flash::{Cut, Flash, Shape, Word};
+
+/// A device of words on a flash of numbers, each of which is a coded word.
+///
+/// Source: ours.
+#[derive(Drop)]
+pub struct Coded<N: EccNor + Drop> {
+    nor: N,
+    ghost safe: { IsCodedSafe (N.ecc nor) },
+}
+
+impl<N: EccNor + Drop> Coded<N> {
+    /// The device of words of a flash that is blank, or to which only such devices wrote: of a
+    /// number that something else wrote an erase that is cut could make a coded word. Where power is
+    /// cut in no step it is of any flash. Nothing is read, since a reading doesn't tell.
+    pub fn known(nor: N) -> Coded<N>
+        requires safe { IsCodedSafe (N.ecc nor) }
+        ensures same { N.ecc result.nor ≡ N.ecc nor }
+    {
+        Coded { nor }
+    }
+
+    /// The device of words of a flash that may hold anything: each page that isn't blank is erased,
+    /// by rising page. The flash is on, as a condition.
+    ///
+    /// # Errors
+    ///
+    /// `Cut`, with the flash, which is off: power failed in an erase. The pages before it are
+    /// blank.
+    pub fn wipe(mut nor: N) -> Result<Coded<N>, (N, Cut)>
+        requires { (N.ecc nor).on ≡ true }
+        ensures wiped { IfOk result (λ coded. N.ecc coded.nor ≡ with_all_ecc_wiped (N.ecc nor)) }
+        ensures blank { IfOk result (λ coded. (page at : ℕ)
+            → ecc_at (N.ecc coded.nor) page at ≡ whole_number all_ones) }
+        ensures cut { IfErr result (λ refused. IsEccWipeCut (N.ecc nor) (N.ecc refused.0)) }
+    {
+        match wipe(&mut nor) {
+            Ok(()) => Ok(Coded { nor }),
+            Err(cut) => Err((nor, cut)),
+        }
+    }
+
+    /// The flash, as it is.
+    pub fn into_nor(self) -> N
+        ensures same { N.ecc result ≡ N.ecc self.nor }
+        ensures safe { IsCodedSafe (N.ecc result) }
+    {
+        self.nor
+    }
+}
+
+impl<N: EccNor + Drop> Flash for Coded<N> {
+    ghost use Rattle.ee_nor.specs.Coded.Coded.{coded_device};
+    ghost use Rattle.ee_nor.specs.Coded.Formed.{coded_is_formed};
+
+    ghost device = { λ coded. coded_device (N.ecc coded.nor) };
+
+    ghost formed = { λ coded. coded_is_formed (N.ecc coded.nor) (N.formed coded.nor) };
+
+    fn shape(&self) -> Shape {
+        self.nor.shape()
+    }
+
+    fn wear(&self, page: usize) -> u64 {
+        self.nor.wear(page)
+    }
+
+    fn is_on(&self) -> bool {
+        self.nor.is_on()
+    }
+
+    fn word(&self, page: usize, at: usize) -> Word {
+        word_of_reading(self.nor.read(page, at))
+    }
+
+    fn run<'a>(&'a self, page: usize, at: usize, room: &'a mut [u64]) -> &'a [u64] {
+        fill_run(&self.nor, page, at, room);
+        room
+    }
+
+    fn program(&mut self, page: usize, at: usize, value: u64) -> Result<(), Cut> {
+        self.nor.program(page, at, coded_number(value))
+    }
+
+    fn erase(&mut self, page: usize) -> Result<(), Cut> {
+        self.nor.erase(page)
+    }
+
+    fn cuts(&self) -> u64 {
+        self.nor.cuts()
+    }
+
+    fn cuts_left(&self) -> Option<u64> {
+        self.nor.cuts_left()
+    }
+
+    fn power_on(&mut self) {
+        self.nor.power_on();
+    }
+}

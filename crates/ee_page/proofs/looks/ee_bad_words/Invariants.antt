@@ -1,8 +1,0 @@
-use Rattle.ee_page.specs.Mirror.{mirrored_device}
-use Rattle.ee_page.proofs.looks.ee_bad_words.Given as goal
-
-abbrev pub ghosts-judge : goal.ghosts-judge
-ghosts-judge a = record {
-  start = mirrored_device a.shape a.words.now a.flags.now a.wears.now;
-  list = a.listed.ghost_name;
-}

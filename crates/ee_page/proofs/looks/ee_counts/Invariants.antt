@@ -1,8 +1,0 @@
-use Rattle.ee_page.specs.Mirror.{mirrored_device}
-use Rattle.ee_page.proofs.looks.ee_counts.Given as goal
-
-abbrev pub ghosts-count : goal.ghosts-count
-ghosts-count a = record {
-  start = mirrored_device a.shape a.words.now a.flags.now a.wears.now;
-  list = a.listed.ghost_name;
-}

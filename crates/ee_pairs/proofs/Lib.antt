@@ -1,8 +1,0 @@
-mod Bits
-mod Words
-mod PairRuns
-mod High
-mod Steps
-mod Wipes
-mod Premises
-mod Halves

@@ -1,6 +1,0 @@
-use Rattle.std.proofs.Common.{rules}
-use Rattle.ee_pairs.proofs.Bits.{high_stays, makes_no_number}
-use Rattle.ee_pairs.proofs.laws.erase_makes_no_number.Goals as goal
-
-pub returns : goal.returns
-returns c = search (rules, high_stays, makes_no_number)

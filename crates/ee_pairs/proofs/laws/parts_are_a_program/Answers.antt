@@ -1,6 +1,0 @@
-use Rattle.std.proofs.Common.{rules}
-use Rattle.ee_pairs.proofs.Bits.{parts_are_a_program}
-use Rattle.ee_pairs.proofs.laws.parts_are_a_program.Goals as goal
-
-pub returns : goal.returns
-returns c = search (rules, parts_are_a_program)

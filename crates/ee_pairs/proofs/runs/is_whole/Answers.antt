@@ -1,6 +1,0 @@
-use Rattle.std.proofs.Common.{rules}
-use Rattle.ee_pairs.proofs.Halves.{sums_told}
-use Rattle.ee_pairs.proofs.runs.is_whole.Goals as goal
-
-pub returns : goal.returns
-returns c = search (rules, sums_told)

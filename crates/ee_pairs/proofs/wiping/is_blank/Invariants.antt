@@ -1,8 +1,0 @@
-use Rattle.std.proofs.Common.{◌≡◌, ℕ, ◌<◌, false}
-use Rattle.ee_pairs.specs.Nor.{number_at}
-use Rattle.ee_pairs.specs.Wiping.{is_programmed}
-use Rattle.ee_pairs.proofs.wiping.is_blank.Given as goal
-
-abbrev pub invariant-numbers : goal.invariant-numbers
-invariant-numbers g l =
-    (k : ℕ) → k < l.at → is_programmed (number_at (g.N.Nor.nor l.nor) l.page k) ≡ false

@@ -1,5 +1,0 @@
-pub mod Nor
-pub mod Pairs
-pub mod Formed
-pub mod Wiping
-pub mod Laws

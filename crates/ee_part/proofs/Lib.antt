@@ -1,8 +1,0 @@
-mod Causes
-mod Dumps
-mod HexCauses
-mod Hexes
-mod Inspections
-mod Doubts
-mod Counting
-mod ScanWords

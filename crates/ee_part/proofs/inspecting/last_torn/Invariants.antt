@@ -1,9 +1,0 @@
-use Rattle.std.proofs.Common.{◌≡◌, take}
-use Rattle.ee_pages.specs.Page.{is_torn}
-use Rattle.ee_part.specs.Inspecting.{live_slots, up_to_last}
-use Rattle.ee_part.proofs.inspecting.last_torn.Given as goal
-
--- the last torn one of the slots so far
-abbrev pub invariant-slots : goal.invariant-slots
-invariant-slots g l =
-    l.last ≡ up_to_last is_torn (take l.slot (live_slots (g.F.Flash.device l.flash) l.layout))

@@ -1,6 +1,0 @@
-use Rattle.std.proofs.Common.{rules}
-use Rattle.ee_part.proofs.Doubts.{doubts_are_told}
-use Rattle.ee_part.proofs.laws.doubts_are_told.Goals as goal
-
-pub returns : goal.returns
-returns c = search (rules, doubts_are_told)

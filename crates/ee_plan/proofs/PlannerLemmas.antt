@@ -1,0 +1,12 @@
+pub mod Fitting
+pub mod Following
+pub mod Prefixes
+pub mod Best
+pub mod Whole
+pub mod Rising
+pub mod Repeating
+pub mod Counted
+pub mod Stations
+pub mod Demanded
+pub mod Answering
+pub mod Public

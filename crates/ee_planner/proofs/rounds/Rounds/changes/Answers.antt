@@ -1,6 +1,0 @@
-use Rattle.std.proofs.Common.{rules}
-use Rattle.ee_planner.proofs.Demanded.{length-repeated}
-use Rattle.ee_planner.proofs.rounds.Rounds.changes.Goals as goal
-
-pub returns-clause-changes : goal.returns-clause-changes
-returns-clause-changes g c = search (rules, length-repeated)

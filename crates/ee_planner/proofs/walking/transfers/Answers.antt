@@ -1,5 +1,0 @@
-use Rattle.std.proofs.Common.{rules}
-use Rattle.ee_planner.proofs.walking.transfers.Goals as goal
-
-pub returns-then-further-walk-clause-made : goal.returns-then-further-walk-clause-made
-returns-then-further-walk-clause-made g c = search rules fits 100 parts 0

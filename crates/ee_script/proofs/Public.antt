@@ -1,4 +1,0 @@
--- The lemmas that other crates may use. The files that they stand in are this crate's own.
-pub use Rattle.ee_script.proofs.Reading.{no_bad_line, one_bad_line, one_first_bad_line_lem, one_reading, scripts_are_good_lem}
-pub use Rattle.ee_script.proofs.Seen.{IsAnswered-seen}
-pub use Rattle.ee_script.proofs.Streams.{all_given, stream_names}

@@ -1,5 +1,0 @@
-use Rattle.ee_script.proofs.Judging.{script_or_bad_line}
-use Rattle.ee_script.proofs.laws.each_text_is_judged.Goals as goal
-
-pub returns : goal.returns
-returns c = script_or_bad_line

@@ -1,5 +1,0 @@
-use Rattle.std.proofs.Common.{rules}
-use Rattle.ee_script.proofs.session.Session.finish.Goals as goal
-
-pub returns : goal.returns
-returns g c = search rules fits 100 parts 0

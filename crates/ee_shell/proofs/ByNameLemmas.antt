@@ -1,0 +1,11 @@
+pub mod Named
+pub mod OwnCauses
+pub mod TidiedImages
+pub mod Listings
+pub mod Taken
+pub mod Steps
+pub mod Stored
+pub mod Causes
+pub mod Writing
+pub mod Unset
+pub mod Compared

@@ -1,0 +1,53 @@
+-- The lines of what an image holds.
+use Rattle.std.proofs.Common.{◌≡◌, ℕ, Option, List, [], ◌∷◌, ◌++◌, sym, ap, append-nil, codes, decimal, rules, arith}
+use Rattle.std.proofs.lemmas.Grind.{common_steps, flat_map-append}
+use Rattle.ee_text.specs.Field.{joined_fields, space}
+use Rattle.ee_text.specs.Line.{line_feed}
+use Rattle.ee_core.specs.State.{state_of}
+use Rattle.ee_flash.specs.Device.{Device}
+use Rattle.ee_settings.specs.Listing.{listed_in}
+use Rattle.ee_settings.specs.Setting.{Setting}
+use Rattle.ee_settings.specs.declared.listing.Held.{Held}
+use Rattle.ee_settings.specs.declared.listing.Listed.{Listed}
+use Rattle.ee_shell.specs.ByName.Listing.{AreNamed, IsList, held_words, listed_line, listed_lines, name_words, words_behind}
+use Rattle.ee_shell.specs.ByName.Verifying.{difference_line}
+use Rattle.ee_interface.specs.declared.fault.Fault.{Fault}
+use Rattle.ee_interface.specs.declared.fault.Fault.TheVariants.{Memory}
+use Rattle.ee_image_store.proofs.Public.{no_memory_to_open}
+use Rattle.ee_image_store.specs.FileFaults.{IsOpeningFault}
+use Rattle.ee_image_store.specs.Opening.{IsOpened}
+
+joined_behind : (word : List ℕ) (words : List (List ℕ))
+    → joined_fields (word ∷ words) ≡ word ++ words_behind words
+joined_behind word [] = sym (append-nil word)
+joined_behind word (next ∷ more) =
+    ap (λ (rest : List ℕ). word ++ (space ∷ rest)) (joined_behind next more)
+
+-- the line of an address, part by part
+pub line_made : (settings : List Setting) (listed : Listed) (out numbered held named done : List ℕ)
+    → numbered ≡ out ++ decimal listed.address
+    → held ≡ numbered ++ words_behind (held_words listed.held)
+    → named ≡ held ++ words_behind (name_words settings listed.entry)
+    → done ≡ named ++ line_feed ∷ [] → done ≡ out ++ listed_line settings listed
+line_made settings listed out numbered held named done first second third fourth =
+    grind (arith, common_steps, flat_map-append, joined_behind)
+
+-- and the line of a setting that has another value
+pub difference_made : (out name named held wanted done : List ℕ) (what : Held) (value : ℕ)
+    → named ≡ out ++ name → held ≡ named ++ words_behind (held_words what)
+    → wanted ≡ held ++ (codes " wanted " ++ decimal value) → done ≡ wanted ++ line_feed ∷ []
+    → done ≡ out ++ difference_line name what value
+difference_made out name named held wanted done what value first second third fourth =
+    grind (arith, common_steps, flat_map-append, joined_behind)
+
+-- memory can run out whatever the image says
+pub no_memory : (image : List ℕ) (fault : Fault) → fault ≡ Memory → IsOpeningFault image fault
+no_memory image fault none = rw none (no_memory_to_open image)
+
+-- the lines of what the opened store holds are those of the image
+pub is_list : (image lines : List ℕ) (store : Device) (settings : List Setting)
+    (named : Option (List ℕ))
+    → IsOpened image store → AreNamed named settings
+    → lines ≡ listed_lines settings (listed_in settings (state_of store).map)
+    → IsList image named lines
+is_list image lines store settings named opened spelled says = search rules

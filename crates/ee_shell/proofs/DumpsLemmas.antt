@@ -1,0 +1,7 @@
+pub mod Words
+pub mod Pairs
+pub mod Torn
+pub mod Dumps
+pub mod Growing
+pub mod Pairing
+pub mod Public

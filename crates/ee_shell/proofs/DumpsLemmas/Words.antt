@@ -1,0 +1,321 @@
+-- Words and their bytes: as many for each, and no two words alike.
+use Rattle.std.proofs.Common.{◌≡◌, ◌≢◌, ℕ, zero, suc, ◌+◌, ◌*◌, ◌<◌, ◌^◌, List, [], ◌∷◌, ◌++◌, length, get_or, replicate, take, drop, refl, sym, ap, ◌∙◌, arith, inl, inr, length-append}
+use Rattle.std.specs.Int.{byte_at, bytes_low_first, from_le_bytes, to_le_bytes, w64}
+use Rattle.std.specs.List.{All, flat_map}
+use Rattle.std.specs.Simd.{first_chunks}
+use Rattle.std.proofs.lemmas.Bool.{cases_eq}
+use Rattle.std.proofs.lemmas.List.{drop-drop, drop_at, length-drop, length-take-le, take-append-drop, take_at}
+use Rattle.std.proofs.lemmas.List.Elements.{All-append, All-cons, All-drop, All-head, All-nil, All-push, All-replicate, All-tail, All-take}
+use Rattle.std.proofs.lemmas.Nat.{from_le_bytes-to_le_bytes_8, le_bytes_8}
+use Rattle.ee_flash.specs.Device.{IsBelowAllOnes, all_ones}
+use Rattle.ee_flash.specs.declared.word.Word.{Word}
+use Rattle.ee_flash.specs.declared.word.Word.TheVariants.{Erased, Held, Torn}
+use Rattle.ee_flash.proofs.Public.{below-held}
+use Rattle.ee_nor.specs.Pairs.{complement}
+use Rattle.ee_shell.specs.Dumps.Dump.{word_bytes, word_length}
+use Rattle.ee_shell.specs.declared.dumps.form.Form.{Form}
+use Rattle.ee_shell.specs.declared.dumps.form.Form.TheVariants.{Words, Pairs}
+use Rattle.ee_shell.specs.Dumps.Reading.{AreWhole}
+
+-- ---- one word
+
+pub erased_whole : Erased ≢ Torn
+erased_whole e = cc
+
+pub erased_below : IsBelowAllOnes Erased
+erased_below value e = cc
+
+pub held_whole : (value : ℕ) → Held value ≢ Torn
+held_whole value e = cc
+
+some_bytes : (form : Form) → 0 < word_length form
+some_bytes Words = omega arith
+some_bytes Pairs = omega arith
+
+pub length-word_bytes : (form : Form) (word : Word) → word ≢ Torn
+    → length (word_bytes form word) ≡ word_length form
+length-word_bytes Words Erased whole = refl
+length-word_bytes Words (Held value) whole = refl
+length-word_bytes Pairs Erased whole = refl
+length-word_bytes Pairs (Held value) whole = refl
+length-word_bytes form Torn whole = absurd (whole refl)
+
+-- the eight bytes of a number
+pub held_bytes : (bytes : List ℕ) (value : ℕ) → length bytes ≡ 8
+    → ((i : ℕ) → get_or bytes i 0 < 256) → value ≡ from_le_bytes w64 bytes
+    → word_bytes Words (Held value) ≡ bytes
+held_bytes bytes value long small is = le_bytes_8 bytes value long small is
+
+-- those of all ones are an erased word's
+pub erased_bytes : (bytes : List ℕ) (value : ℕ) → length bytes ≡ 8
+    → ((i : ℕ) → get_or bytes i 0 < 256) → value ≡ from_le_bytes w64 bytes → value ≡ all_ones
+    → word_bytes Words Erased ≡ bytes
+erased_bytes bytes value long small is ones =
+    let same : to_le_bytes w64 value ≡ replicate 8 255 = ap (to_le_bytes w64) ones in
+    sym same ∙ le_bytes_8 bytes value long small is
+
+bytes_fit : (a b c d e f g h : ℕ) → a < 256 → b < 256 → c < 256 → d < 256 → e < 256 → f < 256
+    → g < 256 → h < 256
+    → a + b * 256 + c * 65536 + d * 16777216 + e * 4294967296 + f * 1099511627776 + g
+    * 281474976710656 + h * 72057594037927936 < 2 ^ 64
+bytes_fit a b c d e f g h p q r s t u v w = omega arith
+
+pub value_fits : (bytes : List ℕ) → ((i : ℕ) → get_or bytes i 0 < 256)
+    → from_le_bytes w64 bytes < 2 ^ 64
+value_fits bytes small =
+    bytes_fit (get_or bytes 0 0) (get_or bytes 1 0) (get_or bytes 2 0) (get_or bytes 3 0)
+    (get_or bytes 4 0) (get_or bytes 5 0) (get_or bytes 6 0) (get_or bytes 7 0) (small 0)
+    (small 1) (small 2) (small 3) (small 4) (small 5) (small 6) (small 7)
+
+-- a word that can stand in a device, and is not torn, with these bytes
+record IsWordOf (bytes : List ℕ) (word : Word) : Type 0 where
+  whole : word ≢ Torn
+  below_all_ones : IsBelowAllOnes word
+  bytes_are : word_bytes Words word ≡ bytes
+
+word_of : (bytes : List ℕ) → length bytes ≡ 8 → ((i : ℕ) → get_or bytes i 0 < 256)
+    → (word : Word) × IsWordOf bytes word
+word_of bytes long small =
+    let value : ℕ = from_le_bytes w64 bytes in
+    elim (cases_eq value all_ones) [
+      | inl ones ↦ (
+        Erased,
+        record {
+          whole = erased_whole;
+          below_all_ones = erased_below;
+          bytes_are = erased_bytes bytes value long small refl ones;
+        },
+      )
+      | inr other ↦ (
+        Held value,
+        record {
+          whole = held_whole value;
+          below_all_ones =
+              below-held value (let fits : value < 2 ^ 64 = value_fits bytes small in omega arith);
+          bytes_are = held_bytes bytes value long small refl;
+        },
+      )
+    ]
+
+-- what a word's bytes are worth
+held_worth : (value : ℕ) → IsBelowAllOnes (Held value)
+    → from_le_bytes w64 (word_bytes Words (Held value)) ≡ value
+held_worth value below =
+    from_le_bytes-to_le_bytes_8 value (let less = below value refl in omega arith)
+
+erased_worth : from_le_bytes w64 (word_bytes Words Erased) ≡ all_ones
+erased_worth = refl
+
+not_erased : (value : ℕ) → IsBelowAllOnes (Held value)
+    → word_bytes Words (Held value) ≡ word_bytes Words Erased → ⊥
+not_erased value below e =
+    let less : value < all_ones = below value refl in
+    let same : value ≡ all_ones =
+    sym (held_worth value below) ∙ ap (from_le_bytes w64) e ∙ erased_worth in
+    omega arith
+
+-- two words never have the same bytes
+plain_injective : (word other : Word) → IsBelowAllOnes word → IsBelowAllOnes other → word ≢ Torn
+    → other ≢ Torn → word_bytes Words word ≡ word_bytes Words other → word ≡ other
+plain_injective Torn other below under whole sound e = absurd (whole refl)
+plain_injective Erased Torn below under whole sound e = absurd (sound refl)
+plain_injective (Held m) Torn below under whole sound e = absurd (sound refl)
+plain_injective Erased Erased below under whole sound e = refl
+plain_injective Erased (Held n) below under whole sound e = absurd (not_erased n under (sym e))
+plain_injective (Held m) Erased below under whole sound e = absurd (not_erased m below e)
+plain_injective (Held m) (Held n) below under whole sound e =
+    ap Held (sym (held_worth m below) ∙ ap (from_le_bytes w64) e ∙ held_worth n under)
+
+-- the first bytes of a pair are those of the word
+front_plain : (word : Word) → word ≢ Torn → take 8 (word_bytes Pairs word) ≡ word_bytes Words word
+front_plain Erased whole = refl
+front_plain (Held value) whole = refl
+front_plain Torn whole = absurd (whole refl)
+
+pub word_bytes_injective : (form : Form) (word other : Word) → IsBelowAllOnes word
+    → IsBelowAllOnes other → word ≢ Torn → other ≢ Torn
+    → word_bytes form word ≡ word_bytes form other → word ≡ other
+word_bytes_injective Words word other below under whole sound e =
+    plain_injective word other below under whole sound e
+word_bytes_injective Pairs word other below under whole sound e =
+    plain_injective word other below under whole sound
+    (sym (front_plain word whole) ∙ ap (take 8) e ∙ front_plain other sound)
+
+-- ---- a row of words
+
+pub none_whole : AreWhole []
+none_whole =
+    record { none_torn = All-nil (λ word. word ≢ Torn); below_all_ones = All-nil IsBelowAllOnes }
+
+pub one_whole_more : (words : List Word) (word : Word) → AreWhole words → word ≢ Torn
+    → IsBelowAllOnes word → AreWhole (words ++ word ∷ [])
+one_whole_more words word whole sound below = record {
+  none_torn = All-push (λ w. w ≢ Torn) words word whole.none_torn sound;
+  below_all_ones = All-push IsBelowAllOnes words word whole.below_all_ones below;
+}
+
+pub head_whole : (word : Word) (words : List Word) → AreWhole (word ∷ words)
+    → (word ≢ Torn) × IsBelowAllOnes word × AreWhole words
+head_whole word words whole = (
+  All-head (λ w. w ≢ Torn) word words whole.none_torn,
+  All-head IsBelowAllOnes word words whole.below_all_ones,
+  record {
+    none_torn = All-tail (λ w. w ≢ Torn) word words whole.none_torn;
+    below_all_ones = All-tail IsBelowAllOnes word words whole.below_all_ones;
+  },
+)
+
+pub length-words : (form : Form) (words : List Word) → All (λ word. word ≢ Torn) words
+    → length (flat_map (word_bytes form) words) ≡ word_length form * length words
+length-words Words [] sound = omega arith
+length-words Pairs [] sound = omega arith
+length-words Words (word ∷ words) sound =
+    omega (
+      arith,
+      length-append (word_bytes Words word) (flat_map (word_bytes Words) words),
+      length-word_bytes Words word (All-head (λ w. w ≢ Torn) word words sound),
+      length-words Words words (All-tail (λ w. w ≢ Torn) word words sound),
+    )
+length-words Pairs (word ∷ words) sound =
+    omega (
+      arith,
+      length-append (word_bytes Pairs word) (flat_map (word_bytes Pairs) words),
+      length-word_bytes Pairs word (All-head (λ w. w ≢ Torn) word words sound),
+      length-words Pairs words (All-tail (λ w. w ≢ Torn) word words sound),
+    )
+
+-- no two rows of words have the same bytes
+pub words_injective : (form : Form) (words others : List Word) → AreWhole words → AreWhole others
+    → flat_map (word_bytes form) words ≡ flat_map (word_bytes form) others → words ≡ others
+words_injective form [] [] whole sound e = refl
+words_injective form [] (other ∷ others) whole sound e =
+    let first = head_whole other others sound in
+    absurd
+    (omega (
+      arith,
+      ap length e,
+      length-append (word_bytes form other) (flat_map (word_bytes form) others),
+      length-word_bytes form other first.0,
+      some_bytes form,
+    ))
+words_injective form (word ∷ words) [] whole sound e =
+    let first = head_whole word words whole in
+    absurd
+    (omega (
+      arith,
+      ap length e,
+      length-append (word_bytes form word) (flat_map (word_bytes form) words),
+      length-word_bytes form word first.0,
+      some_bytes form,
+    ))
+words_injective form (word ∷ words) (other ∷ others) whole sound e =
+    let first = head_whole word words whole in
+    let second = head_whole other others sound in
+    let long = length-word_bytes form word first.0 in
+    let wide = length-word_bytes form other second.0 in
+    let heads : word_bytes form word ≡ word_bytes form other =
+    sym (take_at (word_bytes form word) (flat_map (word_bytes form) words) (word_length form) long)
+    ∙ ap (take (word_length form)) e
+    ∙ take_at (word_bytes form other) (flat_map (word_bytes form) others) (word_length form)
+    wide in
+    let tails : flat_map (word_bytes form) words ≡ flat_map (word_bytes form) others =
+    sym (drop_at (word_bytes form word) (flat_map (word_bytes form) words) (word_length form) long)
+    ∙ ap (drop (word_length form)) e
+    ∙ drop_at (word_bytes form other) (flat_map (word_bytes form) others) (word_length form)
+    wide in
+    ap (λ (w : Word). w ∷ words)
+    (word_bytes_injective form word other first.1 second.1 first.0 second.0 heads)
+    ∙ ap (λ (ws : List Word). other ∷ ws) (words_injective form words others first.2 second.2 tails)
+
+-- ---- the words of bytes
+
+pub small_at : (bytes : List ℕ) → All (λ byte. byte < 256) bytes → (i : ℕ) → get_or bytes i 0 < 256
+small_at [] small i = omega arith
+small_at (byte ∷ bytes) small zero = All-head (λ (b : ℕ). b < 256) byte bytes small
+small_at (byte ∷ bytes) small (suc i) =
+    small_at bytes (All-tail (λ (b : ℕ). b < 256) byte bytes small) i
+
+-- words with these bytes
+pub record AreWordsOf (bytes : List ℕ) (count : ℕ) (words : List Word) : Type 0 where
+  pub as_many : length words ≡ count
+  pub whole : AreWhole words
+  pub bytes_are : flat_map (word_bytes Words) words ≡ bytes
+
+pub words_of_bytes : (count : ℕ) (bytes : List ℕ) → All (λ byte. byte < 256) bytes
+    → length bytes ≡ 8 * count → (words : List Word) × AreWordsOf bytes count words
+words_of_bytes zero [] small long =
+    ([], record { as_many = refl; whole = none_whole; bytes_are = refl })
+words_of_bytes zero (byte ∷ bytes) small long = absurd (omega arith)
+words_of_bytes (suc count) bytes small long =
+    let first =
+    word_of (take 8 bytes) (length-take-le 8 bytes (omega arith))
+    (small_at (take 8 bytes) (All-take (λ (b : ℕ). b < 256) 8 bytes small)) in
+    let is = first.1 in
+    let rest =
+    words_of_bytes count (drop 8 bytes) (All-drop (λ (b : ℕ). b < 256) 8 bytes small)
+    (omega (arith, length-drop 8 bytes)) in
+    let are = rest.1 in (
+      first.0 ∷ rest.0,
+      record {
+        as_many = ap suc are.as_many;
+        whole = record {
+          none_torn = All-cons (λ w. w ≢ Torn) first.0 rest.0 is.whole are.whole.none_torn;
+          below_all_ones =
+              All-cons IsBelowAllOnes first.0 rest.0 is.below_all_ones are.whole.below_all_ones;
+        };
+        bytes_are =
+            ap (λ l. l ++ flat_map (word_bytes Words) rest.0) is.bytes_are
+            ∙ ap (λ l. take 8 bytes ++ l) are.bytes_are ∙ take-append-drop 8 bytes;
+      },
+    )
+
+-- ---- bytes that are read by eights
+
+pub length-first_chunks : (k : ℕ) (bytes : List ℕ) → length (first_chunks 8 k bytes) ≡ k
+length-first_chunks zero bytes = refl
+length-first_chunks (suc k) bytes = ap suc (length-first_chunks k (drop 8 bytes))
+
+-- the eight bytes of each word
+pub chunk_at : (k : ℕ) (bytes : List ℕ) (i : ℕ) (none : List ℕ) → i < k
+    → get_or (first_chunks 8 k bytes) i none ≡ take 8 (drop (8 * i) bytes)
+chunk_at zero bytes i none within = absurd (omega arith)
+chunk_at (suc k) bytes zero none within = refl
+chunk_at (suc k) bytes (suc i) none within =
+    chunk_at k (drop 8 bytes) i none (omega arith)
+    ∙ ap (take 8) (drop-drop (8 * i) 8 bytes ∙ ap (λ (n : ℕ). drop n bytes) (omega arith))
+
+-- ---- each is a byte
+
+byte_below : (place value : ℕ) → byte_at place value < 256
+byte_below zero value = omega arith
+byte_below (suc place) value = omega arith
+
+bytes_small : (count place value : ℕ) → All (λ byte. byte < 256) (bytes_low_first place count value)
+bytes_small zero place value = All-nil (λ byte. byte < 256)
+bytes_small (suc count) place value =
+    All-cons (λ (byte : ℕ). byte < 256) (byte_at place value)
+    (bytes_low_first (suc place) count value) (byte_below place value)
+    (bytes_small count (suc place) value)
+
+word_small : (form : Form) (word : Word) → All (λ byte. byte < 256) (word_bytes form word)
+word_small Words Erased = All-replicate (λ (byte : ℕ). byte < 256) 8 255 (omega arith)
+word_small Words (Held value) = bytes_small 8 0 value
+word_small Pairs Erased = All-replicate (λ (byte : ℕ). byte < 256) 16 255 (omega arith)
+word_small Pairs (Held value) =
+    All-append (λ (byte : ℕ). byte < 256) (to_le_bytes w64 value)
+    (to_le_bytes w64 (complement value)) (bytes_small 8 0 value)
+    (bytes_small 8 0 (complement value))
+word_small Words Torn = All-nil (λ byte. byte < 256)
+word_small Pairs Torn = All-nil (λ byte. byte < 256)
+
+words_small : (form : Form) (words : List Word)
+    → All (λ byte. byte < 256) (flat_map (word_bytes form) words)
+words_small form [] = All-nil (λ byte. byte < 256)
+words_small form (word ∷ words) =
+    All-append (λ (byte : ℕ). byte < 256) (word_bytes form word) (flat_map (word_bytes form) words)
+    (word_small form word) (words_small form words)
+
+pub words_are_bytes : (form : Form) (words : List Word) (i : ℕ)
+    → get_or (flat_map (word_bytes form) words) i 0 < 256
+words_are_bytes form words i =
+    small_at (flat_map (word_bytes form) words) (words_small form words) i

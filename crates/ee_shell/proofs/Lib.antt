@@ -1,0 +1,3 @@
+pub mod ByNameLemmas
+pub mod PartLemmas
+pub mod DumpsLemmas

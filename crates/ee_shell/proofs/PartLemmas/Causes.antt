@@ -1,0 +1,175 @@
+-- There is one cause at most for which nothing moves, but for want of memory; and none
+-- where something did.
+use Rattle.std.proofs.Common.{◌≡◌, ◌≢◌, ◌⊎◌, inl, inr, ◌∙◌, refl, sym, ap, ℕ, List, length, Result, Ok, Err, IfErr, IfOk, MatchResult, rules}
+use Rattle.ee_flash.specs.Device.{Device, IsFormed}
+use Rattle.ee_flash.specs.Size.{Size}
+use Rattle.ee_image.specs.Text.{at_rest}
+use Rattle.ee_shell.specs.Dumps.Dump.{IsDump, IsFirstTorn, IsImport, dump_length}
+use Rattle.ee_shell.specs.Dumps.Fault.{HasLowPair, IsDumpFault, IsWriteFault}
+use Rattle.ee_shell.specs.declared.dumps.form.Form.{Form}
+use Rattle.ee_shell.specs.declared.dumps.form.Form.TheVariants.{Words, Pairs}
+use Rattle.ee_shell.specs.declared.dumps.fault.DumpFault.{DumpFault}
+use Rattle.ee_shell.specs.declared.dumps.fault.DumpFault.TheVariants as dump
+use Rattle.ee_shell.specs.declared.dumps.fault.WriteFault.{WriteFault}
+use Rattle.ee_shell.specs.declared.dumps.fault.WriteFault.TheVariants as write
+use Rattle.ee_shell.proofs.DumpsLemmas.Public.{imports_are_read, no_torn, one_first, one_low_fault}
+use Rattle.ee_image_store.specs.Opening.{SpellsDevice}
+use Rattle.ee_image_store.proofs.Public.{one_file_fault, only_memory, reading_good, same_at_rest}
+use Rattle.ee_interface.specs.declared.fault.Fault.{Fault}
+use Rattle.ee_interface.specs.declared.fault.Fault.TheVariants.{Memory}
+use Rattle.ee_interface.specs.declared.fault.File.TheVariants.{Image}
+use Rattle.ee_shell.specs.Part.Faults.{IsDeviceFault, IsExportFault, IsImportFault, fault_of_dump, fault_of_write}
+use Rattle.ee_shell.specs.Part.Moving.{IsExported, IsImported}
+
+-- the fault is the cause, or memory ran out
+abbrev pub IsNamed : Fault → Fault → Type 0
+IsNamed fault cause = (fault ≡ cause) ⊎ (fault ≡ Memory)
+
+-- ---- two devices of one text
+
+moved_torn : (device other : Device) (page at : ℕ) → at_rest device ≡ at_rest other
+    → IsFirstTorn device page at → IsFirstTorn other page at
+moved_torn device other page at same first = search rules
+
+pub moved_dump : (form : Form) (device other : Device) (bytes : List ℕ)
+    → at_rest device ≡ at_rest other → IsDump form device bytes → IsDump form other bytes
+moved_dump form device other bytes same is = search rules
+
+pub same_size : (device other : Device) → at_rest device ≡ at_rest other → device.size ≡ other.size
+same_size device other same = ap (λ (d : Device). d.size) same
+
+-- ---- a device without a dump
+
+one_write_fault : (device other : Device) (cause fault : WriteFault)
+    → at_rest device ≡ at_rest other → IsWriteFault device cause → IsWriteFault other fault
+    → (fault ≡ cause) ⊎ (fault ≡ write.Memory) ⊎ (cause ≡ write.Memory)
+one_write_fault device other cause write.Memory same h i = inr (inl refl)
+one_write_fault device other write.Memory fault same h i = inr (inr refl)
+one_write_fault device other (write.TornWord page at) (write.TornWord torn_page place) same h i =
+    search (rules, moved_torn, one_first)
+
+pub one_device_fault : (device other : Device) (cause fault : Fault)
+    → at_rest device ≡ at_rest other → cause ≢ Memory → IsDeviceFault device cause
+    → IsDeviceFault other fault → IsNamed fault cause
+one_device_fault device other cause fault same some h i = search (rules, one_write_fault)
+
+dump_has_none : (form : Form) (device : Device) (bytes : List ℕ) (cause : WriteFault)
+    → IsDump form device bytes → IsWriteFault device cause → cause ≡ write.Memory
+dump_has_none form device bytes (write.TornWord page at) is first =
+    absurd (no_torn form device bytes page at is first)
+dump_has_none form device bytes write.Memory is lack = refl
+
+-- a device with a dump has no cause
+pub device_good : (form : Form) (device other : Device) (bytes : List ℕ) (cause : Fault)
+    → at_rest device ≡ at_rest other → IsDump form other bytes → cause ≢ Memory
+    → IsDeviceFault device cause → ⊥
+device_good form device other bytes cause same is some h =
+    some
+    (h.fault_is
+    ∙ ap fault_of_write
+    (dump_has_none form device bytes h.cause
+    (moved_dump form other device bytes (sym same) is) h.applies))
+
+-- ---- exports
+
+pub one_export_fault : (image : List ℕ) (cause fault : Fault) → cause ≢ Memory
+    → IsExportFault image cause → IsExportFault image fault → IsNamed fault cause
+one_export_fault image cause fault some (inl h) (inl i) =
+    one_file_fault Image image cause fault some h i
+one_export_fault image cause fault some (inl h) (inr i) =
+    absurd (reading_good image i.0 cause i.1 some h)
+one_export_fault image cause fault some (inr h) (inl i) =
+    inr (only_memory Image image h.0 fault h.1 i)
+one_export_fault image cause fault some (inr h) (inr i) =
+    one_device_fault h.0 i.0 cause fault (same_at_rest image h.0 i.0 h.1 i.1) some h.2 i.2
+
+pub exported_good : (form : Form) (image bytes : List ℕ) (cause : Fault)
+    → IsExported form image bytes → cause ≢ Memory → IsExportFault image cause → ⊥
+exported_good form image bytes cause is some (inl h) =
+    reading_good image is.device cause is.spelled some h
+exported_good form image bytes cause is some (inr h) =
+    device_good form h.0 is.device bytes cause (same_at_rest image h.0 is.device h.1 is.spelled)
+    is.dump_is some h.2
+
+-- ---- imports
+
+low_long : (form : Form) (size : Size) (bytes : List ℕ) (page at : ℕ)
+    → HasLowPair form size bytes page at → length bytes ≡ dump_length form size
+low_long Words size bytes page at has = absurd has
+low_long Pairs size bytes page at has = has.0
+
+one_low : (form : Form) (size : Size) (bytes : List ℕ) (page at other place : ℕ)
+    → HasLowPair form size bytes page at → HasLowPair form size bytes other place
+    → dump.LowPair other place ≡ dump.LowPair page at
+one_low Words size bytes page at other place has also = absurd has
+one_low Pairs size bytes page at other place has also =
+    one_low_fault size bytes page at other place has.1 also.1
+
+one_dump_fault : (form : Form) (size : Size) (bytes : List ℕ) (cause fault : DumpFault)
+    → IsDumpFault form size bytes cause → IsDumpFault form size bytes fault
+    → (fault ≡ cause) ⊎ (fault ≡ dump.Memory) ⊎ (cause ≡ dump.Memory)
+one_dump_fault form size bytes cause fault h1 h2 = search (rules, low_long, one_low)
+
+pub one_import_fault : (form : Form) (size : Size) (bytes : List ℕ) (cause fault : Fault)
+    → cause ≢ Memory → IsImportFault form size bytes cause → IsImportFault form size bytes fault
+    → IsNamed fault cause
+one_import_fault form size bytes cause fault some h i = search (rules, one_dump_fault)
+
+-- there is a device with this dump
+abbrev pub IsADump : Form → Size → List ℕ → Type 0
+IsADump form size bytes =
+    (length bytes ≡ dump_length form size)
+    × ((page at : ℕ) → HasLowPair form size bytes page at → ⊥)
+
+dump_has_no_cause : (form : Form) (size : Size) (bytes : List ℕ) (cause : DumpFault)
+    → IsADump form size bytes → IsDumpFault form size bytes cause → cause ≡ dump.Memory
+dump_has_no_cause form size bytes cause h1 h2 = search rules
+
+-- where there is one, nothing but memory was wanting
+pub import_lacks : (form : Form) (size : Size) (bytes : List ℕ) (fault : Fault)
+    → IsADump form size bytes → IsImportFault form size bytes fault → fault ≡ Memory
+import_lacks form size bytes fault is h =
+    h.fault_is ∙ ap fault_of_dump (dump_has_no_cause form size bytes h.cause is h.applies)
+
+-- what was imported is one
+pub imported_is : (form : Form) (size : Size) (bytes image : List ℕ)
+    → IsImported form size bytes image → IsADump form size bytes
+imported_is form size bytes image is =
+    imports_are_read form size bytes is.device is.spelled.formed is.made
+
+pub imported_good : (form : Form) (size : Size) (bytes image : List ℕ) (cause : Fault)
+    → IsImported form size bytes image → cause ≢ Memory → IsImportFault form size bytes cause → ⊥
+imported_good form size bytes image cause is some h =
+    some (import_lacks form size bytes cause (imported_is form size bytes image is) h)
+
+-- memory may run out where a dump was read
+pub import_memory : (form : Form) (size : Size) (bytes : List ℕ) (device : Device) → IsFormed device
+    → IsImport form size bytes device → IsImportFault form size bytes Memory
+import_memory form size bytes device formed made = record {
+  cause = dump.Memory;
+  applies = (imports_are_read form size bytes device formed made).0;
+  fault_is = refl;
+}
+
+-- ---- a device that was read, and then written as bytes, or not
+
+module _ {T : Type 0} (items : T → List ℕ) (form : Form) (image : List ℕ) (device : Device)
+    (spelled : SpellsDevice image device) where
+  pub is_exported : (r : Result T Fault) → IfOk r (λ t. IsDump form device (items t))
+      → IfOk r (λ t. IsExported form image (items t))
+  is_exported (Ok t) is = record { device = device; spelled = spelled; dump_is = is }
+  is_exported (Err fault) is = tt
+
+  pub is_not_exported : (r : Result T Fault) → IfErr r (IsDeviceFault device)
+      → IfErr r (IsExportFault image)
+  is_not_exported (Ok t) wrong = tt
+  is_not_exported (Err fault) wrong = inr (device, spelled, wrong)
+
+  pub export_named : (r : Result T Fault) (cause : Fault)
+      → IfOk r (λ t. IsDump form device (items t)) → IfErr r (IsDeviceFault device) → cause ≢ Memory
+      → IsExportFault image cause
+      → MatchResult r (λ _. ⊥) (λ fault. (fault ≡ cause) ⊎ (fault ≡ Memory))
+  export_named (Ok t) cause is wrong some h =
+      exported_good form image (items t) cause (is_exported (Ok t) is) some h
+  export_named (Err fault) cause is wrong some h =
+      one_export_fault image cause fault some h (inr (device, spelled, wrong))

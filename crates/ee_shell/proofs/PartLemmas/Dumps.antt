@@ -1,0 +1,70 @@
+-- What was exported is imported as it was, and the other way round.
+use Rattle.std.proofs.Common.{rules, ◌≡◌, ◌∙◌, sym, subst, ℕ, List}
+use Rattle.ee_flash.specs.Device.{Device}
+use Rattle.ee_flash.specs.Size.{Size}
+use Rattle.ee_shell.specs.Dumps.Dump.{IsDump, IsWholePage}
+use Rattle.ee_shell.specs.Dumps.Laws.{unworn_device}
+use Rattle.ee_shell.specs.declared.dumps.form.Form.{Form}
+use Rattle.ee_shell.specs.declared.dumps.form.Form.TheVariants.{Words, Pairs}
+use Rattle.ee_shell.proofs.DumpsLemmas.Public.{dumps_are_read_lem, import_of_export_lem, whole_import_lem}
+use Rattle.ee_image_store.specs.Opening.{SpellsDevice}
+use Rattle.ee_interface.specs.declared.fault.Fault.{Fault}
+use Rattle.ee_interface.specs.declared.fault.Fault.TheVariants.{Memory}
+use Rattle.ee_shell.specs.Part.Faults.{IsImportFault}
+use Rattle.ee_shell.specs.Part.Moving.{IsExported, IsImported}
+use Rattle.ee_shell.proofs.PartLemmas.Causes.{IsADump, import_lacks, moved_dump}
+use Rattle.ee_image_store.proofs.Public.{same_at_rest}
+
+-- the dump that was exported is that of each device that the image spells
+pub dump_exported : (form : Form) (image bytes : List ℕ) (device : Device)
+    → SpellsDevice image device → IsExported form image bytes → IsDump form device bytes
+dump_exported form image bytes device spelled is =
+    moved_dump form is.device device bytes (same_at_rest image is.device device is.spelled spelled)
+    is.dump_is
+
+pub image_again : (form : Form) (bytes other : List ℕ) (device : Device) (image : List ℕ)
+    → SpellsDevice image device → IsDump form device bytes → IsImported form device.size bytes other
+    → SpellsDevice other (unworn_device device)
+image_again form bytes other device image spelled is again =
+    subst (SpellsDevice other)
+    ((import_of_export_lem form device again.device bytes spelled.formed is).0
+    again.spelled.formed again.made) again.spelled
+
+-- what was exported can be imported
+pub exported_is : (form : Form) (bytes : List ℕ) (device : Device) (image : List ℕ)
+    → SpellsDevice image device → IsDump form device bytes → IsADump form device.size bytes
+exported_is form bytes device image spelled is = (
+  dumps_are_read_lem form device bytes
+      spelled.formed is,
+  (import_of_export_lem form device device bytes spelled.formed is).1,
+)
+
+pub import_again_lem : (form : Form) (image bytes : List ℕ) (device : Device)
+    → SpellsDevice image device → IsExported form image bytes
+    → ((fault : Fault) → IsImportFault form device.size bytes fault → fault ≡ Memory)
+    × ((other : List ℕ) → IsImported form device.size bytes other
+    → SpellsDevice other (unworn_device device))
+import_again_lem form image bytes device spelled exported =
+    search (rules, dump_exported, import_lacks, exported_is, image_again)
+
+pub export_of_import_lem : (image bytes : List ℕ) (size : Size) → IsImported Words size bytes image
+    → IsExported Words image bytes
+    × ((other : List ℕ) → IsExported Words image other → other ≡ bytes)
+export_of_import_lem image bytes size imported = (
+  record { device = imported.device; spelled = imported.spelled; dump_is = imported.made.dump_is },
+  λ other again. (dump_exported Words image other imported.device imported.spelled again).bytes_are
+      ∙ sym imported.made.dump_is.bytes_are,
+)
+
+pub pairs_export_of_import_lem : (image bytes : List ℕ) (size : Size)
+    → (imported : IsImported Pairs size bytes image)
+    → (((page : ℕ) → IsWholePage imported.device page) → IsExported Pairs image bytes)
+    × ((other : List ℕ) → IsExported Pairs image other → other ≡ bytes)
+pairs_export_of_import_lem image bytes size imported =
+    let is =
+    whole_import_lem Pairs size bytes imported.device imported.spelled.formed imported.made in (
+      λ whole. record { device = imported.device; spelled = imported.spelled; dump_is = is whole },
+      λ other again.
+          let exported = dump_exported Pairs image other imported.device imported.spelled again in
+          exported.bytes_are ∙ sym (is exported.whole).bytes_are,
+    )

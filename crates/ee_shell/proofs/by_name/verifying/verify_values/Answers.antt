@@ -1,0 +1,70 @@
+use Rattle.std.proofs.lemmas.Result.{IfErr-weaker, IfOk-weaker, MatchResult-from_both}
+use Rattle.toml.specs.View.{table_view}
+use Rattle.ee_text.proofs.Public.{error_passed_on, passed_on}
+use Rattle.ee_shell.proofs.ByNameLemmas.Compared.{first_fault, unread_fault, verify_good, verify_stopped, verify_takes, verify_unread}
+use Rattle.ee_shell.proofs.ByNameLemmas.OwnCauses.{named_first, own_left, told_first}
+use Rattle.ee_shell.proofs.by_name.verifying.verify_values.Goals as goal
+
+pub returns-in_err-opened-clause-fault : goal.returns-in_err-opened-clause-fault
+returns-in_err-opened-clause-fault g c =
+    passed_on _ _ _ c.from_residual.ensures.1
+    (told_first c.args.image.now c.args.settings.now _ c.in_err-opened.ensures.fault)
+
+pub returns-in_err-opened-clause-names : goal.returns-in_err-opened-clause-names
+returns-in_err-opened-clause-names g c = λ cause some applies.
+    error_passed_on _ _ _ _ c.from_residual.ensures.1
+    (named_first c.args.image.now c.args.settings.now _ cause c.in_err-opened.ensures.names
+    c.in_err-opened.ensures.only some applies
+    (verify_takes c.args.image.now c.args.settings.now c.args.values.now cause))
+
+pub returns-in_err-table-clause-fault : goal.returns-in_err-table-clause-fault
+returns-in_err-table-clause-fault g c = passed_on _ _ _ c.from_residual-in_err-table.ensures.1
+    (unread_fault c.args.image.now c.args.settings.now c.args.values.now c.in_ok-opened.opened.store
+    c.in_ok-opened.opened.schema _ c.in_ok-opened.ensures.opened c.in_ok-opened.ensures.spelled
+    c.in_err-table.ensures.fault)
+
+pub returns-in_err-table-clause-names : goal.returns-in_err-table-clause-names
+returns-in_err-table-clause-names g c =
+    λ cause some applies. error_passed_on _ _ _ _ c.from_residual-in_err-table.ensures.1
+    (own_left c.args.image.now c.args.settings.now cause c.in_ok-opened.ensures.names some applies
+    (verify_unread c.args.image.now c.args.settings.now c.args.values.now _ cause
+    c.in_err-table.ensures.fault))
+
+pub returns-clause-verified : goal.returns-clause-verified
+returns-clause-verified g c = IfOk-weaker c.verify_on.result _ _
+    (λ given told. record {
+      store = c.in_ok-opened.opened.store;
+      opened = c.in_ok-opened.ensures.opened;
+      settings = c.in_ok-opened.opened.schema;
+      spelled = c.in_ok-opened.ensures.spelled;
+      tree = table_view c.in_ok-table.table;
+      has_tree = c.in_ok-table.ensures.read;
+      lines = told.0;
+      told = told.1;
+      text_is = told.2;
+    })
+    c.verify_on.ensures.verified
+
+pub returns-clause-fault : goal.returns-clause-fault
+returns-clause-fault g c = IfErr-weaker c.verify_on.result _ _
+    (λ fault. first_fault c.args.image.now c.args.settings.now c.args.values.now
+    c.in_ok-opened.opened.store c.in_ok-opened.opened.schema
+    (table_view c.in_ok-table.table) fault c.in_ok-opened.ensures.opened
+    c.in_ok-opened.ensures.spelled c.in_ok-table.ensures.read)
+    c.verify_on.ensures.fault
+
+pub returns-clause-names : goal.returns-clause-names
+returns-clause-names g c = λ cause some applies.
+    let tree = table_view c.in_ok-table.table in
+    own_left c.args.image.now c.args.settings.now cause c.in_ok-opened.ensures.names some applies
+    (λ own. MatchResult-from_both c.verify_on.result _ _
+    (IfOk-weaker c.verify_on.result _ _
+    (λ given told. verify_good c.args.image.now c.args.settings.now c.args.values.now
+    c.in_ok-opened.opened.store c.in_ok-opened.opened.schema tree given.all_stored told.0 cause
+    c.in_ok-opened.ensures.spelled c.in_ok-table.ensures.read told.1 own)
+    c.verify_on.ensures.verified)
+    (IfErr-weaker c.verify_on.result _ _
+    (λ fault stopped. verify_stopped c.args.image.now c.args.settings.now c.args.values.now
+    c.in_ok-opened.opened.store c.in_ok-opened.opened.schema tree fault cause
+    c.in_ok-opened.ensures.spelled c.in_ok-table.ensures.read stopped own)
+    c.verify_on.ensures.fault))

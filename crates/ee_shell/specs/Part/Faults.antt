@@ -1,0 +1,45 @@
+-- Why nothing moves.
+use Rattle.std.specs.Prelude.{◌≡◌, ◌⊎◌, ℕ, List}
+use Rattle.ee_flash.specs.Size.{Size}
+use Rattle.ee_flash.specs.Device.{Device}
+use Rattle.ee_shell.specs.Dumps.Fault.{IsDumpFault, IsWriteFault}
+use Rattle.ee_shell.specs.declared.dumps.form.Form.{Form}
+use Rattle.ee_shell.specs.declared.dumps.fault.DumpFault.{DumpFault}
+use Rattle.ee_shell.specs.declared.dumps.fault.DumpFault.TheVariants as dump
+use Rattle.ee_shell.specs.declared.dumps.fault.WriteFault.{WriteFault}
+use Rattle.ee_shell.specs.declared.dumps.fault.WriteFault.TheVariants as write
+use Rattle.ee_image_store.specs.Opening.{SpellsDevice}
+use Rattle.ee_image_store.specs.FileFaults.{IsReadingFault}
+use Rattle.ee_interface.specs.declared.fault.Fault.{Fault}
+use Rattle.ee_interface.specs.declared.fault.Fault.TheVariants.{DumpLength, LowPair, Memory, TornWord}
+
+-- ---- as they are told
+
+abbrev pub fault_of_dump : DumpFault → Fault
+fault_of_dump dump.Length = DumpLength
+fault_of_dump (dump.LowPair page at) = LowPair page at
+fault_of_dump dump.Memory = Memory
+
+abbrev pub fault_of_write : WriteFault → Fault
+fault_of_write (write.TornWord page at) = TornWord page at
+fault_of_write write.Memory = Memory
+
+-- ---- the causes
+
+-- why bytes are no dump of a part of this size
+pub record IsImportFault (form : Form) (size : Size) (bytes : List ℕ) (fault : Fault) : Type 0 where
+  pub cause : DumpFault
+  pub applies : IsDumpFault form size bytes cause
+  pub fault_is : fault ≡ fault_of_dump cause
+
+-- why a device has no dump
+pub record IsDeviceFault (device : Device) (fault : Fault) : Type 0 where
+  pub cause : WriteFault
+  pub applies : IsWriteFault device cause
+  pub fault_is : fault ≡ fault_of_write cause
+
+-- why there is no dump of an image: it spells no device, or one that has no dump
+abbrev pub IsExportFault : List ℕ → Fault → Type 0
+IsExportFault image fault =
+    IsReadingFault image fault
+    ⊎ ((device : Device) × SpellsDevice image device × IsDeviceFault device fault)

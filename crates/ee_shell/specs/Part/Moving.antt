@@ -1,0 +1,19 @@
+-- What moves between images and parts.
+use Rattle.std.specs.Prelude.{ℕ, List}
+use Rattle.ee_flash.specs.Size.{Size}
+use Rattle.ee_flash.specs.Device.{Device}
+use Rattle.ee_shell.specs.Dumps.Dump.{IsDump, IsImport}
+use Rattle.ee_shell.specs.declared.dumps.form.Form.{Form}
+use Rattle.ee_image_store.specs.Opening.{SpellsDevice}
+
+-- the image of the device that a dump makes
+pub record IsImported (form : Form) (size : Size) (dump image : List ℕ) : Type 0 where
+  pub device : Device
+  pub made : IsImport form size dump device
+  pub spelled : SpellsDevice image device
+
+-- the dump of the device that an image spells
+pub record IsExported (form : Form) (image dump : List ℕ) : Type 0 where
+  pub device : Device
+  pub spelled : SpellsDevice image device
+  pub dump_is : IsDump form device dump

@@ -1,0 +1,29 @@
+//! How a part keeps its words.
+ghost use Rattle.std.specs.Prelude.{◌≡◌};
+ghost use Rattle.ee_shell.specs.Dumps.Dump.{dump_length};
+
+use ee_flash::Shape;
+
+/// How a part keeps its words.
+///
+/// Source: ours.
+#[derive(Clone, Copy, Debug, PartialEq, Eq)]
+pub enum Form {
+    /// Each as itself, in eight bytes: a part with error correction.
+    Words,
+    /// Each as a number beside its complement, in 16 bytes: a part without (`ee_nor`).
+    Pairs,
+}
+
+impl Form {
+    /// How many bytes the words of both sets have.
+    pub fn dump_length(self, shape: Shape) -> usize
+        ensures { result ≡ dump_length self shape }
+    {
+        let word = match self {
+            Form::Words => 8,
+            Form::Pairs => 16,
+        };
+        word * (2 * shape.pages() * shape.words())
+    }
+}

@@ -1,0 +1,7 @@
+pub mod EmptiedMaps
+pub mod TurnByTurn
+pub mod ListedValues
+pub mod KeptChanges
+pub mod WholeDrives
+pub mod StayingChanges
+pub mod Premises

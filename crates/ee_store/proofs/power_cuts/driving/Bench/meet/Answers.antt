@@ -1,0 +1,14 @@
+use Rattle.std.proofs.Common.{rules}
+use Rattle.ee_store.specs.PowerCuts.Bench.{point_of_bench}
+use Rattle.ee_store.proofs.power_cuts.driving.Bench.meet.Goals as goal
+
+pub returns-in-Reopen : goal.returns-in-Reopen
+returns-in-Reopen g c =
+    search (rules, c.reopen.ensures (point_of_bench g.F.Flash.device c.args.self))
+
+pub returns-in-Reopen-event : goal.returns-in-Reopen-event
+returns-in-Reopen-event g c =
+    search (rules, c.reopen-in-Reopen-event.ensures (point_of_bench g.F.Flash.device c.args.self))
+
+pub returns-in-Clean : goal.returns-in-Clean
+returns-in-Clean g c = search rules fits 100 parts 0
