@@ -125,6 +125,11 @@ carry_first start call calls change one moved used fits late =
 abbrev Starts : Device → Situation → Type 0
 Starts device start = IsStartOf (slot_count device.size) (state_of device) start
 
+starts_at : (old mid : Device) (start : Situation) → mid.size ≡ old.size
+    → IsStartOf (slot_count old.size) (state_of mid) start → Starts mid start
+starts_at old mid start same is =
+    subst (λ (size : Size). IsStartOf (slot_count size) (state_of mid) start) (sym same) is
+
 -- what follows is the late store's, from where this device stands
 abbrev Follows : Device → Situation → List Call → Type 0
 Follows device start calls = Starts device start → IsProper start → IsLateOf start calls
@@ -158,11 +163,7 @@ append_then old mid start call calls change meant one still done is live proper 
     record { held = omega (arith, more, held); fits = omega (arith, free) } in
     let here =
     appends old.size (state_of old) (state_of mid) start change meant done.state_is live is in
-    let there : Starts mid (after_move start (Append change)) =
-    subst
-    (λ (size : Size).
-    IsStartOf (slot_count size) (state_of mid) (after_move start (Append change)))
-    (sym done.goes_on.same_size) here in
+    let there = starts_at old mid (after_move start (Append change)) done.goes_on.same_size here in
     append_first start call calls change one still free fits (follows there kept)
 
 -- a move, and what follows
@@ -181,11 +182,7 @@ carry_then old mid start call calls change meant one moved done is live fits fol
     record { held = omega arith; fits = fits } in
     let here =
     moves_on old.size (state_of old) (state_of mid) start change meant done.state_is live is in
-    let there : Starts mid (after_move start (Carry change)) =
-    subst
-    (λ (size : Size).
-    IsStartOf (slot_count size) (state_of mid) (after_move start (Carry change)))
-    (sym done.goes_on.same_size) here in
+    let there = starts_at old mid (after_move start (Carry change)) done.goes_on.same_size here in
     carry_first start call calls change one moved used fits (follows there kept)
 
 -- power was not cut in the call, and it is not of a list, nor a clear

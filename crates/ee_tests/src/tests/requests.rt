@@ -10,8 +10,8 @@ mod texts;
 
 use crate::tests::same;
 use commands::{
-    Change, DUMP, HEADER, HEX, LISTED, NAMED, PAIRS, PROVED, Replay, SCAN, STALE, STATES, STORED,
-    TEN, Text, WEAR, WEAR_SINCE,
+    Change, DIFFERENCE, DUMP, HEADER, HEX, LISTED, NAMED, PAIRS, PROVED, Replay, SCAN, STALE,
+    STATES, STORED, TEN, Text, WEAR, WEAR_SINCE,
 };
 use ee_fakes::images::{CERTIFICATE, CLEANED, FORMATTED, SCRIPT, TIDIED, TWO_MOVES};
 use ee_fakes::{FailingReader, Refusing};
