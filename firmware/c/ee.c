@@ -1089,7 +1089,7 @@ static ListOfU64 pairs_run(const Numbers *self, uint32_t page, uint32_t at, uint
 static Step pairs_program(Numbers *self, uint32_t page, uint32_t at, uint64_t value);
 static void fill_run(const Numbers *nor, uint32_t page, uint32_t at, uint64_t *room_items,
         uint32_t room_len);
-static void fill_from_window(const uint64_t *numbers_items, uint32_t numbers_len,
+EE_APART void fill_from_window(const uint64_t *numbers_items, uint32_t numbers_len,
         uint64_t *room_items, uint32_t room_len);
 static void fill_by_reading(const Numbers *nor, uint32_t page, uint32_t at, uint64_t *room_items,
         uint32_t room_len);
@@ -1182,13 +1182,13 @@ EE_APART void fill_unread(uint64_t *items, uint32_t len) {
 /* Asks for each word of a run. One that can't be read is 0. No read follows one that failed. */
 static void device_fill(const Device *device, const ee_flash *flash, uint32_t page, uint32_t at,
         uint64_t *items, uint32_t len) {
-    for (uint32_t place = 0u; place < len; place++) {
-        const uint32_t failed = flash->word(flash->context, page, at + place, &items[place]);
+    for (uint64_t *const end = &items[len]; items != end; items++, at++) {
+        const uint32_t failed = flash->word(flash->context, page, at, items);
         if (failed == 0u) { continue; }
-        items[place] = 0u;
-        read_failed(device, failed);
-        if (!device_is_on(device)) {
-            fill_unread(&items[place], len - place);
+        *items = 0u;
+        if (failed != EE_TORN) {
+            device->power->flash = NULL;
+            fill_unread(items, (uint32_t)(end - items));
             return;
         }
     }
@@ -4332,7 +4332,7 @@ static void fill_run(const Numbers *nor, uint32_t page, uint32_t at, uint64_t *r
 }
 
 /* The same of numbers in memory, two of each word. */
-static void fill_from_window(const uint64_t *numbers_items, uint32_t numbers_len,
+EE_APART void fill_from_window(const uint64_t *numbers_items, uint32_t numbers_len,
         uint64_t *room_items, uint32_t room_len) {
     const ListOfU64 numbers = { .items = numbers_items, .len = numbers_len };
     const RoomOfU64 room = { .items = room_items, .len = room_len };

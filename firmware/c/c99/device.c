@@ -74,13 +74,13 @@ EE_APART void fill_unread(uint64_t *items, uint32_t len) {
 /* Asks for each word of a run. One that can't be read is 0. No read follows one that failed. */
 static void device_fill(const Device *device, const ee_flash *flash, uint32_t page, uint32_t at,
         uint64_t *items, uint32_t len) {
-    for (uint32_t place = 0u; place < len; place++) {
-        const uint32_t failed = flash->word(flash->context, page, at + place, &items[place]);
+    for (uint64_t *const end = &items[len]; items != end; items++, at++) {
+        const uint32_t failed = flash->word(flash->context, page, at, items);
         if (failed == 0u) { continue; }
-        items[place] = 0u;
-        read_failed(device, failed);
-        if (!device_is_on(device)) {
-            fill_unread(&items[place], len - place);
+        *items = 0u;
+        if (failed != EE_TORN) {
+            device->power->flash = NULL;
+            fill_unread(items, (uint32_t)(end - items));
             return;
         }
     }

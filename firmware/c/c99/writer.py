@@ -17,7 +17,8 @@ RESERVED = {"open", "remove", "read", "write", "close", "start", "format", "mark
 # The sources' marks of where a function's code stands, in C.
 # Functions of the sources that stand in place in C or apart there, whatever rustc is told: so gcc
 # keeps both halves of a word in registers, of which an M0+ has few.
-INLINE = {("state", "is_blank"): "always", ("state", "is_erased"): "never"}
+INLINE = {("state", "is_blank"): "always", ("state", "is_erased"): "never",
+          ("pairs_runs", "fill_from_window"): "never"}
 MARKS = {"always": "EE_IN_PLACE", "never": "EE_APART", None: "static"}
 LOOPS = {"for", "while", "whilelet", "loop"}
 

@@ -44,4 +44,22 @@ PLANTS = {
     "stays-on": (
         r"(\{ return DONE; \}\n)    device->power->flash = NULL;\n(    return CUT;)", r"\1\2",
         "a step that failed isn't noted", "write-words-1x5-0-0-steps"),
+    "stays-on-page": (
+        r"    layout->current = page;\n(    layout->fill \+= 1u;)", r"\1",
+        "a write that begins a page leaves the one before as the last", "write-words-2x5-0-1-steps"),
+    "older-moves": (
+        r"        batch_set\(self, through - 1u, number\);\n", r"",
+        "a move takes the oldest slot of an address", "write-words-1x6-1-2-steps"),
+    "half-compared": (
+        r"\(\((u32_wrapping_add\(low, check_low\)) & u32_wrapping_add\(high, check_high\)\) == ",
+        r"(\1 == ", "of a value and its complement the low halves are compared", "read-pairs-1x5-0-1-nothing"),
+    "half-written": (
+        r"return numbers_program\(self, page, 2u \* at \+ 1u, check\);", r"return DONE;",
+        "a value is written without its complement", "write-pairs-1x5-0-1-programs"),
+    "rescues-older": (
+        r"first_generation < second_generation", r"first_generation > second_generation",
+        "a rescue takes the older of two sets", "rescue-words-1x5-1-1-steps"),
+    "window-behind": (
+        r"numbers_window\(device, page, at, len\)", r"numbers_window(device, page, at - 1u, len)",
+        "several words at once are looked at a place before", "read-words-1x5-0-1-nothing-window"),
 }
