@@ -1089,7 +1089,7 @@ static ListOfU64 pairs_run(const Numbers *self, uint32_t page, uint32_t at, uint
 static Step pairs_program(Numbers *self, uint32_t page, uint32_t at, uint64_t value);
 static void fill_run(const Numbers *nor, uint32_t page, uint32_t at, uint64_t *room_items,
         uint32_t room_len);
-EE_APART void fill_from_window(const uint64_t *numbers_items, uint32_t numbers_len,
+static void fill_from_window(const uint64_t *numbers_items, uint32_t numbers_len,
         uint64_t *room_items, uint32_t room_len);
 static void fill_by_reading(const Numbers *nor, uint32_t page, uint32_t at, uint64_t *room_items,
         uint32_t room_len);
@@ -4332,7 +4332,7 @@ static void fill_run(const Numbers *nor, uint32_t page, uint32_t at, uint64_t *r
 }
 
 /* The same of numbers in memory, two of each word. */
-EE_APART void fill_from_window(const uint64_t *numbers_items, uint32_t numbers_len,
+static void fill_from_window(const uint64_t *numbers_items, uint32_t numbers_len,
         uint64_t *room_items, uint32_t room_len) {
     const ListOfU64 numbers = { .items = numbers_items, .len = numbers_len };
     const RoomOfU64 room = { .items = room_items, .len = room_len };
