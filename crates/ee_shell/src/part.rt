@@ -7,12 +7,12 @@
 //! `specs/Part/Inspecting.antt` what is told of an image that came back from the field.
 
 mod dump;
-mod hex;
+mod hex_files;
 mod image;
 mod inspecting;
 pub mod laws;
 
 pub use crate::dumps::Form;
 pub use dump::{export_image, import_image};
-pub use hex::{export_hex, import_hex};
+pub use hex_files::{export_hex, import_hex};
 pub use inspecting::inspect_text;

@@ -1,7 +1,7 @@
 use Rattle.std.proofs.Common.{rules, ◌≡◌, ℕ, Vec, subst, sym, true}
 use Rattle.ee_shell.specs.Dumps.intel_hex.Fault.{IsBadHexLine, IsHexFault}
 use Rattle.ee_shell.proofs.PartLemmas.HexCauses.{hex_imported, hex_named, hex_names, hex_not_imported, not_fitting, not_placed, text_wrong}
-use Rattle.ee_shell.proofs.part.hex.import_hex.Goals as goal
+use Rattle.ee_shell.proofs.part.hex_files.import_hex.Goals as goal
 
 pub returns-then-not-fits-clause-fault : goal.returns-then-not-fits-clause-fault
 returns-then-not-fits-clause-fault g c =

@@ -5,7 +5,7 @@ use Rattle.ee_interface.specs.declared.fault.Fault.TheVariants.{Base}
 use Rattle.ee_image_store.proofs.Public.{formed_of}
 use Rattle.ee_shell.specs.Part.Hex.{PartFits}
 use Rattle.ee_shell.proofs.PartLemmas.HexCauses.{dump_fits, far_placed, hex_exported_good, is_told, no_memory_told, not_dumped, one_hex_export_fault}
-use Rattle.ee_shell.proofs.part.hex.export_hex.Goals as goal
+use Rattle.ee_shell.proofs.part.hex_files.export_hex.Goals as goal
 
 pub write_hex-requires : goal.write_hex-requires
 write_hex-requires g c =
