@@ -21,7 +21,6 @@ COMMANDS = [
     "header settings",
     "set image settings a 7",
     "apply image settings values",
-    "verify image settings values",
     "stale image settings",
     "tidy image settings",
     "inspect image",

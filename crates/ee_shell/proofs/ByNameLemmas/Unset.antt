@@ -1,5 +1,5 @@
 -- What is forgotten by name, and that one cause at most applies for which it is not.
-use Rattle.std.proofs.Common.{◌≡◌, ◌≢◌, ◌⊎◌, ◌∙◌, ℕ, List, inl, inr, sym, ap, subst, Ok, rules, [], ◌∷◌}
+use Rattle.std.proofs.Common.{◌≡◌, ◌≢◌, ◌⊎◌, ◌∙◌, ℕ, List, inl, inr, sym, subst, Ok, rules, [], ◌∷◌}
 use Rattle.ee_flash.specs.Device.{Device}
 use Rattle.ee_flash.specs.Size.{Size, slot_count}
 use Rattle.ee_pages.specs.Meaning as meaning
@@ -9,7 +9,7 @@ use Rattle.ee_core.specs.State.{State, state_of}
 use Rattle.ee_core.specs.declared.variables.Written.{Written}
 use Rattle.ee_core.specs.declared.variables.Written.TheVariants as written
 use Rattle.ee_settings.specs.Calls.{IsNamed, IsNumbersOf}
-use Rattle.ee_settings.specs.Setting.{HaveRisingNames, Setting}
+use Rattle.ee_settings.specs.Setting.{Setting}
 use Rattle.ee_settings.specs.declared.numbers.Numbers.{Numbers}
 use Rattle.ee_interface.specs.declared.script.command.Command.TheVariants.{Forget}
 use Rattle.ee_interface.specs.declared.fault.Fault.{Fault}
