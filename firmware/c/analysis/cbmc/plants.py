@@ -39,20 +39,21 @@ PLANTS = {
         r"(if \(failed != EE_TORN\)) \{ device->power->flash = NULL; \}", r"\1 { (void)device; }",
         "a read that failed isn't noted", "bad_words-words-1x5-0-1-reads"),
     "fill-goes-on": (
-        r"(fill_unread\(&items\[place\][^;]*;\n)            return;\n", r"\1",
+        r"(fill_unread\(items, \(uint32_t\)[^;]*;\n)            return;\n", r"\1",
         "words are read behind a read that failed", "count-words-1x5-1-1-reads"),
     "stays-on": (
         r"(\{ return DONE; \}\n)    device->power->flash = NULL;\n(    return CUT;)", r"\1\2",
         "a step that failed isn't noted", "write-words-1x5-0-0-steps"),
     "stays-on-page": (
         r"    layout->current = page;\n(    layout->fill \+= 1u;)", r"\1",
-        "a write that begins a page leaves the one before as the last", "write-words-2x5-0-1-steps"),
+        "a write that begins a page leaves the one before as last", "write-words-2x5-0-1-steps"),
     "older-moves": (
         r"        batch_set\(self, through - 1u, number\);\n", r"",
         "a move takes the oldest slot of an address", "write-words-1x6-1-2-steps"),
     "half-compared": (
         r"\(\((u32_wrapping_add\(low, check_low\)) & u32_wrapping_add\(high, check_high\)\) == ",
-        r"(\1 == ", "of a value and its complement the low halves are compared", "read-pairs-1x5-0-1-nothing"),
+        r"(\1 == ", "of a value and its complement the low halves alone are compared",
+        "read-pairs-1x5-0-1-nothing"),
     "half-written": (
         r"return numbers_program\(self, page, 2u \* at \+ 1u, check\);", r"return DONE;",
         "a value is written without its complement", "write-pairs-1x5-0-1-programs"),
