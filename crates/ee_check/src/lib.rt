@@ -25,7 +25,7 @@
 //!
 //! # Read first
 //!
-//! docs/CERTIFICATE.md, then `specs/Schedule.antt`.
+//! docs/GUIDE.md on what a certificate says, then `specs/Schedule.antt`.
 #![tactic(auto)]
 
 mod certificate;

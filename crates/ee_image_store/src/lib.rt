@@ -9,7 +9,7 @@
 //!
 //! # What is proved
 //!
-//! Of these calls each its relation, and each fault under its cause.
+//! `opened` and `left` of these calls say it of each image, and each fault has its cause.
 //!
 //! # What is only tested
 //!

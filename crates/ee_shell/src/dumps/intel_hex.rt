@@ -5,9 +5,10 @@
 //! 16-bit address, a type, the data, and a byte that makes the sum a multiple of 256. Data stands
 //! at its address above the upper address that the last record of type 02 or 04 told; what a text
 //! says outside the part is passed over, and a place that it doesn't name reads as 255. `IsHexOf`
-//! of `specs/intel_hex/Text.antt` states all of that once, for both ends of a line and both cases
-//! of a digit; `hex_text` of `specs/intel_hex/Written.antt` is the one text that is written. `laws`
-//! says that it reads back, and that each text has one reading or one first bad line.
+//! of `specs/Dumps/intel_hex/Text.antt` states all of that once, for both ends of a line and both
+//! cases of a digit; `hex_text` of `specs/Dumps/intel_hex/Written.antt` is the one text that is
+//! written. `laws` says that it reads back, and that each text has one reading or one first bad
+//! line.
 //!
 //! # What is proved
 //!
