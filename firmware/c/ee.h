@@ -508,7 +508,7 @@ static inline const char *ee_status_text(ee_result status) {
     case EE_FOREIGN: return "a word is not the store's";
     case EE_DRIVER: return "the flash failed, and the store is off";
     case EE_NOT_OPEN: return "the store is off";
-    case EE_WRONG_SHAPE: return "pages, page_words or kind is out of range";
+    case EE_WRONG_SHAPE: return "pages, page_words or kind is out of range, or the address is none of a port's";
     case EE_WRONG_NUMBER: return "the address is 0 or 65535";
     case EE_NULL: return "a pointer is NULL";
     case EE_DUPLICATE: return "an address stands twice in the list";

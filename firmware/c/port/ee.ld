@@ -1,5 +1,6 @@
-/* To be included in a linker script behind its MEMORY, which names FLASH, RAM and EE: the store's pages, and the ports' step
- * functions in RAM (compile a port with -DEE_IN_RAM='__attribute__((noinline, section(".ramfunc")))').
+/* To be included at the end of a linker script, behind its SECTIONS: the vectors come first. Its MEMORY names FLASH, RAM and EE:
+ * the store's pages, and the ports' step functions in RAM (compile a port with
+ * -DEE_IN_RAM='__attribute__((noinline, section(".ramfunc")))').
  *
  *     MEMORY
  *     {
@@ -7,6 +8,7 @@
  *         EE (r)     : ORIGIN = 0x0807f000, LENGTH = 4K
  *         RAM (rwx)  : ORIGIN = 0x20000000, LENGTH = 64K
  *     }
+ *     SECTIONS { .vectors : .. }
  *     ee_page = 2K;            the page of the part; 8 bytes a word with ECC, 16 a pair or a unit of 128 bits
  *     INCLUDE ee.ld
  *
@@ -27,3 +29,4 @@ SECTIONS
     .ramfunc : { . = ALIGN(4); ramfunc_start = .; *(.ramfunc .ramfunc.*) . = ALIGN(4); ramfunc_end = .; } > RAM AT > FLASH
     ramfunc_from = LOADADDR(.ramfunc);
 }
+ASSERT(ramfunc_start == ramfunc_end || ramfunc_from > ORIGIN(FLASH), "ee.ld stands before the vectors: include it behind SECTIONS")

@@ -132,7 +132,8 @@ static uint32_t erase(void *context, uint32_t page) {
 
 static void new_part(sim *part, uint32_t pages, uint32_t page_words, uint32_t pairs) {
     owed(pages >= 1 && pages <= SIM_MOST_PAGES, "SIM_MOST_PAGES is less than the pages of a set", pages, 0);
-    owed(page_words >= 5 && page_words <= SIM_MOST_WORDS, "SIM_MOST_WORDS is less than the words of a page", 0, page_words);
+    owed(page_words >= 5, "a page has 5 words at least", 0, page_words);
+    owed(page_words <= SIM_MOST_WORDS, "SIM_MOST_WORDS is less than the words of a page", 0, page_words);
     memset(part, 0, sizeof *part);
     memset(part->words, 0xff, sizeof part->words);
     part->pages = pages;
