@@ -16,8 +16,9 @@
 //! # What is proved
 //!
 //! A read gives exactly the bytes of the last write that was answered; a cut leaves the old record
-//! or the new one, and nothing else changed; each refusal has its cause. `laws`: one word of a
-//! record that went bad is told, always (`one_word_is_told`).
+//! or the new one, and nothing else changed; each refusal has its cause. `laws`: where one word of
+//! a record but its head went bad, that is told or the same bytes are read, never others
+//! (`one_word_is_told`).
 //!
 //! # What is only tested
 //!
