@@ -17,6 +17,17 @@ mod rattle;
 // `build.rs` made these modules of the proved sources.
 include!(concat!(env!("OUT_DIR"), "/crates.rs"));
 
+/// More bytes of stack than any command takes.
+const STACK: usize = 256 * 1024;
+
 fn main() -> std::process::ExitCode {
+    grow_stack();
     ee::main(rattle::rt::HostRuntime)
+}
+
+/// Has the stack before any memory is asked for: where none is left for a stack that grows, the
+/// system ends the program by a signal, and it could not say so.
+#[inline(never)]
+fn grow_stack() {
+    std::hint::black_box([0_u8; STACK]);
 }
