@@ -27,7 +27,7 @@ const ERASED: u8 = 255;
 /// memory ran out; it can come in place of any answer.
 ///
 /// Source: ours.
-#[tactic(auto, using(crate::proofs::DumpsLemmas::intel_hex::Answered::answering))]
+#[tactic(auto, using(crate::proofs::dumps::intel_hex::Answered::answering))]
 pub fn read_hex<A: Allocator + Copy>(
     alloc: A,
     text: &[u8],
@@ -52,7 +52,7 @@ pub fn read_hex<A: Allocator + Copy>(
 }
 
 /// Reads lines till the end record, or gives the number of the first bad one.
-#[tactic(auto, using(crate::proofs::DumpsLemmas::intel_hex::Parsing::reading))]
+#[tactic(auto, using(crate::proofs::dumps::intel_hex::Parsing::reading))]
 fn read_lines<A: Allocator>(text: &[u8], reader: &mut DumpReader<A>) -> Result<(), u64>
     ensures read { OnOk result
         (cells_of_lines reader.old.base 1 reader.old.upper reader.old.cells.items
@@ -120,7 +120,7 @@ impl<A: Allocator> DumpReader<A> {
 
     /// Takes what a line says, by way of the buffer. After a bad line some of its bytes
     /// may have been taken.
-    #[tactic(auto, using(crate::proofs::DumpsLemmas::intel_hex::Parsing::no_bytes, crate::proofs::DumpsLemmas::intel_hex::Parsing::no_row, crate::proofs::DumpsLemmas::intel_hex::Parsing::one_row))]
+    #[tactic(auto, using(crate::proofs::dumps::intel_hex::Parsing::no_bytes, crate::proofs::dumps::intel_hex::Parsing::no_row, crate::proofs::dumps::intel_hex::Parsing::one_row))]
     fn meet(&mut self, line: &[u8], buffer: &mut [u8; MOST_BYTES]) -> Met
         ensures base { self.new.base ≡ self.old.base }
         ensures step { Meets result self.old.cells.items self.new.upper self.new.cells.items
@@ -136,7 +136,7 @@ impl<A: Allocator> DumpReader<A> {
     }
 
     /// Takes what a record says. After a bad one some of its bytes may have been taken.
-    #[tactic(auto, using(crate::proofs::DumpsLemmas::intel_hex::Judging::meeting))]
+    #[tactic(auto, using(crate::proofs::dumps::intel_hex::Judging::meeting))]
     fn meet_row(&mut self, row: Row<'_>) -> Met
         ensures base { self.new.base ≡ self.old.base }
         ensures step { Meets result self.old.cells.items self.new.upper self.new.cells.items
@@ -159,7 +159,7 @@ impl<A: Allocator> DumpReader<A> {
 
     /// Brings bytes to their places, the first to `place`, and says whether each had none or the
     /// same. If not, some may have come there.
-    #[tactic(auto, using(crate::proofs::DumpsLemmas::intel_hex::Places::putting))]
+    #[tactic(auto, using(crate::proofs::dumps::intel_hex::Places::putting))]
     fn put_bytes(&mut self, place: u64, bytes: &[u8]) -> bool
         requires { place < 2 ^ 33 }
         ensures base { self.new.base ≡ self.old.base }
@@ -185,7 +185,7 @@ impl<A: Allocator> DumpReader<A> {
     }
 
     /// The same of bytes whose places are all in the part, the first at `first` of them.
-    #[tactic(auto, using(crate::proofs::DumpsLemmas::intel_hex::Places::putting))]
+    #[tactic(auto, using(crate::proofs::dumps::intel_hex::Places::putting))]
     fn put_inside(&mut self, first: usize, bytes: &[u8]) -> bool
         requires { first + length bytes.now ≤ length self.old.cells.items }
         ensures base { self.new.base ≡ self.old.base }
@@ -209,7 +209,7 @@ impl<A: Allocator> DumpReader<A> {
 
     /// Brings a byte to its place, if that is in the part, and says whether it had none or the
     /// same.
-    #[tactic(auto, using(crate::proofs::DumpsLemmas::intel_hex::Places::put_below, crate::proofs::DumpsLemmas::intel_hex::Places::put_above))]
+    #[tactic(auto, using(crate::proofs::dumps::intel_hex::Places::put_below, crate::proofs::dumps::intel_hex::Places::put_above))]
     fn put(&mut self, place: u64, byte: u8) -> bool
         ensures base { self.new.base ≡ self.old.base }
         ensures upper { self.new.upper ≡ self.old.upper }
@@ -228,7 +228,7 @@ impl<A: Allocator> DumpReader<A> {
     }
 
     /// Brings a byte to place `at` of the part, and says whether it had none or the same.
-    #[tactic(auto, using(crate::proofs::DumpsLemmas::intel_hex::Places::put_new, crate::proofs::DumpsLemmas::intel_hex::Places::put_taken, crate::proofs::DumpsLemmas::intel_hex::Places::put_not_taken))]
+    #[tactic(auto, using(crate::proofs::dumps::intel_hex::Places::put_new, crate::proofs::dumps::intel_hex::Places::put_taken, crate::proofs::dumps::intel_hex::Places::put_not_taken))]
     fn put_at(&mut self, at: usize, byte: u8) -> bool
         requires { at < length self.old.cells.items }
         ensures base { self.new.base ≡ self.old.base }

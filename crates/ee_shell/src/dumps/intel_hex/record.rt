@@ -50,7 +50,7 @@ pub(crate) struct Row<'a> {
 }
 
 /// The line without the carriage return at its end, if one stands there.
-#[tactic(auto, using(crate::proofs::DumpsLemmas::intel_hex::Parsing::bare_cut, crate::proofs::DumpsLemmas::intel_hex::Parsing::bare_kept, crate::proofs::DumpsLemmas::intel_hex::Parsing::bare_empty))]
+#[tactic(auto, using(crate::proofs::dumps::intel_hex::Parsing::bare_cut, crate::proofs::dumps::intel_hex::Parsing::bare_kept, crate::proofs::dumps::intel_hex::Parsing::bare_empty))]
 pub(crate) fn without_return(line: &[u8]) -> &[u8]
     ensures { result.now ≡ line_without_return line.now }
 {
@@ -65,7 +65,7 @@ pub(crate) fn without_return(line: &[u8]) -> &[u8]
 
 /// Brings the bytes that a line spells to the front of the buffer, and gives how many they are.
 /// None where the line spells none, or more than a record has.
-#[tactic(auto, using(crate::proofs::DumpsLemmas::intel_hex::Parsing::no_colon_long, crate::proofs::DumpsLemmas::intel_hex::Parsing::long_digits, crate::proofs::DumpsLemmas::intel_hex::Parsing::odd_digits, crate::proofs::DumpsLemmas::intel_hex::Parsing::bad_digits, crate::proofs::DumpsLemmas::intel_hex::Parsing::digits_found))]
+#[tactic(auto, using(crate::proofs::dumps::intel_hex::Parsing::no_colon_long, crate::proofs::dumps::intel_hex::Parsing::long_digits, crate::proofs::dumps::intel_hex::Parsing::odd_digits, crate::proofs::dumps::intel_hex::Parsing::bad_digits, crate::proofs::dumps::intel_hex::Parsing::digits_found))]
 pub(crate) fn bytes_of_line(line: &[u8], buffer: &mut [u8; MOST_BYTES]) -> Option<usize>
     ensures found { IfSome result
         (λ count. (count ≤ 260) × (bytes_in line.now ≡ Some (take count buffer.new))) }
@@ -88,7 +88,7 @@ pub(crate) fn bytes_of_line(line: &[u8], buffer: &mut [u8; MOST_BYTES]) -> Optio
 
 /// Brings the bytes that the digits spell into a row for as many, and says whether all of them are
 /// digits. If not, others may have come there.
-#[tactic(auto, using(crate::proofs::DumpsLemmas::intel_hex::Digits::all_decoded))]
+#[tactic(auto, using(crate::proofs::dumps::intel_hex::Digits::all_decoded))]
 fn decode(digits: &[u8], bytes: &mut [u8]) -> bool
     requires { length digits.now ≡ 2 * length bytes.old }
     ensures spelled { OnTrue result (decode_of digits.now ≡ Ok bytes.new) }
@@ -106,7 +106,7 @@ fn decode(digits: &[u8], bytes: &mut [u8]) -> bool
 }
 
 /// What a byte is worth as a digit, and 255 where it is none.
-#[tactic(auto, using(crate::proofs::DumpsLemmas::intel_hex::Digits::worth_found))]
+#[tactic(auto, using(crate::proofs::dumps::intel_hex::Digits::worth_found))]
 fn value_of(byte: u8) -> u8
     ensures { result ≡ unwrap_or (hex_digit_value byte) 255 }
 {

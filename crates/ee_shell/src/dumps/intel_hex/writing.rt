@@ -27,7 +27,7 @@ const DIGITS: &[u8; 16] = b"0123456789ABCDEF";
 /// `AllocError`: memory was refused.
 ///
 /// Source: ours.
-#[tactic(auto, using(crate::proofs::DumpsLemmas::intel_hex::Written::one_row_more, crate::proofs::DumpsLemmas::intel_hex::Written::all_written_so))]
+#[tactic(auto, using(crate::proofs::dumps::intel_hex::Written::one_row_more, crate::proofs::dumps::intel_hex::Written::all_written_so))]
 pub fn write_hex<A: Allocator + Copy>(
     alloc: A,
     base: u32,
@@ -119,7 +119,7 @@ fn check_of(front: &[u8], bytes: &[u8]) -> u8
 }
 
 /// Brings the digits of bytes into a line from a place on. What stands before them stays.
-#[tactic(auto, using(crate::proofs::DumpsLemmas::intel_hex::Written::digits_more, crate::proofs::DumpsLemmas::intel_hex::Written::no_digits))]
+#[tactic(auto, using(crate::proofs::dumps::intel_hex::Written::digits_more, crate::proofs::dumps::intel_hex::Written::no_digits))]
 fn put_digits(line: &mut [u8; MOST_CHARACTERS], from: usize, bytes: &[u8])
     requires { from + 2 * length bytes.now ≤ 44 }
     ensures { take (from + 2 * length bytes.now) line.new

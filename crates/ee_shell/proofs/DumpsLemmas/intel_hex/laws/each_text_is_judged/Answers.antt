@@ -1,6 +1,0 @@
-use Rattle.std.proofs.Common.{rules}
-use Rattle.ee_shell.proofs.DumpsLemmas.intel_hex.Judging.{each_text_is_judged_lem}
-use Rattle.ee_shell.proofs.DumpsLemmas.intel_hex.laws.each_text_is_judged.Goals as goal
-
-pub returns : goal.returns
-returns c = search (rules, each_text_is_judged_lem)

@@ -1,6 +1,0 @@
-use Rattle.std.proofs.Common.{rules}
-use Rattle.ee_shell.proofs.DumpsLemmas.intel_hex.Written.{texts_read_back_lem}
-use Rattle.ee_shell.proofs.DumpsLemmas.intel_hex.laws.texts_read_back.Goals as goal
-
-pub returns : goal.returns
-returns c = search (rules, texts_read_back_lem)
