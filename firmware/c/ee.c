@@ -4646,13 +4646,17 @@ ee_result ee_write(ee_store *store, uint16_t address, uint32_t value) {
     return ended(store_write(&store->memory.parts.store, address, value), store);
 }
 
+static bool are_addresses(const ee_value *values, uint32_t count) {
+    uint32_t at = 0u;
+    while (at < count && address_new(values[at].address).some) { at++; }
+    return at == count;
+}
+
 #ifndef EE_NO_LISTS
 ee_result ee_write_all(ee_store *store, const ee_value *values, uint32_t count) {
     const ee_result refused = begun_with(store, 1u, values);
     if (refused != EE_OK) { return refused; }
-    for (uint32_t at = 0u; at < count; at++) {
-        if (!address_new(values[at].address).some) { return ended(EE_WRONG_NUMBER, store); }
-    }
+    if (!are_addresses(values, count)) { return ended(EE_WRONG_NUMBER, store); }
     return ended(store_write_all(&store->memory.parts.store, values, count), store);
 }
 #endif
@@ -4689,34 +4693,23 @@ ee_result ee_read(const ee_store *store, uint16_t address, uint32_t *value) {
 /* For how many addresses a look through the slots is made. */
 #define EE_WANTED 32u
 
-/* Loads some values, as `ee_load` does, and gives how many there are. */
-static uint32_t loaded_of(const ee_store *store, ee_value *values, uint32_t count) {
-    Wanted wanted[EE_WANTED];
-    uint32_t found = 0u;
-    for (uint32_t at = 0u; at < count; at++) {
-        wanted[at] = (Wanted){ .address = values[at].address, .value = maybe_u32_none() };
-    }
-    (void)store_load(&store->memory.parts.store, wanted, count);
-    for (uint32_t at = 0u; power_of(store)->flash != NULL && at < count; at++) {
-        if (wanted[at].value.some) {
-            values[at].value = wanted[at].value.value;
-            found++;
-        }
-    }
-    return found;
-}
-
 ee_result ee_load(const ee_store *store, ee_value *values, uint32_t count, uint32_t *loaded) {
     ee_result status = begun_with(store, 1u, loaded == NULL ? NULL : values);
     if (status != EE_OK) { return status; }
-    for (uint32_t at = 0u; at < count; at++) {
-        if (!address_new(values[at].address).some) { return ended(EE_WRONG_NUMBER, store); }
-    }
+    if (!are_addresses(values, count)) { return ended(EE_WRONG_NUMBER, store); }
     uint32_t found = 0u;
     uint32_t some = 0u;
     for (uint32_t from = 0u; from < count && power_of(store)->flash != NULL; from += some) {
+        Wanted wanted[EE_WANTED];
+        ee_value *const here = &values[from];
         some = u32_least(count - from, EE_WANTED);
-        found += loaded_of(store, &values[from], some);
+        for (uint32_t at = 0u; at < some; at++) { wanted[at] = (Wanted){ .address =
+                here[at].address }; }
+        (void)store_load(&store->memory.parts.store, wanted, some);
+        for (uint32_t at = 0u; power_of(store)->flash != NULL && at < some; at++) {
+            here[at].value = wanted[at].value.some ? wanted[at].value.value : here[at].value;
+            found += wanted[at].value.some ? 1u : 0u;
+        }
     }
     status = ended(EE_OK, store);
     if (status == EE_OK) { *loaded = found; }
