@@ -98,7 +98,7 @@ pub mod proved {
     };
     pub use crate::ee_flash::{Cut, Flash};
     pub use crate::ee_index::{Entry, LentIndex};
-    pub use crate::ee_pages::ScanFault;
     pub use crate::ee_nor::{Nor, Pairs};
+    pub use crate::ee_pages::ScanFault;
     pub use crate::part::holds_more;
 }
