@@ -408,8 +408,11 @@ def pairs(package):
 def plain_tokens(package, path, source):
     """The tokens of a file of plain Rust, behind its first line, which names its source."""
     first, _, rest = path.read_text().partition("\n")
+    licence, _, rest = rest.partition("\n")
     if not first.startswith(f"// Made by {package.maker} from crates/{source.relative_to(CRATES)}."):
         raise Different("the first line does not name its source")
+    if licence != "// SPDX-License-Identifier: MIT OR Apache-2.0":
+        raise Different("the second line does not name the licence")
     return scan(rest)
 
 

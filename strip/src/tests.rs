@@ -476,8 +476,8 @@ fn trees() {
     assert_eq!(
         files,
         [
-            ("ee_core/a/b.rs", "// Made by strip from crates/ee_core/src/a/b.rt. Change that file.\nuse p;\n// (logic -)\n"),
-            ("ee_core/mod.rs", "// Made by strip from crates/ee_core/src/lib.rt. Change that file.\n//! A (none).\n//! B.\nuse p;\nmod a;\n"),
+            ("ee_core/a/b.rs", "// Made by strip from crates/ee_core/src/a/b.rt. Change that file.\n// SPDX-License-Identifier: MIT OR Apache-2.0\nuse p;\n// (logic -)\n"),
+            ("ee_core/mod.rs", "// Made by strip from crates/ee_core/src/lib.rt. Change that file.\n// SPDX-License-Identifier: MIT OR Apache-2.0\n//! A (none).\n//! B.\nuse p;\nmod a;\n"),
         ]
     );
     let says = ("a.rt", "// (logic 1)\n");

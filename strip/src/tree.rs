@@ -96,7 +96,7 @@ fn made_file(
         }
     }
     let head = format!(
-        "// Made by {} from {file}. Change that file.\n",
+        "// Made by {} from {file}. Change that file.\n// SPDX-License-Identifier: MIT OR Apache-2.0\n",
         package.maker
     );
     if package.prelude.is_empty() {

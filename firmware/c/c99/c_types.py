@@ -56,7 +56,7 @@ def spaced(of_type, name):
 
 def comment_of(doc, indent=""):
     """Comments of the sources as one of C's, as lines."""
-    lines = [re.sub(r"^//+!? ?", "", x) for x in doc if not x.startswith(("//!", "// Made by"))]
+    lines = [re.sub(r"^//+!? ?", "", x) for x in doc if not x.startswith(("//!", "// Made by", "// SPDX"))]
     if not lines:
         return []
     lines = [re.sub(r"^# (.*)", r"\1:", x).replace("*/", "* /") for x in lines]

@@ -1,4 +1,5 @@
 // Made by strip from crates/ee_codec/src/address.rt. Change that file.
+// SPDX-License-Identifier: MIT OR Apache-2.0
 //! The name of a variable: any number of 16 bits but the least and the greatest.
 
 /// The name of a variable: a number of 1 to 65534. Addresses are ordered by number.

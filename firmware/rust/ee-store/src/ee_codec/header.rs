@@ -1,4 +1,5 @@
 // Made by strip from crates/ee_codec/src/header.rt. Change that file.
+// SPDX-License-Identifier: MIT OR Apache-2.0
 //! The words of a page's header: the receive word, which names a generation, and the mark.
 
 use crate::ee_flash::Word;

@@ -1,4 +1,5 @@
 // Made by strip from crates/ee_codec/src/lib.rt. Change that file.
+// SPDX-License-Identifier: MIT OR Apache-2.0
 //! The words of the store: what a number of 64 bits says as a slot, as a receive word and as a
 //! mark.
 //!

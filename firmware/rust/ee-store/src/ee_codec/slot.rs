@@ -1,4 +1,5 @@
 // Made by strip from crates/ee_codec/src/slot.rt. Change that file.
+// SPDX-License-Identifier: MIT OR Apache-2.0
 //! The words of a slot: an address has a value from there on, or has none.
 
 use super::address::Address;

@@ -1,4 +1,5 @@
 // Made by strip from crates/ee_core/src/change.rt. Change that file.
+// SPDX-License-Identifier: MIT OR Apache-2.0
 //! A change of the map, and the word that spells it; a value that is put with others.
 
 use crate::ee_codec::{Address, element_word, forget_word};

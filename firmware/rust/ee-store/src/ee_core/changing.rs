@@ -1,4 +1,5 @@
 // Made by strip from crates/ee_core/src/changing.rt. Change that file.
+// SPDX-License-Identifier: MIT OR Apache-2.0
 //! The making of changes that nothing refuses: one in a free slot, or several with a transfer.
 
 use crate::ee_core::change::{Change, Put};

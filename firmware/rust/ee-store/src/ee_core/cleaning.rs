@@ -1,4 +1,5 @@
 // Made by strip from crates/ee_core/src/cleaning.rt. Change that file.
+// SPDX-License-Identifier: MIT OR Apache-2.0
 //! The set that isn't live: how many of its pages wait to be erased, and the erasing of one.
 
 use crate::ee_flash::{Cut, Flash};

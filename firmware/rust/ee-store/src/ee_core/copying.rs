@@ -1,4 +1,5 @@
 // Made by strip from crates/ee_core/src/copying.rt. Change that file.
+// SPDX-License-Identifier: MIT OR Apache-2.0
 //! The copying of a transfer: the map after its change, written into the other set word by word.
 
 use crate::ee_core::change::{Change, Put};

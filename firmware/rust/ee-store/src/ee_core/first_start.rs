@@ -1,4 +1,5 @@
 // Made by strip from crates/ee_core/src/first_start.rt. Change that file.
+// SPDX-License-Identifier: MIT OR Apache-2.0
 //! The call for whenever a device is switched on: it opens the store, or makes the first one.
 
 use crate::ee_core::formatting::write_format;

@@ -1,4 +1,5 @@
 // Made by strip from crates/ee_core/src/formatting.rt. Change that file.
+// SPDX-License-Identifier: MIT OR Apache-2.0
 //! A store with nothing in it: what is written is erased, and the first set becomes the live one.
 
 use crate::ee_flash::{Cut, Flash};

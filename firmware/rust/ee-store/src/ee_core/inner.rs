@@ -1,4 +1,5 @@
 // Made by strip from crates/ee_core/src/inner.rt. Change that file.
+// SPDX-License-Identifier: MIT OR Apache-2.0
 //! The parts of a call, for `ee_index` alone, whose look-up makes each change by them; those of a
 //! store, for `ee_index` and `ee_replay`, which change the look-up, and arm the device in memory
 //! that a store keeps; and openings in place, for `ee_replay` and the C library.

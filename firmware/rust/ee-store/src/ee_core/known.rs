@@ -1,4 +1,5 @@
 // Made by strip from crates/ee_core/src/known.rt. Change that file.
+// SPDX-License-Identifier: MIT OR Apache-2.0
 //! What a store keeps in memory beside its device, and the calls that stand on it.
 
 use crate::ee_core::change::{Change, Put};

@@ -1,4 +1,5 @@
 // Made by strip from crates/ee_core/src/live_cursor.rt. Change that file.
+// SPDX-License-Identifier: MIT OR Apache-2.0
 //! What a transfer copies by: a way over the live addresses, of which each store has its own.
 
 use crate::ee_codec::Address;

@@ -1,4 +1,5 @@
 // Made by strip from crates/ee_core/src/lookup.rt. Change that file.
+// SPDX-License-Identifier: MIT OR Apache-2.0
 //! How a store finds values, and makes the changes that nothing refuses: each kind of store has a
 //! look-up of its own.
 

@@ -1,4 +1,5 @@
 // Made by strip from crates/ee_core/src/marking.rt. Change that file.
+// SPDX-License-Identifier: MIT OR Apache-2.0
 //! The marks that a transfer or a cut left to set: pages used up, the page in use,
 //! pages to be erased.
 

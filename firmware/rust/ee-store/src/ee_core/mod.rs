@@ -1,4 +1,5 @@
 // Made by strip from crates/ee_core/src/lib.rt. Change that file.
+// SPDX-License-Identifier: MIT OR Apache-2.0
 //! The store: a map of addresses to values in any flash device, with power cuts in the contract of
 //! each call.
 //!

@@ -1,4 +1,5 @@
 // Made by strip from crates/ee_core/src/moving.rt. Change that file.
+// SPDX-License-Identifier: MIT OR Apache-2.0
 //! A transfer: the other set is erased, opened and filled, and one mark makes it the live one.
 
 use crate::ee_core::change::Put;

@@ -1,4 +1,5 @@
 // Made by strip from crates/ee_core/src/opening.rt. Change that file.
+// SPDX-License-Identifier: MIT OR Apache-2.0
 //! How a store comes to be: opened from a legal image, or made anew on any device.
 
 use crate::ee_core::formatting::write_format;

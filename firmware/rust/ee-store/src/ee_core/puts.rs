@@ -1,4 +1,5 @@
 // Made by strip from crates/ee_core/src/puts.rt. Change that file.
+// SPDX-License-Identifier: MIT OR Apache-2.0
 //! Lists of values that are put at once: which addresses they have, and whether one
 //! has an address twice.
 

@@ -1,4 +1,5 @@
 // Made by strip from crates/ee_core/src/rescuing.rt. Change that file.
+// SPDX-License-Identifier: MIT OR Apache-2.0
 //! A rescue: the map that a set says is moved to the other set, whatever stands in either.
 
 use crate::ee_core::moving::transfer_by_slots;

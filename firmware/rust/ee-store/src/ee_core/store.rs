@@ -1,4 +1,5 @@
 // Made by strip from crates/ee_core/src/store.rt. Change that file.
+// SPDX-License-Identifier: MIT OR Apache-2.0
 //! The store: it knows where the live set is and how far it is used, and finds values by a look-up.
 
 use crate::ee_core::change::Put;

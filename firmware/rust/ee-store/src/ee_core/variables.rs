@@ -1,4 +1,5 @@
 // Made by strip from crates/ee_core/src/variables.rt. Change that file.
+// SPDX-License-Identifier: MIT OR Apache-2.0
 //! What a store is to its users: its calls, what they answer, and why they refuse.
 
 use crate::ee_core::change::Put;

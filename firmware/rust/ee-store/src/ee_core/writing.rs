@@ -1,4 +1,5 @@
 // Made by strip from crates/ee_core/src/writing.rt. Change that file.
+// SPDX-License-Identifier: MIT OR Apache-2.0
 //! The appending of a change: where its slot begins a further page, two marks come first.
 
 use crate::ee_core::change::Change;

@@ -1,4 +1,5 @@
 // Made by strip from crates/ee_flash/src/device.rt. Change that file.
+// SPDX-License-Identifier: MIT OR Apache-2.0
 //! The flash device as the layers above know it: words are programmed, pages erased, and power is
 //! cut.
 

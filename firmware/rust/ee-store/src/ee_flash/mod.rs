@@ -1,4 +1,5 @@
 // Made by strip from crates/ee_flash/src/lib.rt. Change that file.
+// SPDX-License-Identifier: MIT OR Apache-2.0
 //! The flash device as a value, and what a step may do to it.
 //!
 //! A device has two sets of pages of words, a wear for each page, a count of power cuts, and power

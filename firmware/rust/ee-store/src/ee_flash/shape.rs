@@ -1,4 +1,5 @@
 // Made by strip from crates/ee_flash/src/shape.rt. Change that file.
+// SPDX-License-Identifier: MIT OR Apache-2.0
 //! How large a device is: two sets of as many pages, and each page a header and slots.
 
 /// The words of a page's header, below its slots.

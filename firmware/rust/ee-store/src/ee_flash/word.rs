@@ -1,4 +1,5 @@
 // Made by strip from crates/ee_flash/src/word.rt. Change that file.
+// SPDX-License-Identifier: MIT OR Apache-2.0
 //! A word of flash as it reads: erased, held or torn.
 
 /// What a word of flash holds, as it reads.

@@ -1,4 +1,5 @@
 // Made by strip from crates/ee_index/src/entering.rt. Change that file.
+// SPDX-License-Identifier: MIT OR Apache-2.0
 //! What used slots say goes into an index.
 
 use crate::ee_index::listing::Listing;

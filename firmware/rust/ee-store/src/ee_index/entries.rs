@@ -1,4 +1,5 @@
 // Made by strip from crates/ee_index/src/entries.rt. Change that file.
+// SPDX-License-Identifier: MIT OR Apache-2.0
 //! The entries of an index: addresses with the slots in which they stand, by rising address.
 
 use crate::ee_codec::Address;

@@ -1,4 +1,5 @@
 // Made by strip from crates/ee_index/src/index_changing.rt. Change that file.
+// SPDX-License-Identifier: MIT OR Apache-2.0
 //! Changes with an index: room in it is made before the first step, and it follows without memory.
 
 use crate::ee_index::listing::Listing;

@@ -1,4 +1,5 @@
 // Made by strip from crates/ee_index/src/lent_cursor.rt. Change that file.
+// SPDX-License-Identifier: MIT OR Apache-2.0
 //! What a transfer copies by, where an index may be given up.
 
 use crate::ee_index::reading::IndexCursor;

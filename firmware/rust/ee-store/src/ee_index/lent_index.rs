@@ -1,4 +1,5 @@
 // Made by strip from crates/ee_index/src/lent_index.rt. Change that file.
+// SPDX-License-Identifier: MIT OR Apache-2.0
 //! Values are found by an index in memory that the caller lends, as long as it has room for them.
 
 use crate::ee_index::entering::enter_slots;

@@ -1,4 +1,5 @@
 // Made by strip from crates/ee_index/src/lent_list.rt. Change that file.
+// SPDX-License-Identifier: MIT OR Apache-2.0
 //! A list in memory that the caller lends, which has room for so many addresses.
 
 use crate::ee_index::entries::{Entry, renumber, search};

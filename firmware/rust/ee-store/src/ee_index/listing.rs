@@ -1,4 +1,5 @@
 // Made by strip from crates/ee_index/src/listing.rt. Change that file.
+// SPDX-License-Identifier: MIT OR Apache-2.0
 //! What an index is kept in: a list of addresses with their slots, by rising address.
 
 use crate::ee_index::entries::Entry;

@@ -1,4 +1,5 @@
 // Made by strip from crates/ee_index/src/lib.rt. Change that file.
+// SPDX-License-Identifier: MIT OR Apache-2.0
 //! An index in memory of the slots in which the live addresses stand: a read of a store over it
 //! looks at one word of the flash.
 //!

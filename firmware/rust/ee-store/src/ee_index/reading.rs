@@ -1,4 +1,5 @@
 // Made by strip from crates/ee_index/src/reading.rt. Change that file.
+// SPDX-License-Identifier: MIT OR Apache-2.0
 //! What is read by an index.
 
 use crate::ee_index::entries::Entry;

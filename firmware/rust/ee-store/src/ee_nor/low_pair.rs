@@ -1,4 +1,5 @@
 // Made by strip from crates/ee_nor/src/low_pair.rt. Change that file.
+// SPDX-License-Identifier: MIT OR Apache-2.0
 //! The first word of a flash of numbers whose numbers sum to less than all ones.
 
 use crate::ee_nor::Nor;

@@ -1,4 +1,5 @@
 // Made by strip from crates/ee_nor/src/lib.rt. Change that file.
+// SPDX-License-Identifier: MIT OR Apache-2.0
 //! Words over a flash of plain numbers: two numbers each, a value beside its complement (`Pairs`),
 //! for flash without error correction; or one number each with a check of 15 bits (`coded`), for
 //! flash whose reads correct a bit.

@@ -1,4 +1,5 @@
 // Made by strip from crates/ee_nor/src/nor.rt. Change that file.
+// SPDX-License-Identifier: MIT OR Apache-2.0
 //! A flash of plain numbers as a driver gives it: numbers are programmed, pages
 //! erased, and power is cut.
 

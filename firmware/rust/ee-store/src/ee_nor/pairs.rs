@@ -1,4 +1,5 @@
 // Made by strip from crates/ee_nor/src/pairs.rt. Change that file.
+// SPDX-License-Identifier: MIT OR Apache-2.0
 //! A device of words on a flash of numbers.
 
 use crate::ee_nor::low_pair::{LowPair, first_low};

@@ -1,4 +1,5 @@
 // Made by strip from crates/ee_nor/src/runs.rt. Change that file.
+// SPDX-License-Identifier: MIT OR Apache-2.0
 //! The numbers of words one behind another, each of two numbers of the flash.
 
 use crate::ee_nor::nor::Nor;

@@ -1,4 +1,5 @@
 // Made by strip from crates/ee_nor/src/wiping.rt. Change that file.
+// SPDX-License-Identifier: MIT OR Apache-2.0
 //! A flash of numbers made blank.
 
 use crate::ee_nor::Nor;

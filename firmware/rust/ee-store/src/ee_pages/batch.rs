@@ -1,4 +1,5 @@
 // Made by strip from crates/ee_pages/src/batch.rt. Change that file.
+// SPDX-License-Identifier: MIT OR Apache-2.0
 //! The next live addresses, as many as are found in one look through the slots.
 
 use crate::ee_pages::batch_items::Batch;

@@ -1,4 +1,5 @@
 // Made by strip from crates/ee_pages/src/batch_items.rt. Change that file.
+// SPDX-License-Identifier: MIT OR Apache-2.0
 //! The room of a batch: up to `BATCH` addresses with their values, and while it is
 //! filled some with none.
 

@@ -1,4 +1,5 @@
 // Made by strip from crates/ee_pages/src/find.rt. Change that file.
+// SPDX-License-Identifier: MIT OR Apache-2.0
 //! The scan: where the live set of a legal image is and how far it is used, or why
 //! an image isn't legal.
 

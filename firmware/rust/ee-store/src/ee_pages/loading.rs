@@ -1,4 +1,5 @@
 // Made by strip from crates/ee_pages/src/loading.rt. Change that file.
+// SPDX-License-Identifier: MIT OR Apache-2.0
 //! The values of a list of addresses, by one look through the slots.
 
 use crate::ee_pages::find::Layout;

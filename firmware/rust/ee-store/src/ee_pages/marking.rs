@@ -1,4 +1,5 @@
 // Made by strip from crates/ee_pages/src/marking.rt. Change that file.
+// SPDX-License-Identifier: MIT OR Apache-2.0
 //! A mark as a step: none where its word is written.
 
 use crate::ee_pages::state::{Mark, is_written};

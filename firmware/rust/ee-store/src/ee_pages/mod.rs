@@ -1,4 +1,5 @@
 // Made by strip from crates/ee_pages/src/lib.rt. Change that file.
+// SPDX-License-Identifier: MIT OR Apache-2.0
 //! What an image means: page states, the live set, its slots and the map that they hold.
 //!
 //! # What a contract sees

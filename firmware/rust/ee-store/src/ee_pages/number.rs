@@ -1,4 +1,5 @@
 // Made by strip from crates/ee_pages/src/number.rt. Change that file.
+// SPDX-License-Identifier: MIT OR Apache-2.0
 //! What the number of a word says in the place of a slot.
 
 /// Whether a number is that of an element or a forgetting.

@@ -1,4 +1,5 @@
 // Made by strip from crates/ee_pages/src/read.rt. Change that file.
+// SPDX-License-Identifier: MIT OR Apache-2.0
 //! What the slots of a live set say: values, the next live address, how many are
 //! live, how many torn.
 

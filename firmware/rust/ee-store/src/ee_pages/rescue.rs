@@ -1,4 +1,5 @@
 // Made by strip from crates/ee_pages/src/rescue.rt. Change that file.
+// SPDX-License-Identifier: MIT OR Apache-2.0
 //! Which set of a device with any words whatever is rescued, and how many of its words are bad.
 
 use crate::ee_pages::side::{Side, committed, page_slot, set_word};

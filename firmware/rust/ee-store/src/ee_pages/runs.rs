@@ -1,4 +1,5 @@
 // Made by strip from crates/ee_pages/src/runs.rt. Change that file.
+// SPDX-License-Identifier: MIT OR Apache-2.0
 //! The words of a page, several at a time.
 
 use crate::ee_flash::Flash;

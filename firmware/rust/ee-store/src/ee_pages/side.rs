@@ -1,4 +1,5 @@
 // Made by strip from crates/ee_pages/src/side.rt. Change that file.
+// SPDX-License-Identifier: MIT OR Apache-2.0
 //! The two sets of a device, and the places of their pages, words and slots.
 
 use crate::ee_codec::{MARK, read_receive};

@@ -1,4 +1,5 @@
 // Made by strip from crates/ee_pages/src/state.rt. Change that file.
+// SPDX-License-Identifier: MIT OR Apache-2.0
 //! What a page's header says: the last word of it that is written names the state.
 
 use crate::ee_pages::runs::{RUN, UNREAD, run_from};

@@ -1,4 +1,5 @@
 // Made by strip from crates/ee_pages/src/table.rt. Change that file.
+// SPDX-License-Identifier: MIT OR Apache-2.0
 //! Which word may stand in which place of a live set: what makes an image legal.
 
 use crate::ee_pages::state::is_written;

@@ -1,4 +1,5 @@
 // Made by strip from crates/ee_records/src/check.rt. Change that file.
+// SPDX-License-Identifier: MIT OR Apache-2.0
 //! The words of bytes, the lowest byte first, and the check of a record: CRC-32 over its length and
 //! these words.
 

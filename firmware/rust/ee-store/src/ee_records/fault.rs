@@ -1,4 +1,5 @@
 // Made by strip from crates/ee_records/src/fault.rt. Change that file.
+// SPDX-License-Identifier: MIT OR Apache-2.0
 //! Why a record isn't read, written or trimmed.
 
 /// Why a record isn't read, the first cause that applies.

@@ -1,4 +1,5 @@
 // Made by strip from crates/ee_records/src/forgetting.rt. Change that file.
+// SPDX-License-Identifier: MIT OR Apache-2.0
 //! Forgetting a record, and the words that it doesn't need.
 
 use crate::ee_records::fault::TrimFault;

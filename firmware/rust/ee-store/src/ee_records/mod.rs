@@ -1,4 +1,5 @@
 // Made by strip from crates/ee_records/src/lib.rt. Change that file.
+// SPDX-License-Identifier: MIT OR Apache-2.0
 //! Records: bytes of any length in a store of 32-bit variables, each written whole or not at all,
 //! by single writes, and read with a check.
 //!

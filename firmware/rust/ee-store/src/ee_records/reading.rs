@@ -1,4 +1,5 @@
 // Made by strip from crates/ee_records/src/reading.rt. Change that file.
+// SPDX-License-Identifier: MIT OR Apache-2.0
 //! Reading a record.
 
 use crate::ee_records::check::{check_of, words_for};

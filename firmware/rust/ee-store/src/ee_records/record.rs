@@ -1,4 +1,5 @@
 // Made by strip from crates/ee_records/src/record.rt. Change that file.
+// SPDX-License-Identifier: MIT OR Apache-2.0
 //! Where a record stands: its base address, its room, and the two addresses of each word.
 
 use crate::ee_codec::Address;

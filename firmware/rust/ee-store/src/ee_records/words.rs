@@ -1,4 +1,5 @@
 // Made by strip from crates/ee_records/src/words.rt. Change that file.
+// SPDX-License-Identifier: MIT OR Apache-2.0
 //! The words of a record: their turns, and their bytes.
 
 use crate::ee_records::check::{bytes_word, check_of, words_for};

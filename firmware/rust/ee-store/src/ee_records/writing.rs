@@ -1,4 +1,5 @@
 // Made by strip from crates/ee_records/src/writing.rt. Change that file.
+// SPDX-License-Identifier: MIT OR Apache-2.0
 //! Writing a record: the words that change, and then its head.
 
 use crate::ee_records::fault::RecordFault;
