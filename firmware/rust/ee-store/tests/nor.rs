@@ -206,6 +206,7 @@ fn a_range_has_a_shape() {
         assert_eq!(shape_of::<4, 4096>(4096, end), Err(Unfit::Length));
     }
     assert_eq!(shape_of::<4, 64>(0, 128), Err(Unfit::Sector));
+    assert_eq!(shape_of::<4, 64>(0, 130 * 64), Err(Unfit::Length));
 }
 
 #[test]
