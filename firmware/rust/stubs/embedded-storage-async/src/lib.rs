@@ -1,4 +1,4 @@
-//! As much of `embedded-storage-async` 0.4 as `ee-store` and a flash for it use, by its documentation.
+//! As much of `embedded-storage-async` 0.4 as `ee-store` uses, by its documentation.
 #![no_std]
 #![forbid(unsafe_code)]
 #![allow(async_fn_in_trait)]
@@ -32,30 +32,5 @@ pub mod nor_flash {
 
         /// Writes bytes, which were erased before.
         async fn write(&mut self, offset: u32, bytes: &[u8]) -> Result<(), Self::Error>;
-    }
-
-    impl<F: ReadNorFlash> ReadNorFlash for &mut F {
-        const READ_SIZE: usize = F::READ_SIZE;
-
-        async fn read(&mut self, offset: u32, bytes: &mut [u8]) -> Result<(), F::Error> {
-            (**self).read(offset, bytes).await
-        }
-
-        fn capacity(&self) -> usize {
-            (**self).capacity()
-        }
-    }
-
-    impl<F: NorFlash> NorFlash for &mut F {
-        const WRITE_SIZE: usize = F::WRITE_SIZE;
-        const ERASE_SIZE: usize = F::ERASE_SIZE;
-
-        async fn erase(&mut self, from: u32, to: u32) -> Result<(), F::Error> {
-            (**self).erase(from, to).await
-        }
-
-        async fn write(&mut self, offset: u32, bytes: &[u8]) -> Result<(), F::Error> {
-            (**self).write(offset, bytes).await
-        }
     }
 }

@@ -69,35 +69,6 @@ pub mod nor_flash {
         fn write(&mut self, offset: u32, bytes: &[u8]) -> Result<(), Self::Error>;
     }
 
-    impl<F: ErrorType + ?Sized> ErrorType for &mut F {
-        type Error = F::Error;
-    }
-
-    impl<F: ReadNorFlash + ?Sized> ReadNorFlash for &mut F {
-        const READ_SIZE: usize = F::READ_SIZE;
-
-        fn read(&mut self, offset: u32, bytes: &mut [u8]) -> Result<(), F::Error> {
-            (**self).read(offset, bytes)
-        }
-
-        fn capacity(&self) -> usize {
-            (**self).capacity()
-        }
-    }
-
-    impl<F: NorFlash + ?Sized> NorFlash for &mut F {
-        const WRITE_SIZE: usize = F::WRITE_SIZE;
-        const ERASE_SIZE: usize = F::ERASE_SIZE;
-
-        fn erase(&mut self, from: u32, to: u32) -> Result<(), F::Error> {
-            (**self).erase(from, to)
-        }
-
-        fn write(&mut self, offset: u32, bytes: &[u8]) -> Result<(), F::Error> {
-            (**self).write(offset, bytes)
-        }
-    }
-
     /// Whether a flash has bytes that are to be read, and they are whole reads.
     pub fn check_read<F: ReadNorFlash>(
         flash: &F,
