@@ -49,9 +49,7 @@ pub trait Ecc<F: ReadNorFlash> {
 
     /// It is called before these bytes are erased. A reader that keeps torn words, since a cache may hide the error of a second
     /// read, forgets those in them.
-    fn erases(&self, bytes: Range<u32>) {
-        let _ = bytes;
-    }
+    fn erases(&self, _bytes: Range<u32>) {}
 }
 
 /// How a read ended that didn't fail.
