@@ -88,18 +88,23 @@ typedef struct values {
     uint32_t of[ADDRESSES + 1];
 } values;
 
-/* Makes a call, and says what it makes of the values where it is done. */
-static ee_result call(values *made) {
+/* Opens the store, or makes one of what its slots say. */
+typedef ee_result opening(ee_store *, const ee_flash *);
+
+/* Makes a call, and says what it makes of the values where it is done, and how the store is opened where it is cut. */
+static ee_result call(values *made, opening **next) {
     uint16_t address = (uint16_t)(1 + below(ADDRESSES)), other = (uint16_t)(1 + address % ADDRESSES);
-    uint32_t value = 1 + (below(2) ? below(100) : below(UINT32_MAX));
-    switch (below(8)) {
+    uint32_t value = 1 | (below(2) ? below(100) : (uint32_t)(dice >> 32));
+    *next = ee_start;
+    switch (below(16)) {
     case 0: return ee_clean(&store);
-    case 1: {
-        ee_value list[2] = {{.address = address, .value = value}, {.address = other, .value = value + 1}};
-        made->of[address] = value, made->of[other] = value + 1;
+    case 1: *next = ee_rescue; return ee_rescue(&store, &flash);
+    case 2: {
+        ee_value list[2] = {{.address = address, .value = value}, {.address = other, .value = value ^ 2}};
+        made->of[address] = value, made->of[other] = value ^ 2;
         return ee_write_all(&store, list, 2);
     }
-    case 2:
+    case 3:
         made->of[address] = 0;
         return ee_forget(&store, address);
     default: made->of[address] = value; return ee_write(&store, address, value);
@@ -115,8 +120,8 @@ static int has(const values *wanted) {
     return count == 0;
 }
 
-/* Calls over words, a cut in each few steps: how many starts behind a cut answered EE_FOREIGN or refused otherwise, and how many
- * opened with a value that is neither the one before the call nor the one that it gives. Behind each a new part is taken. */
+/* Calls of a kind, rescues too, a cut in each few steps: how many openings behind a cut answered EE_FOREIGN or refused otherwise,
+ * and how many found a value that is neither the one before the call nor the one that it gives. Behind each a new part is taken. */
 static void check_store(uint32_t kind, sim_ecc_tear tear, unsigned long cuts, unsigned long counts[3]) {
     values before = {{0}}, made;
     part.is_on = 0;
@@ -129,12 +134,13 @@ static void check_store(uint32_t kind, sim_ecc_tear tear, unsigned long cuts, un
             memset(&before, 0, sizeof before);
         }
         ee_result status = EE_OK;
+        opening *next;
         sim_ecc_cut(&part, 1 + below(12), tear);
-        while (made = before, status = call(&made), part.is_on)
+        while (made = before, status = call(&made, &next), part.is_on)
             if (status == EE_OK) before = made;
         CHECK(status == EE_DRIVER);
         part.is_on = 1;
-        status = ee_start(&store, &flash);
+        status = next(&store, &flash);
         int is_before = status == EE_OK && has(&before), is_made = status == EE_OK && has(&made);
         if (is_made && !is_before) before = made;
         counts[0] += status == EE_FOREIGN;
