@@ -262,7 +262,18 @@ fn units_of_32_bytes() {
     }
 }
 
-/// A flash that writes so many bytes at a time, and is never written.
+/// An erase looks at its own page alone, whatever stands behind it.
+#[test]
+fn an_erase_looks_at_its_page() {
+    let shape = Shape::new(1, 20).unwrap();
+    let flash = Units::<8>(vec![0; 320]);
+    let mut driver = NorDriver::new(flash, 0, shape, Kind::Words, Plain).unwrap();
+    for page in [0, 1] {
+        assert_eq!(driver.erase(page), Ok(()));
+    }
+}
+
+/// A flash that writes so many bytes at a time. It is never written, and erased only where they are 8.
 struct Units<const W: usize>(Vec<u8>);
 
 impl<const W: usize> ErrorType for Units<W> {
@@ -286,8 +297,10 @@ impl<const W: usize> NorFlash for Units<W> {
     const WRITE_SIZE: usize = W;
     const ERASE_SIZE: usize = 5 * W;
 
-    fn erase(&mut self, _from: u32, _to: u32) -> Result<(), Broken> {
-        unreachable!("nothing is erased")
+    fn erase(&mut self, from: u32, to: u32) -> Result<(), Broken> {
+        assert_eq!(W, 8, "nothing is erased");
+        self.0[from as usize..to as usize].fill(0xff);
+        Ok(())
     }
 
     fn write(&mut self, _offset: u32, _bytes: &[u8]) -> Result<(), Broken> {
