@@ -1,4 +1,5 @@
-//! Laws of pairs, each the contract of a function that does nothing.
+//! Laws of pairs, and one of coded words, each the contract of a function that does nothing.
+ghost use Rattle.ee_nor.specs.Coded.Shapes.{OtherMarkIsTorn};
 ghost use Rattle.ee_nor.specs.Laws.{EraseMakesNoNumber, PairsAreFormed, PartsAreAProgram, TornIsTold};
 
 /// A word that was cut on its way to a value reads as that value, or as none.
@@ -20,4 +21,9 @@ pub fn parts_are_a_program()
 /// The words of a flash of numbers that is formed are a formed device.
 pub fn pairs_are_formed()
     ensures { PairsAreFormed }
+{}
+
+/// The mark of coded words of one shape is torn on a device of another.
+pub fn other_mark_is_torn()
+    ensures { OtherMarkIsTorn }
 {}
