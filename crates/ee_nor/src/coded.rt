@@ -14,9 +14,9 @@
 //! (`specs/Coded/EccNor.antt`): cells, and beside each number what it reads as.
 //! `specs/Coded/Coded.antt` says which word a reading is.
 //!
-//! The mark has the shape of the device, and that of another is torn. So a flash that was written in
-//! another shape has no committed set, and `Coded::of` names that shape where the first page of a
-//! set does. Numbers of something else read as torn: a store is first made only where no other is
+//! The mark has the shape of the device, and that of another is torn. So a flash that was written
+//! in another shape has no committed set, and `Coded::of` names that shape where the first page of
+//! a set does. Numbers of something else read as torn: a store is first made only where no more is
 //! written than a first start leaves (`may_be_new`).
 //!
 //! **No program uses coded words yet**, and the firmware keeps words and pairs alone. Not here: a
@@ -34,10 +34,10 @@
 //! reads as none, with one bit turned too (`erased_is_none`).
 //!
 //! `Coded` keeps the contract of `ee_flash::Flash`, to the letter, for numbers that a store writes.
-//! A word is held only where it is the coded word of its number.
-//! Where power may be cut it needs that each number is erased or one that a coded word was
-//! programmed into, which every step and every cut keeps (`safe`). That a cut erase completes no
-//! number which an earlier cut left torn is no theorem but a clause of `EccNor::erase`.
+//! A word is held only where it is the coded word of its number. Where power may be cut `Coded`
+//! needs that each number is erased or one that a coded word was programmed into, which every step
+//! and every cut keeps (`safe`). That a cut erase completes no number which an earlier cut left
+//! torn is no theorem but a clause of `EccNor::erase`.
 
 mod code;
 mod coded;

@@ -31,10 +31,10 @@ impl<N: EccNor + Drop> Coded<N> {
     ///
     /// # Errors
     ///
-    /// `OtherShape`, with the flash as it was: such a word is the mark of this shape, and not of the
-    /// flash's. Page 0 is looked at first, which is the first page of set 0 in each shape. That of
-    /// set 1 is looked for where this shape has it: so a flash whose page 0 was erased, and which
-    /// was written in another shape, may pass. In it no mark reads as one.
+    /// `OtherShape`, with the flash as it was: the mark there is of this shape, and not of the
+    /// device's own. Page 0 comes first, the first page of set 0 in each shape. That of set 1 is
+    /// looked for where the own shape has it. So a flash of another shape passes where page 0 is
+    /// erased and no mark stands there; as none of its marks reads as one, it has no live set.
     pub fn of(nor: N) -> Result<Coded<N>, (N, OtherShape)>
         requires safe { IsCodedSafe (N.ecc nor) }
         ensures same { IfOk result (λ coded. N.ecc coded.nor ≡ N.ecc nor) }
