@@ -31,7 +31,9 @@
 //! `decode` is its inverse (`reads_as_written`), and reads nothing else. What a cut left of a
 //! program, read with one bit turned at most, reads as the number asked for or as none
 //! (`torn_is_told`); so it does after a cut erase on top (`erase_makes_no_number`). An erased word
-//! reads as none, with one bit turned too (`erased_is_none`).
+//! reads as none, with one bit turned too (`erased_is_none`). On a device of one shape the mark of
+//! another is torn (`other_mark_is_torn` in `laws`), and a slot's value, kind and address stand in
+//! its word as they are (`slots_stand_in_clear`).
 //!
 //! `Coded` keeps the contract of `ee_flash::Flash`, to the letter, for numbers that a store writes.
 //! A word is held only where it is the coded word of its number. Where power may be cut `Coded`

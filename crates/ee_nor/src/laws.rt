@@ -1,4 +1,5 @@
-//! Laws of pairs, and one of coded words, each the contract of a function that does nothing.
+//! Laws of pairs and of coded words, each the contract of a function that does nothing.
+ghost use Rattle.ee_nor.specs.Coded.Coded.{SlotsStandInClear};
 ghost use Rattle.ee_nor.specs.Coded.Shapes.{OtherMarkIsTorn};
 ghost use Rattle.ee_nor.specs.Laws.{EraseMakesNoNumber, PairsAreFormed, PartsAreAProgram, TornIsTold};
 
@@ -26,4 +27,10 @@ pub fn pairs_are_formed()
 /// The mark of coded words of one shape is torn on a device of another.
 pub fn other_mark_is_torn()
     ensures { OtherMarkIsTorn }
+{}
+
+/// In the coded word of a slot's number the value, kind and address stand as they are, and no other
+/// has an address.
+pub fn slots_stand_in_clear()
+    ensures { SlotsStandInClear }
 {}

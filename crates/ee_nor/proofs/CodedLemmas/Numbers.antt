@@ -19,7 +19,7 @@ use Rattle.ee_nor.proofs.CodedLemmas.Near.{coded_fits, coded_ones, decoded_again
 -- ---- a number and its payload
 
 -- a slot's, the mark, or another
-number_cases : (size : Size) (number : ℕ)
+pub number_cases : (size : Size) (number : ℕ)
     → ((number % 2 ^ 32 < 2 ^ 17) × (0 < number % 2 ^ 16)
     × (payload_of_number size number ≡ number / 2 ^ 32 * 2 ^ 17 + number % 2 ^ 17))
     ⊎ (((IsSlotNumber number → ⊥) × (number % 2 ^ 32 ≡ header_half)

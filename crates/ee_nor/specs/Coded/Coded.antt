@@ -1,8 +1,8 @@
 -- The words of a flash whose numbers are coded.
-use Rattle.std.specs.Prelude.{◌≡◌, ◌≢◌, ℕ, ◌+◌, ◌*◌, ◌/◌, ◌%◌, ◌^◌, ◌==◌, ◌&&◌, nat_lt, Bool, if◌then◌else◌, Option, Some, None, List, map}
+use Rattle.std.specs.Prelude.{◌≡◌, ◌≢◌, ◌<◌, ℕ, ◌+◌, ◌*◌, ◌/◌, ◌%◌, ◌^◌, ◌==◌, ◌&&◌, nat_lt, Bool, if◌then◌else◌, Option, Some, None, List, map}
 use Rattle.std.specs.List.{range_with_len}
 use Rattle.ee_flash.specs.Device.{Device, all_ones}
-use Rattle.ee_flash.specs.Numbers.{header_half}
+use Rattle.ee_flash.specs.Numbers.{IsSlotNumber, header_half}
 use Rattle.ee_flash.specs.Runs.{number_of}
 use Rattle.ee_flash.specs.Size.{Size}
 use Rattle.ee_flash.specs.declared.word.Word.{Word}
@@ -80,6 +80,15 @@ coded_device ecc = record {
 abbrev pub run_of_codes : Size → List EccNumber → ℕ → ℕ → List ℕ
 run_of_codes size numbers at count =
     map (λ place. number_of (word_of_ecc size (ecc_in numbers place))) (range_with_len at count)
+
+-- What a look needs no decoding for: a number whose 16 lowest bits aren't 0 is a slot's or torn,
+-- and in a slot's the value, kind and address stand as they are.
+abbrev pub SlotsStandInClear : Type 0
+SlotsStandInClear =
+    (size : Size) (read number : ℕ) → coded_word size read ≡ Held number
+    → (0 < read % 2 ^ 16 → IsSlotNumber number)
+    × (IsSlotNumber number
+    → (read / 2 ^ 32 ≡ number / 2 ^ 32) × (read % 2 ^ 17 ≡ number % 2 ^ 17))
 
 -- ---- what an erase that is cut makes no number of
 
