@@ -187,9 +187,9 @@ after_cut step list old begun new is_begun is_new = rw is_new (rw is_begun refl)
 
 -- an erase that leaves what a list says is cut
 pub IsCutIn-erase : (page : ℕ) (old new : Device) (list : Bor (List Left)) → IsOn old
-    → page < length old.image → old.cuts_left ≡ None
+    → page < length old.image → old.cuts_left ≡ None → old.fuse ≡ None
     → new ≡ device_after_fate (Erase page) (Cut list) old → IsCutIn (Erase page) old new
-IsCutIn-erase page old new list on in_range any is_new =
+IsCutIn-erase page old new list on in_range any unknown is_new =
     let words = page_of_fates list.now Before (page_at old page) in
     let same : get_or (set old.image page words) page [] ≡ words =
     get_or-set_same old.image page words [] in_range in
@@ -201,4 +201,5 @@ IsCutIn-erase page old new list on in_range any is_new =
       wear = refl;
       cuts = refl;
       cuts_left = rw any refl;
+      by_fuse = rw unknown tt;
     })

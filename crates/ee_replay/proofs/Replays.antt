@@ -70,10 +70,8 @@ is_replayed old_image text image reported store opened on =
           both opened.device store there.0.last.device 0 pages pages opened.erases further
           (omega arith);
       wears = λ plain page.
-          subst (λ (point : Point). WearsAtMost (moves answers) page opened.device point.device)
-          there.1.last_is
-          (wears_since_opening opened.device store there.1.last there.0.report.commands answers
-          opened.opens plain there.1.lines page);
+          wears_since_opening opened.device store there.0.last there.0.report.commands answers
+          opened.opens plain there.1.lines page;
     }
 
 -- a run from what was formatted

@@ -15,7 +15,7 @@ use Rattle.ee_core.specs.Points.{Point}
 use Rattle.ee_interface.specs.Script.Run.{Run}
 use Rattle.ee_image_store.specs.Machine.{Desk, DeskStep, desk_with, was_cut}
 use Rattle.ee_replay.specs.Report.{IsReported, cut_report_text, desk_line, end_line}
-use Rattle.ee_replay.specs.Serving.{IsServed, IsTraced, Notes, claim_noted, desk_of, serving_on, stand_on}
+use Rattle.ee_replay.specs.Serving.{IsServed, IsTraced, Notes, claim_noted, desk_of, serving_on}
 use Rattle.ee_image_store.specs.Opening.{StaysOn}
 use Rattle.ee_image_store.specs.Trace.{accepted_commands, moves, trace_of}
 use Rattle.ee_plan.proofs.Public.{fewest_transfers_wear_lem}
@@ -152,10 +152,8 @@ pub is_served : (old : Device) (new : Point) (text lines : List ℕ) (notes : No
 is_served old new text lines notes start run is proper stays ended reported end cut plain =
     let commands = run.answered.commands in
     let answers = run.answered.answers in
-    let desk =
-    subst (IsDeskRun (serving_on old) commands answers) run.last_is
-    (desk_run (stand_on old) run.last commands answers (inl stays.never_cut)
-    run.answered.run) in
+    let desk : IsDeskRun (serving_on old) commands answers new =
+    desk_run (serving_on old) new commands answers (inl stays.never_cut) run.answered.run in
     let machine =
     subst (λ (state : Desk). Run (DeskStep old.size) state commands answers (desk_of new))
     (unarmed old stays) desk.run in
@@ -172,7 +170,7 @@ is_served old new text lines notes start run is proper stays ended reported end 
         cut = λ e. cut_report old new text lines notes run ended reported desk.same_size end
             (cut (run.cut ∙ e));
       };
-      made = made_of old new run.last commands answers run.last_is run.answered.run;
+      made = made_of old new commands answers run.answered.run;
       same_size = desk.same_size;
     }
 

@@ -2,7 +2,7 @@
 use Rattle.std.specs.Prelude.{◌≡◌, ◌≤◌, ◌+◌, ◌*◌, zero, ℕ, Bool, List, [], ◌∷◌, ◌++◌, length, Option, Some, None, Ok, Err, true, false, IsSomeAnd}
 use Rattle.std.specs.List.{list_any}
 use Rattle.ee_flash.specs.Device.{Device, IsOn}
-use Rattle.ee_flash.specs.Memory.{Memory, with_fuse}
+use Rattle.ee_flash.specs.Memory.{with_fuse}
 use Rattle.ee_flash.specs.Size.{slot_count}
 use Rattle.ee_flash.specs.declared.fuse.Fuse.{Fuse}
 use Rattle.ee_pages.specs.Legal.{IsLegal}
@@ -29,7 +29,6 @@ use Rattle.ee_interface.specs.Script.Run.{Run}
 use Rattle.ee_interface.specs.Script.Whole.{IsAnswered}
 use Rattle.ee_image_store.specs.Erases.{ErasesRise, erases_of_all}
 use Rattle.ee_image_store.specs.Machine.{Desk, is_arming, was_cut}
-use Rattle.ee_replay.specs.Desk.{Stand}
 use Rattle.ee_replay.specs.Report.{IsDeskReported}
 use Rattle.ee_image_store.specs.Trace.{accepted_commands, moves, trace_of}
 
@@ -71,10 +70,6 @@ calls_of commands answers = []
 
 -- ---- lines, one after another
 
--- with a cut to come
-abbrev pub with_cut_to_come : Device → Device
-with_cut_to_come device = record device { cuts_left = Some 1 }
-
 -- whether a cut is to come
 abbrev pub is_armed : Option ℕ → Bool
 is_armed (Some zero) = false
@@ -99,21 +94,15 @@ PowerAnswers false old Opened new = Opens (with_power_on old) new.device × (new
 PowerAnswers false old Cut new = IsCutOpening (with_power_on old) new.device × (new.serving ≡ false)
 PowerAnswers serving old answer new = ⊥
 
--- A line arms its fuse: behind it the device in memory is at hand, and is the one before it with
--- the line's fuse; a store is open on it if one was.
-pub record ArmsItsFuse (old : Point) (fuse : Fuse) (new : Stand) : Type 0 where
-  pub before : Memory
-  pub before_is : before.device ≡ old.device
-  pub at_hand : new.memory ≡ Some (with_fuse fuse before)
-  pub point_is : new.point ≡ record old { device = (with_fuse fuse before).device }
+-- a line arms its fuse: a store is open if one was
+abbrev pub armed_point : Fuse → Point → Point
+armed_point fuse point = record point { device = with_fuse fuse point.device }
 
--- From this stand the command is answered so, and the desk has that one afterwards.
-abbrev pub LineAnswers : Stand → Command → Answer → Stand → Type 0
-LineAnswers old (Arm fuse) answer new = (answer ≡ Armed) × ArmsItsFuse old.point fuse new
-LineAnswers old PowerOn answer new =
-    PowerAnswers old.point.serving old.point.device answer new.point
-LineAnswers old command answer new =
-    CallAnswers old.point.serving old.point.device command answer new.point
+-- From this point the command is answered so, and the desk is at that one afterwards.
+abbrev pub LineAnswers : Point → Command → Answer → Point → Type 0
+LineAnswers old (Arm fuse) answer new = (answer ≡ Armed) × (new ≡ armed_point fuse old)
+LineAnswers old PowerOn answer new = PowerAnswers old.serving old.device answer new
+LineAnswers old command answer new = CallAnswers old.serving old.device command answer new
 
 -- the desk, as the report machine knows it
 abbrev pub desk_of : Point → Desk
@@ -127,10 +116,6 @@ desk_of point = record {
 abbrev pub serving_on : Device → Point
 serving_on device = record { serving = true; device = device }
 
--- and the device in memory is not at hand
-abbrev pub stand_on : Device → Stand
-stand_on device = record { point = serving_on device; memory = None }
-
 -- whether a line arms a cut
 abbrev pub is_armed_by : List Command → Bool
 is_armed_by commands = list_any is_arming commands
@@ -141,9 +126,7 @@ is_armed_by commands = list_any is_arming commands
 -- second move, by where it stood; and where no cut was armed either, it is a whole run of calls.
 pub record IsMade (old : Device) (commands : List Command) (answers : List Answer) (new : Point)
     : Type 0 where
-  pub last : Stand
-  pub last_is : last.point ≡ new
-  pub lines : Run LineAnswers (stand_on old) commands answers last
+  pub lines : Run LineAnswers (serving_on old) commands answers new
   pub erases : was_cut answers ≡ false → ErasesRise (erases_of_all old.size answers) old new.device
   pub wears : was_cut answers ≡ false → (page : ℕ) → WearsAtMost (moves answers) page old new.device
   pub calls : was_cut answers ≡ false → is_armed_by commands ≡ false
@@ -153,7 +136,7 @@ pub record IsMade (old : Device) (commands : List Command) (answers : List Answe
 
 -- the command is served by its call, or arms a cut, or opens what is open
 abbrev pub UncutLineAnswers : Device → Command → Answer → Device → Type 0
-UncutLineAnswers old (Arm fuse) Armed new = new ≡ with_cut_to_come old
+UncutLineAnswers old (Arm fuse) Armed new = new ≡ with_fuse fuse old
 UncutLineAnswers old PowerOn Opened new = new ≡ old
 UncutLineAnswers old command answer new =
     IsSomeAnd (call_of_command command answer) (λ made. Follows made old new)
@@ -202,17 +185,17 @@ claim_noted start notes = record {
 
 -- where a desk is, and what is noted
 pub record Noted : Type 0 where
-  pub stand : Stand
+  pub point : Point
   pub notes : Notes
 
-abbrev pub with_notes : Stand → Notes → Noted
-with_notes stand notes = record { stand = stand; notes = notes }
+abbrev pub with_notes : Point → Notes → Noted
+with_notes point notes = record { point = point; notes = notes }
 
 -- A line is served, and its answer is noted.
 pub record LineIsNoted (old : Noted) (command : Command) (answer : Answer) (new : Noted)
     : Type 0 where
-  pub attends : LineAnswers old.stand command answer new.stand
-  pub notes_are : new.notes ≡ notes_after answer (state_of new.stand.point.device).fill old.notes
+  pub attends : LineAnswers old.point command answer new.point
+  pub notes_are : new.notes ≡ notes_after answer (state_of new.point.device).fill old.notes
 
 -- The count of the changes stays far below 64 bits: between two moves there are no more
 -- of them than slots.
@@ -234,9 +217,7 @@ pub record IsSound (point : Point) : Type 0 where
 -- changes that were accepted, from each start that is the old state's.
 pub record IsTraced (old : Device) (text : List ℕ) (new : Point) (notes : Notes) (lines : List ℕ)
     : Type 0 where
-  pub last : Stand
-  pub last_is : last.point ≡ new
-  pub answered : IsAnswered LineAnswers (stand_on old) text last lines
+  pub answered : IsAnswered LineAnswers (serving_on old) text new lines
   pub transfers : length notes.stretches ≡ moves answered.answers
   pub cut : notes.cut ≡ was_cut answered.answers
   pub tight : was_cut answered.answers ≡ false → (start : Situation)
