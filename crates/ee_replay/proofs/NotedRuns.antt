@@ -3,7 +3,8 @@ use Rattle.std.proofs.Common.{◌≡◌, ◌∙◌, ◌++◌, ℕ, ◌+◌, ◌*
 use Rattle.std.proofs.Math.Bool.{or-false, or_assoc, or_comm}
 use Rattle.std.proofs.Math.Seq.{get_or-append_seam}
 use Rattle.std.specs.Prelude.{Bool, false, true, ◌||◌, Err}
-use Rattle.ee_flash.specs.Device.{Device}
+use Rattle.ee_flash.specs.Device.{Device, IsOn}
+use Rattle.ee_flash.specs.Taking.{HasFuse}
 use Rattle.ee_flash.specs.Size.{Size, slot_count}
 use Rattle.ee_pages.specs.Meaning.{Put}
 use Rattle.ee_pages.specs.Meaning as meaning
@@ -38,7 +39,9 @@ use Rattle.ee_core.specs.declared.variables.WriteFault.{WriteFault}
 use Rattle.ee_core.specs.declared.variables.WriteFault.TheVariants as fault
 use Rattle.ee_replay.specs.Desk.{CallsAtDesk, SaysTheSame}
 use Rattle.ee_image_store.specs.Machine.{is_cut_answer, was_cut}
-use Rattle.ee_replay.specs.Serving.{LineAnswers, IsCounted, IsTraced, Noted, Notes, LineIsNoted, UncutLineAnswers, claim_noted, no_notes, notes_after, serving_on}
+use Rattle.ee_replay.specs.Lines.{answers_of, point_behind}
+use Rattle.ee_replay.proofs.Deciding.{ServesOn, run_decided}
+use Rattle.ee_replay.specs.Serving.{LineAnswers, IsCounted, IsTraced, Noted, Notes, LineIsNoted, UncutLineAnswers, claim_noted, no_notes, notes_after, notes_behind, serving_on}
 use Rattle.ee_image_store.specs.Trace.{accepted_commands, moved_at, trace_of}
 use Rattle.ee_replay.proofs.Powering.{state_armed}
 use Rattle.ee_replay.proofs.Runs.{neither}
@@ -515,13 +518,17 @@ pub is_traced : {S : Type 0} (see : S → Noted) (device : Device) (old new : S)
     → IsAnswered (λ from command answer to. LineIsNoted (see from) command answer (see to)) old text
     new lines
     → (see old).point ≡ serving_on device → (see old).notes ≡ no_notes (state_of device).fill
-    → IsTraced device text (see new).point (see new).notes lines
-is_traced see device old new text lines answered still fresh =
+    → IsOn device → HasFuse device → IsTraced device text (see new).point (see new).notes lines
+is_traced see device old new text lines answered still fresh on fused =
     let seen = IsAnswered-seen see LineIsNoted old new text lines answered in
     let attended =
     subst
     (λ (point : Point). Run LineAnswers point seen.commands seen.answers (see new).point) still
     (run_attended (see old) (see new) seen.commands seen.answers seen.run) in
+    let decided =
+    run_decided (see old) (see new) seen.commands seen.answers
+    (subst ServesOn (sym still) (λ serves. on))
+    (subst (λ (point : Point). HasFuse point.device) (sym still) fused) seen.run in
     record {
       answered = record {
         commands = seen.commands;
@@ -530,6 +537,11 @@ is_traced see device old new text lines answered still fresh =
         run = attended;
         report_is = seen.report_is;
       };
+      answers_are = decided.said ∙ ap (answers_of seen.commands) still;
+      point_is = decided.left ∙ ap (point_behind seen.commands) still;
+      notes_are = decided.noted
+          ∙ ap (λ (point : Point). notes_behind seen.commands point (see old).notes) still
+          ∙ ap (notes_behind seen.commands (serving_on device)) fresh;
       transfers =
           omega (
             arith,

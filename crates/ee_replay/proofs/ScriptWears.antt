@@ -22,6 +22,7 @@ use Rattle.ee_interface.specs.declared.script.command.Command.{Command}
 use Rattle.ee_interface.specs.declared.script.command.Command.TheVariants.{Write, Read, Forget, Clean, Arm, PowerOn}
 use Rattle.ee_image_store.specs.Machine.{was_cut}
 use Rattle.ee_image_store.specs.Trace.{moved_at, moves}
+use Rattle.ee_replay.specs.Lines.{answers_of, point_behind}
 use Rattle.ee_replay.specs.Serving.{LineAnswers, IsMade, UncutLineAnswers, serving_on}
 use Rattle.ee_replay.proofs.Runs.{machine_run, whole_run}
 use Rattle.ee_replay.proofs.UncutRuns.{run_open}
@@ -114,9 +115,13 @@ lines_wear old new commands answers run =
 
 -- all that the lines made of it
 pub made_of : (old : Device) (last : Point) (commands : List Command) (answers : List Answer)
-    → Run LineAnswers (serving_on old) commands answers last → IsMade old commands answers last
-made_of old last commands answers run = record {
+    → Run LineAnswers (serving_on old) commands answers last
+    → answers ≡ answers_of commands (serving_on old)
+    → last ≡ point_behind commands (serving_on old) → IsMade old commands answers last
+made_of old last commands answers run said left = record {
   lines = run;
+  answers_are = said;
+  point_is = left;
   erases =
       λ plain. (machine_run old last.device commands answers
       (run_open old last commands answers plain run).run).erases;

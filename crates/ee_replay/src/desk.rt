@@ -6,6 +6,7 @@ ghost use Rattle.std.specs.Prelude.{◌≡◌, IfErr, IfOk, OnOk};
 ghost use Rattle.ee_flash.specs.Device.{IsOn};
 ghost use Rattle.ee_flash.specs.Memory.{with_fuse};
 ghost use Rattle.ee_flash.specs.Size.{slot_count};
+ghost use Rattle.ee_flash.specs.Taking.{HasFuse};
 ghost use Rattle.ee_core.specs.Finished.{IsStore};
 ghost use Rattle.ee_core.specs.Points.{open_point};
 ghost use Rattle.ee_core.specs.Runs.{Cleaned, DidRead, Forgot, Wrote};
@@ -99,6 +100,7 @@ impl<A: Allocator + Copy> Desk<A> {
         ensures start { IfOk result (λ started.
             IsStartOf (slot_count self.size) (state_of self) started.1) }
         ensures same { IfOk result (λ started. started.0 ≡ self) }
+        ensures fused { HasFuse self }
         ensures store { OnOk result (IsStore self) }
     {
         let costs = self.costs;
@@ -123,32 +125,36 @@ impl<A: Allocator + Copy> Desk<A> {
     /// Writes.
     #[inline(always)]
     pub(crate) fn write(&mut self, address: Address, value: u32) -> Result<Written, WriteFault>
-        ensures { let old = self.old in CallsAtDesk old.on old
+        ensures calls { let old = self.old in CallsAtDesk old.on old
             (Wrote address value result) (open_point self.new) }
+        ensures fused { HasFuse self.new }
     {
         self.known.write(&mut self.flash, address, value)
     }
 
     /// Forgets.
     pub(crate) fn forget(&mut self, address: Address) -> Result<Written, ForgetFault>
-        ensures { let old = self.old in CallsAtDesk old.on old
+        ensures calls { let old = self.old in CallsAtDesk old.on old
             (Forgot address result) (open_point self.new) }
+        ensures fused { HasFuse self.new }
     {
         self.known.forget(&mut self.flash, address)
     }
 
     /// Takes a clean step.
     pub(crate) fn clean_step(&mut self) -> Result<bool, WriteFault>
-        ensures { let old = self.old in CallsAtDesk old.on old
+        ensures calls { let old = self.old in CallsAtDesk old.on old
             (Cleaned result) (open_point self.new) }
+        ensures fused { HasFuse self.new }
     {
         self.known.clean_step(&mut self.flash)
     }
 
     /// Reads.
     pub(crate) fn read(&self, address: Address) -> Result<Option<u32>, Off>
-        ensures { let old = self.now in CallsAtDesk old.on old
+        ensures calls { let old = self.now in CallsAtDesk old.on old
             (DidRead address result) (open_point old) }
+        ensures fused { HasFuse self.now }
     {
         self.known.read(&self.flash, address)
     }
@@ -163,7 +169,8 @@ impl<A: Allocator + Copy> Desk<A> {
 
     /// Arms a cut.
     pub(crate) fn arm(&mut self, fuse: Fuse)
-        ensures { self.new ≡ with_fuse fuse self.old }
+        ensures armed { self.new ≡ with_fuse fuse self.old }
+        ensures fused { HasFuse self.new }
     {
         self.flash.arm(fuse)
     }
@@ -174,6 +181,7 @@ impl<A: Allocator + Copy> Desk<A> {
         ensures powers { let old = self.old in IfOk result
             (λ answer. PowerAnswers old.on old answer (open_point self.new)) }
         ensures same { SaysTheSame self.old self.new }
+        ensures fused { HasFuse self.new }
     {
         if self.flash.is_on() {
             return Ok(Answer::Opened);

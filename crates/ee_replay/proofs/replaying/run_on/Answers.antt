@@ -16,7 +16,8 @@ returns-clause-run g c =
     _ _ c.in_ok-server.ensures.answered
     (c.new-server.ensures.point ∙ ap serving_on same)
     (c.new-server.ensures.notes
-    ∙ ap (λ (device : Device). no_notes (state_of device).fill) same) in
+    ∙ ap (λ (device : Device). no_notes (state_of device).fill) same)
+    c.requires.on c.in_ok-desk.ensures.fused in
     let proper = subst IsProper c.start.view_is c.start.invariant.proper in
     IfOk-weaker c.left_by.result _ _
     (λ replayed made. made _ _ traced c.in_ok-desk.ensures.start proper c.requires)

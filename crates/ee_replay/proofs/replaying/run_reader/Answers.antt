@@ -30,7 +30,8 @@ returns-clause-run g c =
     _ _ all.answered
     (c.new-server.ensures.point ∙ ap serving_on same)
     (c.new-server.ensures.notes
-    ∙ ap (λ (device : Device). no_notes (state_of device).fill) same) in
+    ∙ ap (λ (device : Device). no_notes (state_of device).fill) same)
+    c.requires.on c.in_ok-desk.ensures.fused in
     let proper = subst IsProper c.start.view_is c.start.invariant.proper in
     IfOk-weaker c.left_by.result _ _
     (λ replayed made. (
