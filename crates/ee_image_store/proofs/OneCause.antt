@@ -1,5 +1,5 @@
 -- An image has one cause at most for which no store is opened.
-use Rattle.std.proofs.Common.{◌≡◌, ◌≢◌, ◌⊎◌, inl, inr, ℕ, List, Some, true, refl, sym, ap, ◌∙◌, subst, rules}
+use Rattle.std.proofs.Common.{◌≡◌, ◌≢◌, ◌⊎◌, inl, inr, ℕ, List, None, Some, true, refl, sym, ap, ◌∙◌, subst, rules}
 use Rattle.ee_flash.specs.Device.{Device}
 use Rattle.ee_pages.specs.Layout.{IsScanFault}
 use Rattle.ee_pages.specs.Sets.{live_of, set_of}

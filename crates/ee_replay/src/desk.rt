@@ -100,7 +100,7 @@ impl<A: Allocator + Copy> Desk<A> {
         ensures start { IfOk result (λ started.
             IsStartOf (slot_count self.size) (state_of self) started.1) }
         ensures same { IfOk result (λ started. started.0 ≡ self) }
-        ensures fused { HasFuse self }
+        ensures fused { OnOk result (HasFuse self) }
         ensures store { OnOk result (IsStore self) }
     {
         let costs = self.costs;

@@ -41,5 +41,5 @@ noted_cut old new notes kept answer stopped cut calls says noted =
 pub returns-in-Err-Cut : goal.returns-in-Err-Cut
 returns-in-Err-Cut g c =
     noted_cut c.args.self.now.desk c.clean_step.new.self c.args.self.now.notes c.note_cut.new.self
-    c.note_cut.result _ c.in-Err-Cut.field-0-is c.in-Err-Cut.ensures c.note_cut.ensures.answer
+    c.note_cut.result _ c.in-Err-Cut.field-0-is c.in-Err-Cut.ensures.calls c.note_cut.ensures.answer
     c.note_cut.ensures.noted

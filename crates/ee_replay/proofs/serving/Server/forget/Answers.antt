@@ -8,6 +8,6 @@ invariant_of-self-in-Err-Cut g c =
       counted =
           forgot_cut_counted _ _ (open_point c.forget.new.self) c.args.address
           c.args.self.now.notes c.note_cut.new.self _ c.in-Err-Cut.field-0-is
-          c.in-Err-Cut.ensures
+          c.in-Err-Cut.ensures.calls
           c.args.self.now.counted c.note_cut.ensures.noted;
     }

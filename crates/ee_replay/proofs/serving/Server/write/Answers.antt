@@ -8,6 +8,6 @@ invariant_of-self-in-Err-Cut g c =
       counted =
           wrote_cut_counted _ _ (open_point c.write.new.self) c.args.address c.args.value
           c.args.self.now.notes c.note_cut.new.self _ c.in-Err-Cut.field-0-is
-          c.in-Err-Cut.ensures
+          c.in-Err-Cut.ensures.calls
           c.args.self.now.counted c.note_cut.ensures.noted;
     }
