@@ -34,12 +34,12 @@ none_is None e = refl
 none_is (Some n) e = absurd (true≢false (sym e))
 
 some_is : (found : Option ℕ) → found ≢ None → is_some found ≡ true
-some_is None no = absurd (no refl)
-some_is (Some n) no = refl
+some_is None never = absurd (never refl)
+some_is (Some n) never = refl
 
 false_from : (test : Bool) → (test ≡ true → ⊥) → test ≡ false
-false_from true no = absurd (no refl)
-false_from false no = refl
+false_from true never = absurd (never refl)
+false_from false never = refl
 
 module _ (slots : ℕ) (state : State) where
   full_is : (address : ℕ) → IsFull slots state address → finds_no_room slots state address ≡ true
@@ -296,7 +296,7 @@ pub record IsLineDecided (old : Point) (command : Command) (answer : Answer) (ne
   pub said : answer ≡ answer_of command old
   pub left : new ≡ point_after command old
 
-abbrev ServesOn : Point → Type 0
+abbrev pub ServesOn : Point → Type 0
 ServesOn point = point.serving ≡ true → IsOn point.device
 
 called : (serving : Bool) (old : Device) (command : Command) (answer : Answer) (new : Point)
@@ -309,22 +309,26 @@ called true old command answer new on fused fused_new asks =
 called false old command Off new on fused fused_new asks = (refl, asks)
 called false old command answer new on fused fused_new asks = absurd asks
 
+fused_on : (old : Device) → HasFuse old → HasFuse (with_power_on old)
+fused_on old fused =
+    record { fuse = fused.fuse; known = fused.known; left = fused.left }
+
 opened : (serving : Bool) (old : Device) (answer : Answer) (new : Point) → HasFuse old
     → HasFuse new.device → PowerAnswers serving old answer new
     → (answer ≡ opening_answer serving old) × (new ≡ point_opened serving old)
 opened true old Opened new fused fused_new powers = (refl, powers)
 opened false old Opened new fused fused_new powers =
     let by =
-    completed_by_fuse (steps_of_open (with_power_on old)) (with_power_on old) new.device fused
-    fused_new refl powers.0.steps in
+    completed_by_fuse (steps_of_open (with_power_on old)) (with_power_on old) new.device
+    (fused_on old fused) fused_new refl powers.0.steps in
     let on = ap (λ (device : Device). device.on) (sym by.0) ∙ by.1 in (
       sym (ap (λ b. cond b Opened Cut) on),
       point_is new (device_opened old) (powers.1 ∙ sym on) by.0,
     )
 opened false old Cut new fused fused_new powers =
     let by =
-    cut_by_fuse (steps_of_open (with_power_on old)) (with_power_on old) new.device fused refl
-    powers.0.steps in
+    cut_by_fuse (steps_of_open (with_power_on old)) (with_power_on old) new.device
+    (fused_on old fused) refl powers.0.steps in
     let off = ap (λ (device : Device). device.on) (sym by.0) ∙ by.1 in (
       sym (ap (λ b. cond b Opened Cut) off),
       point_is new (device_opened old) (powers.1 ∙ sym off) by.0,

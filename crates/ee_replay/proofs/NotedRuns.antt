@@ -45,7 +45,7 @@ use Rattle.ee_replay.specs.Serving.{LineAnswers, IsCounted, IsTraced, Noted, Not
 use Rattle.ee_image_store.specs.Trace.{accepted_commands, moved_at, trace_of}
 use Rattle.ee_replay.proofs.Powering.{state_armed}
 use Rattle.ee_replay.proofs.Runs.{neither}
-use Rattle.ee_replay.proofs.UncutRuns.{at_open, from_point, served_open}
+use Rattle.ee_replay.proofs.UncutRuns.{at_open, served_open}
 
 -- ---- a store that stays open
 
@@ -377,7 +377,7 @@ module _ (size : Size) (start : Situation) (trace : List Change) where
       (sym run.1.notes_are) next)
   notes_of_run (Arm fuse ∷ commands) (Armed ∷ answers) old new before are parts sized run so_far =
       let mid = run.0 in
-      let same = ap state_of run.1.serves ∙ state_armed old.device in
+      let same = ap state_of run.1.serves ∙ state_armed fuse old.device in
       let next =
       note_none (slot_count size) start trace (length before) (state_of old.device)
       (state_of mid.device) old.notes (ap (λ (s : State). s.map) same)

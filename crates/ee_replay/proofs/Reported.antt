@@ -178,11 +178,11 @@ certificate_is slots state start notes ended reported is cut plain =
     let by_cut : Bool → List ℕ =
     λ b. ended ++ cond b (codes "no certificate\n") (text_of (claim_since slots state notes)) in
     elim (cases_Bool notes.cut) [
-      | inl yes ↦ cut yes ∙ ap by_cut (sym yes)
-      | inr no ↦
-          plain no
+      | inl was ↦ cut was ∙ ap by_cut (sym was)
+      | inr never ↦
+          plain never
           ∙ ap (λ claim. ended ++ text_of claim) (claim_is slots state start notes is)
-          ∙ ap by_cut (sym no)
+          ∙ ap by_cut (sym never)
     ]
 
 function_report : (old : Device) (new : Point) (text lines : List ℕ) (notes : Notes)

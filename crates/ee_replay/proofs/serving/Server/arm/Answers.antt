@@ -8,7 +8,7 @@ invariant_of-self g c =
     record {
       counted =
           counted_same _ _ _ c.args.self.now.notes
-          (armed_same c.args.self.now.desk c.arm.new.self _ c.arm.ensures.armed) refl
+          (armed_same c.args.self.now.desk c.arm.new.self c.args.fuse c.arm.ensures.armed) refl
           c.args.self.now.counted;
     }
 
