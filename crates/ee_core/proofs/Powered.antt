@@ -2,12 +2,13 @@
 use Rattle.ee_flash.specs.declared.fuse.Fuse.{Fuse}
 use Rattle.ee_core.proofs.Base.{rules, ◌≡◌, ◌≤◌, ℕ, Bool, true, Option, Some, None, refl, Device, IsFormed, all_ones, IsLegal, IsLive, Side, First, Second, with_power_on, state_in}
 
--- the device on or off, with so many cuts behind it and so many to come, by this fuse if it is known
+-- the device on or off, with so many cuts behind it and to come, and its fuse, if it is known
 abbrev pub with_power : ℕ → Option ℕ → Option (Option Fuse) → Bool → Device → Device
 with_power cuts left known on device =
     record device { cuts = cuts; cuts_left = left; fuse = known; on = on }
 
-module _ (cuts : ℕ) (left : Option ℕ) (known : Option (Option Fuse)) (on : Bool) (device : Device) where
+module _ (cuts : ℕ) (left : Option ℕ) (known : Option (Option Fuse)) (on : Bool)
+    (device : Device) where
   pub state_in_powered : (live : Option (Side × ℕ))
       → state_in (with_power cuts left known on device) live ≡ state_in device live
   state_in_powered None = refl

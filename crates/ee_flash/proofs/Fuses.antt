@@ -200,7 +200,7 @@ cut_by (Some fuse) before step old new on armed cut =
       | inr room ↦
           let waited = fuse_waits before old fuse on armed room in
           let last : (all_completed before old).fuse
-              ≡ Some (Some (record { after = fuse.after - length before; tear = fuse.tear })) =
+          ≡ Some (Some (record { after = fuse.after - length before; tear = fuse.tear })) =
           ap (λ (d : Device). d.fuse) (sym waited.0) ∙ waited.1 in
           let is =
           due (fuse.after - length before) fuse.tear step (all_completed before old) new

@@ -1,5 +1,5 @@
--- With the fuse that is known, what a line is answered and what it leaves is a function of the point
--- before it.
+-- With the fuse that is known, what a line is answered and what it leaves is a function of the
+-- point before it.
 use Rattle.std.proofs.Common.{◌≡◌, ◌≢◌, ◌⊎◌, inl, inr, ◌<◌, ℕ, Bool, cond, Option, Some, None, Ok, Err, List, [], ◌∷◌, ap, arith, false, refl, sym, subst, true, rules, ◌∙◌}
 use Rattle.std.specs.Prelude.{◌&&◌, ◌==◌, nat_lt, is_some, not}
 use Rattle.std.proofs.lemmas.Bool.{cases_Bool, eq-eqb, eqb-true, lt-ltb, ltb-true, ne_eqb, true≢false}
@@ -406,7 +406,7 @@ run_decided old new (command ∷ commands) (answer ∷ answers) on fused run =
     run_decided mid new commands answers
     (subst ServesOn (sym line.left) (after_on command old.point on)) run.1.fused run.2 in
     let notes : mid.notes
-        ≡ notes_after (answer_of command old.point) (state_of after.device).fill old.notes =
+    ≡ notes_after (answer_of command old.point) (state_of after.device).fill old.notes =
     run.1.notes_are
     ∙ ap (λ (point : Point). notes_after answer (state_of point.device).fill old.notes) line.left
     ∙ ap (λ (one : Answer). notes_after one (state_of after.device).fill old.notes) line.said in

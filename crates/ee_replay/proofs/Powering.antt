@@ -36,7 +36,8 @@ use Rattle.ee_replay.specs.Serving.{IsSound, PowerAnswers}
 
 -- ---- a cut that is armed
 
-pub state_armed : (fuse : Fuse) (device : Device) → state_of (with_fuse fuse device) ≡ state_of device
+pub state_armed : (fuse : Fuse) (device : Device)
+    → state_of (with_fuse fuse device) ≡ state_of device
 state_armed fuse device =
     state_in_powered device.cuts (Some 1) (Some (Some fuse)) device.on device (live_of device)
 

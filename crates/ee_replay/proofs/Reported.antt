@@ -187,8 +187,8 @@ certificate_is slots state start notes ended reported is cut plain =
 
 function_report : (old : Device) (new : Point) (text lines : List ℕ) (notes : Notes)
     (start : Situation) (ended reported : List ℕ)
-    → (run : IsTraced old text new notes lines) → IsStartOf (slot_count old.size) (state_of old) start
-    → new.device.size ≡ old.size
+    → (run : IsTraced old text new notes lines)
+    → IsStartOf (slot_count old.size) (state_of old) start → new.device.size ≡ old.size
     → ended
     ≡ lines
     ++ desk_line (slot_count new.device.size) new.serving (state_of new.device)
@@ -204,7 +204,7 @@ function_report old new text lines notes start ended reported run is sizes end c
     λ point noted. desk_line slots point.serving (state_of point.device) (length noted.stretches)
     ++ certificate_text slots state noted in
     let sized : ended ≡ lines
-        ++ desk_line slots new.serving (state_of new.device) (length notes.stretches) =
+    ++ desk_line slots new.serving (state_of new.device) (length notes.stretches) =
     end
     ∙ ap
     (λ (size : Size). lines

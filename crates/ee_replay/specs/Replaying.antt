@@ -55,8 +55,8 @@ opened_of device = all_completed (steps_of_open device) device
 -- The script was run on the store that was opened of the device whose image the first text spells,
 -- line by line. The new image and the report are those that the function gives, cuts included, of
 -- that device, on and with no cut to come, and of the lines. Where none was cut, each move left the
--- pages of a set to be erased, and nothing else did; and no page was erased more often than at every
--- second move, by where it stood.
+-- pages of a set to be erased, and nothing else did; and no page was erased more often than at
+-- every second move, by where it stood.
 pub record IsReplayed (old_image text new_image reported : List ℕ) : Type 0 where
   pub device : Device
   pub old : IsStoreText old_image device
@@ -82,8 +82,8 @@ abbrev pub formatted_of : Size → Device
 formatted_of size = all_completed (steps_of_format (blank_device size)) (blank_device size)
 
 -- The script was run on a store with nothing in it, just formatted, on a device of this size of
--- which no page was erased, line by line, and left what the function says. Where none was cut, each move left the pages of a set to
--- be erased, and nothing else did.
+-- which no page was erased, line by line, and left what the function says. Where none was cut, each
+-- move left the pages of a set to be erased, and nothing else did.
 pub record IsTried (size : Size) (text new_image reported : List ℕ) : Type 0 where
   pub run : IsScriptRun size formatted_state text new_image reported
   pub fresh : Device

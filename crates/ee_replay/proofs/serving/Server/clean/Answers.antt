@@ -23,7 +23,8 @@ noted_cut : (old new : Device) (notes kept : Notes) (answer : Answer) (stopped :
     → stopped ≡ fault.Cut
     → CallsAtDesk old.on old (Cleaned (Err stopped)) (open_point new)
     → answer ≡ Cut → kept ≡ notes_after Cut 0 notes → HasFuse new
-    → LineIsNoted (with_notes (open_point old) notes) Clean answer (with_notes (open_point new) kept)
+    → LineIsNoted (with_notes (open_point old) notes) Clean answer
+    (with_notes (open_point new) kept)
 noted_cut old new notes kept answer stopped cut calls says noted fused =
     subst
     (λ (one : Answer).
