@@ -10,7 +10,7 @@ use Rattle.ee_image_store.specs.Erases.{ErasesRise, erases_of_all}
 use Rattle.ee_image_store.specs.Opening.{IsNewStore, IsOpened, SpellsDevice}
 use Rattle.ee_image_store.specs.Trace.{moves}
 use Rattle.ee_replay.specs.Lines.{point_behind}
-use Rattle.ee_replay.specs.Replaying.{IsReplayed, IsScriptRun, IsRunOn, IsTried, left_of}
+use Rattle.ee_replay.specs.Replaying.{IsReplayed, IsScriptRun, IsRunOn, IsTried, leaves_of}
 use Rattle.ee_replay.specs.Serving.{IsMade, IsServed, IsSound, serving_on}
 use Rattle.ee_image_store.proofs.Public.{both, wear_since}
 use Rattle.ee_replay.proofs.ScriptWears.{wears_since_opening}
@@ -45,7 +45,7 @@ abbrev RunFrom : Size → State → List ℕ → List ℕ → List ℕ → Devic
 RunFrom size start text image reported store =
     (run : IsScriptRun size start text image reported)
     × IsMade store run.report.commands run.report.answers run.last
-    × ((image, reported) ≡ left_of store run.report.commands)
+    × ((image, reported) ≡ leaves_of store run.report.commands)
 
 -- the same run, of a machine that is known by another size and state
 from_there : (size other : Size) (start from : State) (text image reported : List ℕ)
@@ -72,7 +72,7 @@ is_replayed old_image text image reported store opened on =
       rests = opened.rests;
       run = there.0;
       leaves = there.2
-          ∙ ap (λ (at : Device). left_of at there.0.report.commands) opened.opens.steps.done;
+          ∙ ap (λ (at : Device). leaves_of at there.0.report.commands) opened.opens.steps.done;
       opened = store;
       opens = opened.opens;
       made = there.1;
@@ -104,7 +104,7 @@ is_tried size text image reported store new on =
       formats = new.formats;
       made = there.1;
       leaves = there.2
-          ∙ ap (λ (at : Device). left_of at there.0.report.commands) new.formats.steps.done;
+          ∙ ap (λ (at : Device). leaves_of at there.0.report.commands) new.formats.steps.done;
       worn = λ plain.
           let rises =
           subst (λ (s : Size). ErasesRise (erases_of_all s answers) store there.0.last.device)

@@ -38,15 +38,15 @@ pub record IsScriptRun (size : Size) (start : State) (text new_image reported : 
   pub report : IsDeskReported size start text (desk_of last) reported
 
 -- What lines leave of a store that is open on this device: the text of the image, and the report.
-abbrev pub left_of : Device → List Command → List ℕ × List ℕ
-left_of store commands =
+abbrev pub leaves_of : Device → List Command → List ℕ × List ℕ
+leaves_of store commands =
     (image_text (point_behind commands (serving_on store)).device, report_of store commands)
 
 -- the script was run on this store, line by line, and left what the function says
 pub record IsRunOn (store : Device) (text new_image reported : List ℕ) : Type 0 where
   pub run : IsScriptRun store.size (state_of store) text new_image reported
   pub made : IsMade store run.report.commands run.report.answers run.last
-  pub leaves : (new_image, reported) ≡ left_of store run.report.commands
+  pub leaves : (new_image, reported) ≡ leaves_of store run.report.commands
 
 -- the store that is opened of a device on which no cut is to come
 abbrev pub opened_of : Device → Device
@@ -62,7 +62,7 @@ pub record IsReplayed (old_image text new_image reported : List ℕ) : Type 0 wh
   pub old : IsStoreText old_image device
   pub rests : device ≡ at_rest device
   pub run : IsScriptRun device.size (state_of device) text new_image reported
-  pub leaves : (new_image, reported) ≡ left_of (opened_of device) run.report.commands
+  pub leaves : (new_image, reported) ≡ leaves_of (opened_of device) run.report.commands
   pub opened : Device
   pub opens : Opens device opened
   pub made : IsMade opened run.report.commands run.report.answers run.last
@@ -89,7 +89,7 @@ pub record IsTried (size : Size) (text new_image reported : List ℕ) : Type 0 w
   pub fresh : Device
   pub formats : IsFormatted (blank_device size) fresh
   pub made : IsMade fresh run.report.commands run.report.answers run.last
-  pub leaves : (new_image, reported) ≡ left_of (formatted_of size) run.report.commands
+  pub leaves : (new_image, reported) ≡ leaves_of (formatted_of size) run.report.commands
   pub worn : was_cut run.report.answers ≡ false
       → IsWornBy size (erases_of_all size run.report.answers) run.last.device
 
