@@ -224,6 +224,7 @@ module _ (ecc : EccDevice) (page at : ℕ) (formed : IsEccFormed ecc)
             wear = cut.wear;
             cuts = cut.cuts;
             cuts_left = cut.cuts_left;
+            by_fuse = tt;
           }
 
       pub over_cut : AllOverCoded ecc → AllOverCoded new
@@ -335,6 +336,7 @@ module _ (ecc new : EccDevice) (page : ℕ) (formed : IsEccFormed ecc) (new_form
           wear = cut.wear;
           cuts = cut.cuts;
           cuts_left = cut.cuts_left;
+          by_fuse = tt;
         }
 
     safe_cut_erase : IsCodedSafe new

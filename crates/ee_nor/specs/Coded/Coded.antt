@@ -73,6 +73,7 @@ coded_device ecc = record {
   wear = ecc.wear;
   cuts = ecc.cuts;
   cuts_left = ecc.cuts_left;
+  fuse = None;
   on = ecc.on;
 }
 
