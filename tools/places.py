@@ -3,6 +3,7 @@ import os
 import re
 import shutil
 import subprocess
+import sys
 from pathlib import Path
 
 TOP = Path(__file__).resolve().parent.parent
@@ -15,6 +16,13 @@ KIT = "the Rattle toolchain: README.md"
 def text_of(*path):
     """The text of a file of the repository."""
     return (TOP / Path(*path)).read_text(encoding="utf-8")
+
+
+def with_change(text, old, new):
+    """A text with what stands there once in another form, as a test plants a fault."""
+    if text.count(old) != 1:
+        raise ValueError(f"{old!r} stands {text.count(old)} times and not once")
+    return text.replace(old, new)
 
 
 def is_here(*programs):
@@ -41,6 +49,20 @@ def program(*how):
     """The program `ee` to test with, or None: EE, else what `.ci/program` says to these words."""
     found = os.environ.get("EE") or said_by(TOP / ".ci" / "program", *how)
     return os.path.abspath(found) if found and os.access(found, os.X_OK) else None
+
+
+def with_program(parser):
+    """The words of a command, with the program `ee` in `--program`, which must be there."""
+    parser.add_argument(
+        "--program",
+        type=os.path.abspath,
+        default=os.environ.get("EE") or str(PROVED),
+        help="where ee is (EE, or crates/ee/out/ee)",
+    )
+    words = parser.parse_args()
+    if not os.access(words.program, os.X_OK):
+        sys.exit(f"no {words.program}: ./prove makes crates/ee/out/ee")
+    return words
 
 
 def built_by_rustc(source, made):

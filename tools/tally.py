@@ -6,6 +6,8 @@ A part says of each skip `skipped: WHAT: what is missing (how to install it)`, a
 import re
 import subprocess
 
+from tools.places import is_here
+
 CLOSING = re.compile(r"(\d+) passed, (\d+) failed(?:, (\d+) skipped)?")
 
 
@@ -42,6 +44,13 @@ class Tally:
         """Counts what can't be tried, and says what is missing and how to get it."""
         self.skipped += 1
         print(f"skipped: {self.part}, {what}: {missing}", flush=True)
+
+    def lacks(self, what, programs, how):
+        """Skips what takes programs that aren't here. Gives whether any of them is missing."""
+        missing = [name for name in programs if not is_here(name)]
+        if missing:
+            self.skip(what, f"no {' or '.join(missing)} ({how})")
+        return bool(missing)
 
     def run(self, what, *words, **how):
         """Counts a command by its status. What it prints is shown as it comes, or told of a failure
