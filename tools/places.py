@@ -39,6 +39,20 @@ def said_by(*words):
     return done.stdout.strip()
 
 
+def run_of(*words, **how):
+    """The status of a command, and what it prints on both streams."""
+    done = subprocess.run(
+        [str(word) for word in words],
+        stdin=subprocess.DEVNULL,
+        stdout=subprocess.PIPE,
+        stderr=subprocess.STDOUT,
+        text=True,
+        check=False,
+        **how,
+    )
+    return done.returncode, done.stdout
+
+
 def has_rust(minor):
     """Whether cargo and rustc are here, in this version of Rust 1 or a later one."""
     found = re.match(r"rustc 1\.(\d+)\.", said_by("rustc", "--version"))

@@ -64,7 +64,10 @@ class Tally:
         closing = CLOSING.fullmatch(lines[-1].strip()) if lines else None
         passed, failed, skipped = map(int, closing.groups("0")) if closing else (0, 0, 0)
         if not closing or (status != 0 and failed == 0):
-            print(f"{what} ended with status {status} and no word of what failed", flush=True)
+            end = (
+                f"was stopped by signal {-status}" if status < 0 else f"ended with status {status}"
+            )
+            print(f"{what} {end} and no word of what failed", flush=True)
             passed, failed, skipped = 0, 1, 0
         self.passed, self.failed = self.passed + passed, self.failed + failed
         self.skipped += skipped
