@@ -11,7 +11,7 @@ use Rattle.ee_flash.specs.Step.{one_more}
 use Rattle.ee_pages.proofs.Public.{legal_is_good}
 use Rattle.ee_pages.specs.Legal.{IsLegal}
 use Rattle.ee_pages.specs.Meaning as meaning
-use Rattle.ee_pages.specs.Meaning.{Change, Map, map_after, changed_by}
+use Rattle.ee_pages.specs.Meaning.{Map, map_after, changed_by}
 use Rattle.ee_core.proofs.Public.{forget-at, forget-other, put-at, put-other, cut_clearing, cut_map, cut_making, still_none, legal_on, lists_are_there_lem, changed_by-append, goes}
 use Rattle.ee_core.specs.Calls.{IsCutClean}
 use Rattle.ee_core.specs.Changes.{IsCutChange, IsCutMaking}
