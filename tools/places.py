@@ -18,6 +18,12 @@ def text_of(*path):
     return (TOP / Path(*path)).read_text(encoding="utf-8")
 
 
+def in_crates(*patterns):
+    """The files and folders of crates/ that have these forms, as paths from the top."""
+    found = (path for pattern in patterns for path in sorted(CRATES.glob(pattern)))
+    return [str(path.relative_to(TOP)) for path in found]
+
+
 def with_change(text, old, new):
     """A text with what stands there once in another form, as a test plants a fault."""
     if text.count(old) != 1:
