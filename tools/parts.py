@@ -18,7 +18,11 @@ Turn = namedtuple("Turn", "part words beside", defaults=((), False))
 
 PARTS = {
     "sources": Part("the tests in crates/, before any proof", ["tools/sources"]),
-    "tools": Part("the tools themselves, their format and their lints", ["tools/test"]),
+    "tools": Part(
+        "the tools themselves, their format and their lints",
+        ["tools/test"],
+        ["tools/test", "--format"],
+    ),
     "docs": Part("the documents, held to the code", ["docs/test"], ["docs/pictures/draw"]),
     "typed": Part("the documents and worked examples, typed", ["docs/typed"]),
     "first": Part("the first program in C", ["make", "-C", "firmware/c/sim", "run"]),
