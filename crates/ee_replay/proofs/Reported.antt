@@ -8,8 +8,6 @@ use Rattle.ee_check.specs.Schedule.{IsProper, Situation}
 use Rattle.ee_check.specs.Text.{text_of}
 use Rattle.ee_plan.specs.Start.{IsStartOf}
 use Rattle.ee_interface.specs.Script.Answer.{report}
-use Rattle.ee_interface.specs.Script.Script.{IsFirstBadCommandLine}
-use Rattle.ee_interface.proofs.ScriptLemmas.Public.{scripts_are_good_lem}
 use Rattle.ee_pages.specs.Meaning.{live_in}
 use Rattle.ee_core.specs.State.{State, state_of}
 use Rattle.ee_core.specs.Points.{Point}
@@ -263,9 +261,3 @@ is_served old new text lines notes start run is proper stays ended reported end 
       report_is = function_report old new text lines notes start ended reported run is
           desk.same_size end cut plain;
     }
-
--- a script that was answered has no bad line
-pub no_bad_line : (old : Device) (new : Point) (text lines : List ℕ) (notes : Notes) (n : ℕ)
-    → IsTraced old text new notes lines → IsFirstBadCommandLine text n → ⊥
-no_bad_line old new text lines notes n run bad =
-    scripts_are_good_lem text run.answered.commands n run.answered.is_script bad

@@ -143,9 +143,6 @@ erased_reads size number is = reads size number.reading is
 
 module _ (ecc : EccDevice) (page at : ℕ) (formed : IsEccFormed ecc)
     (in_range : page < page_count ecc.size) (within : at < ecc.size.words) where
-  page_within : page < length ecc.image
-  page_within = omega (arith, formed.image_length)
-
   abbrev with_it : EccNumber → List EccNumber
   with_it number = set (ecc_page ecc page) at number
 
