@@ -4480,8 +4480,8 @@ static struct ee_power *power_of(const ee_store *memory) {
     return &((ee_store *)memory)->memory.parts.power;
 }
 
-/* What a store knows. A call that only reads changes none of it but an index. */
-static Store *store_of(const ee_store *memory) { return &((ee_store *)memory)->memory.parts.store; }
+/* What a call that changes it takes of a store. */
+static Store *store_of(ee_store *memory) { return &memory->memory.parts.store; }
 
 /* Begins a call on a store, with an address of it; of a call that has none it is 1. EE_OK, or why
  * not. A copy of a store has the place of that store, and is off. */
@@ -4681,7 +4681,7 @@ ee_result ee_clean(ee_store *store) {
 ee_result ee_read(const ee_store *store, uint16_t address, uint32_t *value) {
     ee_result status = begun_with(store, address, value);
     if (status != EE_OK) { return status; }
-    const ReadResult answer = store_read(store_of(store), address);
+    const ReadResult answer = store_read(&store->memory.parts.store, address);
     status = ended(answer.ok && answer.value.some ? EE_OK : EE_NOTHING, store);
     if (status == EE_OK) { *value = answer.value.value; }
     return status;
@@ -4701,7 +4701,7 @@ ee_result ee_load(const ee_store *store, ee_value *values, uint32_t count, uint3
         some = u32_least(count - from, EE_WANTED);
         for (uint32_t at = 0u; at < some; at++) { wanted[at] = (Wanted){ .address =
                 here[at].address }; }
-        (void)store_load(store_of(store), wanted, some);
+        (void)store_load(&store->memory.parts.store, wanted, some);
         for (uint32_t at = 0u; power_of(store)->flash != NULL && at < some; at++) {
             here[at].value = wanted[at].value.some ? wanted[at].value.value : here[at].value;
             found += wanted[at].value.some ? 1u : 0u;
@@ -4716,7 +4716,7 @@ ee_result ee_next(const ee_store *store, uint16_t *address, uint32_t *value) {
     const uint16_t after = address == NULL ? 0u : *address;
     ee_result status = begun_with(store, after == 0u ? 1u : after, address == NULL ? NULL : value);
     if (status != EE_OK) { return status; }
-    const MaybeLive found = store_next_live(store_of(store), address_new(after));
+    const MaybeLive found = store_next_live(&store->memory.parts.store, address_new(after));
     status = ended(found.some ? EE_OK : EE_NOTHING, store);
     if (status == EE_OK) {
         *address = found.value.first;
@@ -4728,7 +4728,7 @@ ee_result ee_next(const ee_store *store, uint16_t *address, uint32_t *value) {
 ee_result ee_counts(const ee_store *store, ee_numbers *numbers) {
     ee_result status = begun_with(store, 1u, numbers);
     if (status != EE_OK) { return status; }
-    const Store *const it = store_of(store);
+    const Store *const it = &store->memory.parts.store;
     ee_numbers found = { .slots = store_slots(it), .fill = store_fill(it),
             .generation = store_generation(it) };
     found.live = store_live_count(it);
