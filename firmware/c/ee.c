@@ -48,6 +48,12 @@
 /* The words of a page's header, below its slots. */
 #define HEADER_WORDS 4u
 
+/* How many addresses a span has at the most. */
+#define SPAN 16u
+
+/* A number that says nothing, of an address. */
+#define UNSAID UINT64_C(0x20001)
+
 /* The mark: what the header words that say active, valid and erasing hold once they are
  * programmed. */
 #define MARK UINT64_C(0xAAAAAAAAAAAAAAAA)
@@ -223,6 +229,14 @@ typedef struct Wanted {
     /* Its value, `None` if it has none. */
     MaybeU32 value;
 } Wanted;
+
+/* Addresses that follow one another, at least one and up to `SPAN`, with their values. */
+typedef struct Span {
+    Address first;
+    uint32_t count;
+    /* Of each address the number of an element or a forgetting, or one that says nothing. */
+    uint64_t numbers[SPAN];
+} Span;
 
 /* A value that an address gets. It is laid out as in C, so that a list of C's can be one of
  * these. */
@@ -429,6 +443,11 @@ typedef struct U32AndU32 {
     uint32_t second;
 } U32AndU32;
 
+typedef struct MaybeSaidValue {
+    bool some;
+    MaybeU32 value;
+} MaybeSaidValue;
+
 typedef struct Live {
     Address first;
     uint32_t second;
@@ -443,11 +462,6 @@ typedef struct RoomOfWanted {
     Wanted *items;
     uint32_t len;
 } RoomOfWanted;
-
-typedef struct MaybeSaidValue {
-    bool some;
-    MaybeU32 value;
-} MaybeSaidValue;
 
 typedef struct ReadResult {
     bool ok;
@@ -566,16 +580,16 @@ static inline MaybeSaidValue maybe_said_value_none(void) {
     return (MaybeSaidValue){ .some = false, .value = { .some = false, .value = 0u } };
 }
 
-static inline MaybeU32 maybe_u32_some(uint32_t value) {
-    return (MaybeU32){ .some = true, .value = value };
-}
-
 static inline MaybeSaidValue maybe_said_value_some(MaybeU32 value) {
     return (MaybeSaidValue){ .some = true, .value = value };
 }
 
 static inline MaybeU32 maybe_u32_none(void) {
     return (MaybeU32){ .some = false, .value = 0u };
+}
+
+static inline MaybeU32 maybe_u32_some(uint32_t value) {
+    return (MaybeU32){ .some = true, .value = value };
 }
 
 static inline ReadResult read_result_err(void) {
@@ -861,11 +875,20 @@ EE_IN_PLACE MaybeSaidValue said(uint64_t number);
 static void load(const Device *flash, const Layout *layout, Wanted *entries_items,
         uint32_t entries_len);
 static void clear_values(Wanted *entries_items, uint32_t entries_len);
-static void tell_page(const Device *flash, Side side, uint32_t page, Wanted *entries_items,
+static void loading_tell_page(const Device *flash, Side side, uint32_t page, Wanted *entries_items,
         uint32_t entries_len);
-static void tell_run(const uint64_t *numbers_items, uint32_t numbers_len, Wanted *entries_items,
-        uint32_t entries_len);
+static void loading_tell_run(const uint64_t *numbers_items, uint32_t numbers_len,
+        Wanted *entries_items, uint32_t entries_len);
 static MaybeSaidValue said_in(const uint64_t *numbers_items, uint32_t numbers_len, Address address);
+static void span_new(Address first, uint32_t count, Span *made);
+EE_IN_PLACE MaybeSaidValue span_get(const Span *self, Address address);
+static void span_note(Span *self, uint64_t number);
+static uint32_t span_said_from(const Span *self, uint32_t before);
+static void read_span(const Device *flash, const Layout *layout, Address first, uint32_t count,
+        Span *made);
+static uint32_t span_tell_page(const Device *flash, Side side, uint32_t page, uint32_t used,
+        Span *span, uint32_t before);
+static void span_tell_run(const uint64_t *numbers_items, uint32_t numbers_len, Span *span);
 static Step marking_mark(Device *flash, uint32_t page, Mark mark);
 static MaybeSide rescued_side(const Device *flash);
 static uint32_t named_generation(const Device *flash, Side side);
@@ -2285,7 +2308,7 @@ static void load(const Device *flash, const Layout *layout, Wanted *entries_item
     const uint32_t last = layout->current - first_page(flash, layout->side);
     clear_values(entries.items, entries.len);
     for (uint32_t page = 0u, end = last + 1u; page < end; page++) {
-        tell_page(flash, layout->side, page, entries.items, entries.len);
+        loading_tell_page(flash, layout->side, page, entries.items, entries.len);
     }
 }
 
@@ -2302,7 +2325,7 @@ static void clear_values(Wanted *entries_items, uint32_t entries_len) {
 }
 
 /* Gives the entries what the slots of a page say, which stand behind those of the pages before. */
-static void tell_page(const Device *flash, Side side, uint32_t page, Wanted *entries_items,
+static void loading_tell_page(const Device *flash, Side side, uint32_t page, Wanted *entries_items,
         uint32_t entries_len) {
     const RoomOfWanted entries = { .items = entries_items, .len = entries_len };
     const uint32_t here = first_page(flash, side) + page;
@@ -2312,13 +2335,13 @@ static void tell_page(const Device *flash, Side side, uint32_t page, Wanted *ent
     while (at < words) {
         const ListOfU64 run = run_from(flash, here, at, words, room);
         at += run.len;
-        tell_run(run.items, run.len, entries.items, entries.len);
+        loading_tell_run(run.items, run.len, entries.items, entries.len);
     }
 }
 
 /* Gives the entries what these numbers of slots say. */
-static void tell_run(const uint64_t *numbers_items, uint32_t numbers_len, Wanted *entries_items,
-        uint32_t entries_len) {
+static void loading_tell_run(const uint64_t *numbers_items, uint32_t numbers_len,
+        Wanted *entries_items, uint32_t entries_len) {
     const ListOfU64 numbers = { .items = numbers_items, .len = numbers_len };
     const RoomOfWanted entries = { .items = entries_items, .len = entries_len };
     if (entries.len != 0u) {
@@ -2350,6 +2373,99 @@ static MaybeSaidValue said_in(const uint64_t *numbers_items, uint32_t numbers_le
         }
     }
     return maybe_said_value_none();
+}
+
+/* ---- ee_pages/span.rs: The values of addresses that follow one another, by one look through
+ * the slots. */
+
+/* So many addresses from this one on, or fewer, of which nothing is said. */
+static void span_new(Address first, uint32_t count, Span *made) {
+    const uint32_t behind = (uint32_t)(uint16_t)((uint32_t)UINT16_MAX - first);
+    made->first = first;
+    made->count = u32_least(u32_least(count, SPAN), behind);
+    for (uint32_t at = 0u; at < SPAN; at++) {
+        made->numbers[at] = UNSAID;
+    }
+}
+
+/* The value of an address: `None` if the span doesn't have the address, and `Some(None)` if
+ * the address has no value. */
+EE_IN_PLACE MaybeSaidValue span_get(const Span *self, Address address) {
+    const uint32_t at = (uint32_t)u16_wrapping_sub(address, self->first);
+    if (at >= self->count) {
+        return maybe_said_value_none();
+    }
+    const MaybeSaidValue maybe_said = said(self->numbers[at]);
+    if (maybe_said.some) {
+        return maybe_said_value_some(maybe_said.value);
+    }
+    return maybe_said_value_some(maybe_u32_none());
+}
+
+/* Notes what a number says, if it is of one of the addresses, of which nothing is said. */
+static void span_note(Span *self, uint64_t number) {
+    const uint32_t at = (uint32_t)u16_wrapping_sub(address_in(number), self->first);
+    if (at < self->count && !said(self->numbers[at]).some) {
+        self->numbers[at] = number;
+    }
+}
+
+/* Of how many of the first addresses something is said, where it is of so many. */
+static uint32_t span_said_from(const Span *self, uint32_t before) {
+    uint32_t said_to = before;
+    while (said_to < self->count && said(self->numbers[said_to]).some) {
+        said_to += 1u;
+    }
+    return said_to;
+}
+
+/* The values of so many addresses from this one on, or of fewer. It reads the slots in runs from
+ * the newest down, each once, to one at which all have been found. The layout is the image's.
+ *
+ * Source: the last element written for an address is its value, AN4894; the rest is ours. */
+static void read_span(const Device *flash, const Layout *layout, Address first, uint32_t count,
+        Span *made) {
+    const uint32_t slots = flash->shape.words - HEADER_WORDS;
+    const uint32_t last = layout->current - first_page(flash, layout->side);
+    span_new(first, count, made);
+    uint32_t said_to = 0u;
+    uint32_t left = layout->fill;
+    for (uint32_t page_end = last + 1u; page_end > 0u; page_end--) {
+        const uint32_t page = page_end - 1u;
+        const uint32_t before = page * slots;
+        said_to = span_tell_page(flash, layout->side, page, left - before, made, said_to);
+        left = before;
+    }
+}
+
+/* Notes what the first `used` slots of a page say, which stand before those noted, unless
+ * something is said of all addresses. Something is said of the first `before`; gives of how
+ * many. */
+static uint32_t span_tell_page(const Device *flash, Side side, uint32_t page, uint32_t used,
+        Span *span, uint32_t before) {
+    const uint32_t here = first_page(flash, side) + page;
+    uint64_t room[RUN];
+    uint32_t said_to = before;
+    uint32_t left = used;
+    while (left > 0u && said_to < span->count) {
+        const uint32_t count = u32_least(RUN, left);
+        left -= count;
+        const ListOfU64 run = device_run(flash, here, HEADER_WORDS + left,
+                (RoomOfU64){ .items = room, .len = count });
+        span_tell_run(run.items, run.len, span);
+        said_to = span_said_from(span, said_to);
+    }
+    return said_to;
+}
+
+/* Notes what these numbers say, which stand before those noted. */
+static void span_tell_run(const uint64_t *numbers_items, uint32_t numbers_len, Span *span) {
+    const ListOfU64 numbers = { .items = numbers_items, .len = numbers_len };
+    uint32_t left = numbers.len;
+    while (left > 0u) {
+        left -= 1u;
+        span_note(span, numbers.items[left]);
+    }
 }
 
 /* ---- ee_pages/marking.rs: A mark as a step: none where its word is written. */
@@ -4710,6 +4826,31 @@ ee_result ee_load(const ee_store *store, ee_value *values, uint32_t count, uint3
     status = ended(EE_OK, store);
     if (status == EE_OK) { *loaded = found; }
     return status;
+}
+
+/* By an index it is of the first address alone, since another look takes no more there. */
+ee_result ee_read_span(const ee_store *store, uint16_t first, uint32_t count, ee_span *span) {
+    const ee_result refused = begun_with(store, count == 0u ? 0u : first, span);
+    if (refused != EE_OK) { return refused; }
+    const Store *const it = &store->memory.parts.store;
+    span->first = first;
+    span->count = 1u;
+    span->there = 0u;
+    if (it->known.lookup != NULL && !it->known.lookup->is_given_up) {
+        (void)ended(EE_OK, store);
+        const ee_result status = ee_read(store, first, span->values);
+        span->there = status == EE_OK ? 1u : 0u;
+        return status == EE_NOTHING ? (ee_result)EE_OK : status;
+    }
+    Span found;
+    read_span(&it->flash, &it->known.layout, first, count, &found);
+    span->count = (uint16_t)found.count;
+    for (uint32_t at = 0u; at < found.count; at++) {
+        const MaybeU32 value = span_get(&found, (Address)(first + at)).value;
+        span->there |= (value.some ? 1u : 0u) << at;
+        span->values[at] = value.value;
+    }
+    return ended(EE_OK, store);
 }
 
 ee_result ee_next(const ee_store *store, uint16_t *address, uint32_t *value) {

@@ -39,6 +39,7 @@
  *     ee_clean                          W / 2 + P        0                1
  *     ee_read                           S                0                0
  *     ee_load        of n values        S * (n / 32 + 1)    0             0
+ *     ee_read_span                      S                0                0
  *     ee_next                           N                0                0
  *     ee_counts                         N + W            0                0
  *     ee_rescue                         N + 3 * W        L + 3 * P + 1    P
@@ -246,6 +247,14 @@ typedef struct ee_value {
     uint32_t value;
 } ee_value;
 
+/* Addresses that follow one another, with their values. */
+enum { EE_SPAN = 16 };
+typedef struct ee_span {
+    uint16_t first, count;     /* `first` and `count` - 1 behind it */
+    uint32_t there;            /* whether `first + i` has a value, in bit i */
+    uint32_t values[EE_SPAN];  /* its value */
+} ee_span;
+
 /* How a store stands. */
 typedef struct ee_numbers {
     uint32_t slots;      /* of a set: as many changes as it takes */
@@ -306,6 +315,11 @@ ee_result ee_read(const ee_store *store, uint16_t address, uint32_t *value);
  * stands in it, its default; an address may stand there more than once. `*loaded` becomes how many got a value. EE_OK, also
  * where `count` is 0; EE_DRIVER, where the values up to a multiple of 32 may have been loaded, and `*loaded` isn't written. */
 ee_result ee_load(const ee_store *store, ee_value *values, uint32_t count, uint32_t *loaded);
+
+/* The values of `count` addresses, `first` and those behind it, or of fewer: of EE_SPAN at the most, of one by an index. It looks
+ * through the slots once, from the newest down until all are found. A count of 0 is refused with EE_WRONG_NUMBER. EE_OK;
+ * EE_DRIVER. `span` is to be used with EE_OK alone. */
+ee_result ee_read_span(const ee_store *store, uint16_t first, uint32_t count, ee_span *span);
 
 /* The next address above `*address` that has a value, with the value; the first of all where `*address` is 0. EE_OK,
  * EE_NOTHING; EE_DRIVER. Both are written with EE_OK alone. */

@@ -55,6 +55,9 @@ static inline ee_result ee_locked_read(const ee_store *store, uint16_t address, 
 static inline ee_result ee_locked_load(const ee_store *store, ee_value *values, uint32_t count, uint32_t *loaded) {
     EE_UNDER_LOCK(ee_load(store, values, count, loaded));
 }
+static inline ee_result ee_locked_read_span(const ee_store *store, uint16_t first, uint32_t count, ee_span *span) {
+    EE_UNDER_LOCK(ee_read_span(store, first, count, span));
+}
 static inline ee_result ee_locked_next(const ee_store *store, uint16_t *address, uint32_t *value) {
     EE_UNDER_LOCK(ee_next(store, address, value));
 }

@@ -38,10 +38,13 @@ static uint32_t record_word(const uint8_t *bytes, uint32_t length, uint32_t chec
     return value;
 }
 
-/* A remainder of CRC-32, IEEE 802.3, a word further. */
+/* A remainder of CRC-32, IEEE 802.3, a word further: four bits at a time. */
 static uint32_t word_further(uint32_t rest, uint32_t word) {
+    static const uint32_t further[16] = {
+        0x00000000, 0x1db71064, 0x3b6e20c8, 0x26d930ac, 0x76dc4190, 0x6b6b51f4, 0x4db26158, 0x5005713c,
+        0xedb88320, 0xf00f9344, 0xd6d6a3e8, 0xcb61b38c, 0x9b64c2b0, 0x86d3d2d4, 0xa00ae278, 0xbdbdf21c};
     rest ^= word;
-    for (uint32_t bit = 0; bit < 32; bit++) rest = rest & 1 ? rest >> 1 ^ UINT32_C(0xedb88320) : rest >> 1;
+    for (uint32_t step = 0; step < 8; step++) rest = rest >> 4 ^ further[rest & 15];
     return rest;
 }
 
@@ -53,11 +56,32 @@ static uint32_t check_of(const uint8_t *bytes, uint32_t length) {
     return ~rest;
 }
 
+/* What reads a record: by the last look where that found an address, else by one for all from this address on. */
+typedef struct reader {
+    const ee_store *store;
+    uint32_t at_once;
+    ee_span near;
+} reader;
+
+static ee_result value_near(reader *it, uint32_t address, uint32_t *value) {
+    ee_result status = EE_OK;
+    uint32_t at = (uint16_t)(address - it->near.first);
+    if (at >= it->near.count) {
+        status = ee_read_span(it->store, (uint16_t)address, it->at_once, &it->near);
+        at = 0;
+    }
+    *value = it->near.values[at];
+    return status == EE_OK && !(it->near.there >> at & 1) ? (ee_result)EE_NOTHING : status;
+}
+
 ee_result ee_read_bytes(const ee_store *store, ee_record record, void *bytes, uint32_t size, uint32_t *length) {
     uint8_t *const space = bytes;
-    uint32_t head = 0, value = 0;
+    uint32_t head = 0, check = 0;
+    /* No look goes on for addresses behind the record's. */
+    reader it = {.store = store, .at_once = EE_RECORD_ADDRESSES(record.words)};
     if (space == NULL || length == NULL) return EE_NULL;
-    ee_result status = read_head(store, record, &head);
+    if (!is_record(record)) return EE_WRONG_NUMBER;
+    ee_result status = value_near(&it, record.base, &head);
     if (status != EE_OK) return status;
     const uint32_t count = length_in(head);
     if (count > 4u * record.words) return EE_HURT;
@@ -65,12 +89,17 @@ ee_result ee_read_bytes(const ee_store *store, ee_record record, void *bytes, ui
         *length = count;
         return EE_TOO_LONG;
     }
-    for (uint32_t at = 0; at < count && status == EE_OK; at += 4) {
-        status = ee_read(store, place(record, FIRST_OF_BYTES + at / 4, head), &value);
-        for (uint32_t end = at; end < at + 4 && end < count; end++, value >>= 8) space[end] = (uint8_t)value;
+    for (uint32_t word = 0; word < words_with(count) && status == EE_OK; word++) {
+        uint32_t value = 0;
+        status = value_near(&it, place(record, word, head), &value);
+        if (word == CHECK_WORD) {
+            check = value;
+            continue;
+        }
+        uint32_t at = 4 * (word - FIRST_OF_BYTES);
+        for (const uint32_t end = at + 4; at < end && at < count; at++, value >>= 8) space[at] = (uint8_t)value;
     }
-    if (status == EE_OK) status = ee_read(store, place(record, CHECK_WORD, head), &value);
-    if (status == EE_NOTHING || (status == EE_OK && value != check_of(space, count))) return EE_HURT;
+    if (status == EE_NOTHING || (status == EE_OK && check != check_of(space, count))) return EE_HURT;
     if (status == EE_OK) *length = count;
     return status;
 }

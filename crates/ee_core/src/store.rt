@@ -6,7 +6,7 @@ ghost use Rattle.ee_pages.specs.Layout.{IsLayout};
 ghost use Rattle.ee_core.specs.Calls.{Writes, WritesAll};
 ghost use Rattle.ee_core.specs.Changes.{greatest_generation};
 ghost use Rattle.ee_core.specs.Finished.{IsStore};
-ghost use Rattle.ee_core.specs.Loads.{Loads};
+ghost use Rattle.ee_core.specs.Loads.{Loads, ReadsSpan};
 ghost use Rattle.ee_core.specs.Lookups.{slots_by};
 ghost use Rattle.ee_pages.specs.Meaning.{changed_by, live_in};
 ghost use Rattle.ee_core.specs.Puts.{AreApart, puts_of};
@@ -23,7 +23,7 @@ use crate::variables::{
 };
 use ee_codec::Address;
 use ee_flash::{Cut, Flash};
-use ee_pages::{Layout, LiveBatch, Wanted, load, torn_slots};
+use ee_pages::{Layout, LiveBatch, Span, Wanted, load, read_span, torn_slots};
 use std::marker::Model;
 
 /// The greatest generation of a set.
@@ -137,6 +137,29 @@ impl<F: Flash + Drop, L: Lookup + Drop> Store<F, L> {
         }
         load(&self.flash, &self.known.layout, entries);
         Ok(())
+    }
+
+    /// The values of so many addresses from this one on, or of fewer, by one look through the
+    /// slots. Of one address alone it is by the store's look-up.
+    ///
+    /// Source: ours.
+    ///
+    /// # Errors
+    ///
+    /// The store is off.
+    pub fn read_span(&self, first: Address, count: usize) -> Result<Span, Off>
+        requires { 0 < count }
+        // At `Ok` each address of the span has the map's value; at `Err` the device is off.
+        ensures { ReadsSpan self.now first result }
+    {
+        if count == 1 {
+            let value = self.known.read(&self.flash, first)?;
+            return Ok(Span::of_one(first, value));
+        }
+        if !self.flash.is_on() {
+            return Err(Off);
+        }
+        Ok(read_span(&self.flash, &self.known.layout, first, count))
     }
 
     /// Writes the one value of a list.

@@ -80,7 +80,7 @@ latest_in-row start end words address h silent =
 
 module _ (start count : ℕ) (words : List Word) (address : ℕ)
     (within : start + count ≤ length words) where
-  length-row : length (take count (drop start words)) ≡ count
+  pub length-row : length (take count (drop start words)) ≡ count
   length-row = length-take-le count (drop start words) (simp length-drop (omega arith))
 
   get_or-row : (slot : ℕ) → slot < count

@@ -27,6 +27,7 @@ mod Noting
 mod RunWords
 mod RunSlots
 mod ToldLists
+mod SpanTells
 mod LastElements
 mod Rescues
 mod RescueReads

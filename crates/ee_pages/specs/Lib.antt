@@ -3,6 +3,7 @@ pub mod Sets
 pub mod Meaning
 pub mod LiveOrder
 pub mod Loading
+pub mod Spans
 pub mod Legal
 pub mod Layout
 pub mod Laws

@@ -108,6 +108,21 @@ missing_word map base room head word address turn fits is low e2 e3 none = recor
       subst P there (held.each (4 * word) inside);
 }
 
+-- the check has no value
+pub missing_check : (map : Map) (base room head address turn : ℕ) → room < 16384
+    → map base ≡ Some head → turn ≡ word_turn (head / 65536) 0 → address ≡ place base 0 turn
+    → map address ≡ None → IsHurt map base room
+missing_check map base room head address turn fits is e2 e3 none = record {
+  head = head;
+  there = is;
+  no_bytes = λ bytes held.
+      let heads = heads_of map base room head bytes fits is held in
+      let there : map (place_by base held.turns 0) ≡ None =
+      ap (λ t. map (place_by base t 0)) (sym heads.0)
+      ∙ (ap map (sym (e3 ∙ ap (place base 0) e2)) ∙ none) in
+      absurd (cc (there, held.check));
+}
+
 -- the bytes that are there have another check
 pub other_check : (map : Map) (base room head words address turn check : ℕ) (space : List ℕ)
     → room < 16384 → map base ≡ Some head → head % 65536 ≤ length space

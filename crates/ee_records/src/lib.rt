@@ -5,7 +5,8 @@
 //! is its head: the length in bytes in the low 16 bits, and 16 turns in the high ones. Behind it
 //! each word has two addresses, and turn `w % 16` says which of the two counts for word `w`. Word 0
 //! is the check, CRC-32 over length and bytes. A write puts the changed words at their other
-//! addresses, each by a write of its own, and then the head, which turns them all at once.
+//! addresses, each by a write of its own, and then the head, which turns them all at once. A read
+//! finds as many addresses as it is told by one look through the slots.
 //!
 //! # What a contract sees
 //!

@@ -1,33 +1,46 @@
 //! Reading a record.
+ghost use Rattle.std.specs.Prelude.{◌≡◌, ◌<◌};
+ghost use Rattle.ee_flash.specs.Device.{IsOn};
+ghost use Rattle.ee_pages.specs.Spans.{IsSpan};
+ghost use Rattle.ee_core.specs.State.{state_of};
 ghost use Rattle.ee_records.specs.Calls.{ReadsRecord};
 
 use crate::check::{check_of, words_for};
 use crate::fault::ReadFault;
 use crate::record::Record;
-use crate::words::{has_value, put_bytes, word_turn};
-use ee_core::Variables;
+use crate::words::{put_bytes, word_turn, words_with};
+use ee_codec::Address;
+use ee_core::{Lookup, Store};
+use ee_flash::Flash;
+use ee_pages::Span;
 
 impl Record {
     /// Reads the record into the space that is lent, and gives its length, or `None` if there is
-    /// none. At `None` and at a fault the space may hold anything.
+    /// none. At `None` and at a fault the space may hold anything. It finds the values of so many
+    /// addresses by one look through the slots; one at once by the store's look-up, as is best
+    /// where that is an index.
     ///
     /// # Errors
     ///
     /// The first `ReadFault` that applies.
     ///
     /// Source: ours.
-    pub fn read<V: Variables>(
+    pub fn read<F: Flash + Drop, L: Lookup + Drop>(
         &self,
-        store: &V,
+        store: &Store<F, L>,
+        at_once: usize,
         space: &mut [u8],
     ) -> Result<Option<usize>, ReadFault>
-        ensures { ReadsRecord (V.device store.now) self.now.base self.now.words space.old result
-            space.new }
+        requires { 0 < at_once }
+        ensures { ReadsRecord store.now self.now.base self.now.words space.old result space.new }
     {
-        let head = match store.read(self.base()) {
-            Ok(Some(head)) => head,
-            Ok(None) => return Ok(None),
-            Err(_) => return Err(ReadFault::Off),
+        // No look goes on for addresses behind the record's.
+        let count = at_once.min(2 * words_with(self.capacity()) + 1);
+        let Ok(mut near) = store.read_span(self.base(), count) else {
+            return Err(ReadFault::Off);
+        };
+        let Some(head) = value_near(store, count, &mut near, self.base()) else {
+            return Ok(None);
         };
         let length = (head % 65536) as usize;
         if length > self.capacity() {
@@ -37,18 +50,45 @@ impl Record {
             return Err(ReadFault::TooLong(length));
         }
         let turns = head / 65536;
+        let first = self.place(0, word_turn(turns, 0));
+        let Some(check) = value_near(store, count, &mut near, first) else {
+            return Err(ReadFault::Hurt);
+        };
         'words: for word in 0..words_for(length) {
             let address = self.place(word + 1, word_turn(turns, word + 1));
-            match store.read(address) {
-                Ok(Some(value)) => put_bytes(space, 4 * word, length, value),
-                Ok(None) => return Err(ReadFault::Hurt),
-                Err(_) => return Err(ReadFault::Off),
-            }
+            let Some(value) = value_near(store, count, &mut near, address) else {
+                return Err(ReadFault::Hurt);
+            };
+            put_bytes(space, 4 * word, length, value);
         }
-        let check = check_of(&space[..length]);
-        if !has_value(store, self.place(0, word_turn(turns, 0)), check) {
+        if check != check_of(&space[..length]) {
             return Err(ReadFault::Hurt);
         }
         Ok(Some(length))
     }
+}
+
+/// The value of an address, by the last look where that found it, else by one for so many addresses
+/// from this one on.
+fn value_near<F: Flash + Drop, L: Lookup + Drop>(
+    store: &Store<F, L>,
+    at_once: usize,
+    near: &mut Span,
+    address: Address,
+) -> Option<u32>
+    requires some { 0 < at_once }
+    requires on { IsOn store.now }
+    requires near { IsSpan (state_of store.now).map near.old }
+    ensures value { result ≡ (state_of store.now).map address }
+    ensures near { IsSpan (state_of store.now).map near.new }
+{
+    if let Some(value) = near.get(address) {
+        return value;
+    }
+    // The store is on, and a look begins with its address.
+    let Ok(span) = store.read_span(address, at_once) else {
+        return None;
+    };
+    *near = span;
+    near.get(address)?
 }

@@ -235,6 +235,31 @@ ee_result ee_load(const ee_store *store, ee_value *values, uint32_t count, uint3
     return status;
 }
 
+/* By an index it is of the first address alone, since another look takes no more there. */
+ee_result ee_read_span(const ee_store *store, uint16_t first, uint32_t count, ee_span *span) {
+    const ee_result refused = begun_with(store, count == 0u ? 0u : first, span);
+    if (refused != EE_OK) { return refused; }
+    const Store *const it = &store->memory.parts.store;
+    span->first = first;
+    span->count = 1u;
+    span->there = 0u;
+    if (it->known.lookup != NULL && !it->known.lookup->is_given_up) {
+        (void)ended(EE_OK, store);
+        const ee_result status = ee_read(store, first, span->values);
+        span->there = status == EE_OK ? 1u : 0u;
+        return status == EE_NOTHING ? (ee_result)EE_OK : status;
+    }
+    Span found;
+    read_span(&it->flash, &it->known.layout, first, count, &found);
+    span->count = (uint16_t)found.count;
+    for (uint32_t at = 0u; at < found.count; at++) {
+        const MaybeU32 value = span_get(&found, (Address)(first + at)).value;
+        span->there |= (value.some ? 1u : 0u) << at;
+        span->values[at] = value.value;
+    }
+    return ended(EE_OK, store);
+}
+
 ee_result ee_next(const ee_store *store, uint16_t *address, uint32_t *value) {
     const uint16_t after = address == NULL ? 0u : *address;
     ee_result status = begun_with(store, after == 0u ? 1u : after, address == NULL ? NULL : value);

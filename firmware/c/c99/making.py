@@ -17,7 +17,7 @@ WITH_INDEX, WITHOUT = "#ifdef EE_INDEX", "#endif"
 ORDER = {
     "ee_flash": "word shape device",
     "ee_codec": "address header slot",
-    "ee_pages": "runs side state number table find batch_items batch read loading marking rescue",
+    "ee_pages": "runs side state number table find batch_items batch read loading span marking rescue",
     "ee_core": "change puts marking cleaning live_cursor copying moving writing changing lookup "
                "variables known store formatting opening first_start rescuing",
     "ee_index": "entries listing lent_list entering reading lent_cursor index_changing lent_index",
@@ -32,6 +32,7 @@ ROOTS = [
     *[("Slots", name) for name in LOOKUPS],
     *[("Store", name) for name in "write write_all forget clear clean_step read load next_live slots fill "
       "generation live_count pending torn_slots".split()],
+    ("span", "read_span"), ("Span", "get"),
     ("Pairs", "word"), ("Pairs", "run"), ("Pairs", "program"), ("state", "is_blank"), ("state", "blank_to"),
     ("Shape", "new"), ("Address", "new"),
 ]

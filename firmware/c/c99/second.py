@@ -22,7 +22,7 @@ OWN = {"u32_saturating_sub": "saturating_sub", "u32_wrapping_sub": "wrapping_sub
        "u32_wrapping_add": "wrapping_add", "u16_wrapping_sub": "wrapping_sub", "u32_least": "min",
        "copy_within": "copy_within", "get": "get"}
 # Methods that give a field, where they have no argument.
-FIELDS = {"shape", "pages", "words", "get", "len"}
+FIELDS = {"shape", "pages", "words", "get", "len", "count"}
 # Calls of the sources that C writes as a number.
 AS_NUMBERS = {"LEAST": 1}
 

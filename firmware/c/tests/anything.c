@@ -76,7 +76,8 @@ static uint32_t call(ee_store *store) {
     uint16_t address = (uint16_t)(1 + below(40));
     uint32_t value = (uint32_t)next(), count = below(7);
     for (uint16_t i = 0; i < count; i++) values[i] = (ee_value){(uint16_t)(address + i), value};
-    switch (below(11)) {
+    ee_span span;
+    switch (below(12)) {
     case 0: return ee_forget(store, address);
     case 1: return ee_clean(store);
     case 2:
@@ -85,6 +86,7 @@ static uint32_t call(ee_store *store) {
     case 5: return ee_next(store, &address, &value);
     case 6: return ee_counts(store, &numbers);
     case 7: return ee_load(store, values, count, &value);
+    case 8: return ee_read_span(store, address, count, &span);
     default: return ee_write(store, address, value);
     }
 }

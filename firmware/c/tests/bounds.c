@@ -6,7 +6,7 @@
 #include "part.h"
 
 enum { SHAPES = 5, CALLS = 3000 };
-enum kind { START, OPEN, FORMAT, WRITE, WRITE_ALL, FORGET, CLEAR, CLEAN, READ, LOAD, NEXT, COUNTS, RESCUE, BAD_WORDS };
+enum kind { START, OPEN, FORMAT, WRITE, WRITE_ALL, FORGET, CLEAR, CLEAN, READ, LOAD, READ_SPAN, NEXT, COUNTS, RESCUE, BAD_WORDS };
 
 static const uint32_t shapes[SHAPES][2] = {{1, 5}, {1, 40}, {2, 7}, {3, 20}, {8, 5}};
 static part device;
@@ -32,6 +32,7 @@ static void make_list(uint16_t address, uint32_t slots) {
 
 static uint32_t made(enum kind kind, uint16_t address) {
     uint32_t value = address;
+    ee_span span;
     ee_numbers numbers;
     switch (kind) {
     case START: return ee_start(&store, &flash);
@@ -44,6 +45,7 @@ static uint32_t made(enum kind kind, uint16_t address) {
     case CLEAN: return ee_clean(&store);
     case READ: return ee_read(&store, address, &value);
     case LOAD: return ee_load(&store, list, listed, &value);
+    case READ_SPAN: return ee_read_span(&store, address, EE_SPAN, &span);
     case NEXT: return ee_next(&store, &address, &value);
     case COUNTS: return ee_counts(&store, &numbers);
     case RESCUE: return ee_rescue(&store, &flash);
@@ -76,6 +78,7 @@ static uint32_t counted(enum kind kind, uint16_t address, int is_room) {
         [WRITE_ALL] = {2 * n + 2 * w + listed * s, s + 3 * p + 1, p},
         [FORGET] = {is_room ? s + 2 : n + 2 * w, is_room ? 3 : s + 3 * p + 1, is_room ? 0 : p},
         [CLEAR] = {2 * w, p + 2, p},     [CLEAN] = {w / 2 + p, 0, 1},
+        [READ_SPAN] = {s, 0, 0},
         [READ] = {s, 0, 0},              [LOAD] = {s * (listed / 32 + 1), 0, 0},
         [NEXT] = {n, 0, 0},
         [COUNTS] = {n + w, 0, 0},        [RESCUE] = {n + 3 * w, s + 3 * p + 1, p},

@@ -30,6 +30,7 @@ static void call_inside(void) {
     static const ee_value list[2] = {{1, 7}, {2, 7}};
     ee_value wanted[2] = {{1, 7}, {2, 7}};
     ee_numbers numbers = {0};
+    ee_span span;
     uint32_t value = 99;
     uint16_t address = 0;
     if (is_inside) return;
@@ -39,6 +40,7 @@ static void call_inside(void) {
     CHECK(ee_read(&store, 1, &value) == EE_BUSY && ee_next(&store, &address, &value) == EE_BUSY);
     CHECK(ee_counts(&store, &numbers) == EE_BUSY && value == 99 && address == 0 && numbers.slots == 0);
     CHECK(ee_load(&store, wanted, 2, &value) == EE_BUSY && value == 99);
+    CHECK(ee_read_span(&store, 1, 2, &span) == EE_BUSY);
     CHECK(ee_write(NULL, 1, 7) == EE_NULL);
     calls_inside++;
     is_inside = 0;
@@ -67,6 +69,7 @@ static uint32_t erase(void *context, uint32_t page) {
 static uint32_t made(ee_store *on, uint32_t kind, uint16_t address, uint32_t value) {
     ee_value list[2] = {{address, value}, {(uint16_t)(address % ADDRESSES + 1), ~value}};
     ee_numbers numbers;
+    ee_span span;
     switch (kind) {
     case 0: return ee_forget(on, address);
     case 1: return ee_clean(on);
@@ -76,6 +79,7 @@ static uint32_t made(ee_store *on, uint32_t kind, uint16_t address, uint32_t val
     case 5: return ee_next(on, &address, &value);
     case 6: return ee_counts(on, &numbers);
     case 7: return ee_load(on, list, 2, &value);
+    case 8: return ee_read_span(on, address, 1 + value % EE_SPAN, &span);
     default: return ee_write(on, address, value);
     }
 }

@@ -43,5 +43,6 @@ static inline ee_result rescue_by_index(store_by_index *store, const ee_flash *f
 #define ee_clean(store) ee_clean((plain_store *)(store))
 #define ee_read(store, address, value) ee_read((const plain_store *)(store), address, value)
 #define ee_load(store, values, count, loaded) ee_load((const plain_store *)(store), values, count, loaded)
+#define ee_read_span(store, first, count, span) ee_read_span((const plain_store *)(store), first, count, span)
 #define ee_next(store, address, value) ee_next((const plain_store *)(store), address, value)
 #define ee_counts(store, numbers) ee_counts((const plain_store *)(store), numbers)

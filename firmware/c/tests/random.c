@@ -177,6 +177,20 @@ static void loads(const ee_store *store, const map *m) {
     CHECK(loaded == there);
 }
 
+/* A look gives each of its addresses the value that it has, and takes one of them at least. */
+static void spans(const ee_store *store, const map *m) {
+    uint32_t count = 1 + (uint32_t)plays % (EE_SPAN + 2);
+    for (uint16_t first = 1; first <= ADDRESSES; first++) {
+        ee_span span;
+        CHECK(ee_read_span(store, first, count, &span) == EE_OK && span.first == first);
+        CHECK(span.count >= 1 && span.count <= count && span.count <= EE_SPAN && span.there >> span.count == 0);
+        for (uint32_t i = 0; i < span.count; i++) {
+            uint32_t place = first - 1u + i, there = place < ADDRESSES && m->there[place];
+            CHECK((span.there >> i & 1) == there && (!there || span.values[i] == m->values[place]));
+        }
+    }
+}
+
 static void play(part *p, ee_store *store, map *m) {
     call c = drawn();
     ee_numbers numbers;
@@ -198,6 +212,7 @@ static void play(part *p, ee_store *store, map *m) {
     }
     CHECK(listed == live_in(m));
     loads(store, m);
+    spans(store, m);
 }
 
 static void run(uint32_t pairs, int clears_first, enum runs runs, int stores) {

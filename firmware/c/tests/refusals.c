@@ -44,6 +44,7 @@ static void copies(void) {
 }
 
 static void nulls(void) {
+    ee_span span;
     ee_flash flash = flash_of(&p), lacking;
     CHECK(ee_open(NULL, &flash) == EE_NULL);
     CHECK(ee_open(&store, NULL) == EE_NULL);
@@ -76,6 +77,9 @@ static void nulls(void) {
     CHECK(ee_next(&store, &address, NULL) == EE_NULL);
     CHECK(ee_load(&store, NULL, 4, &loaded) == EE_NULL && ee_load(&store, wanted, 4, NULL) == EE_NULL);
     CHECK(ee_counts(&store, NULL) == EE_NULL);
+    CHECK(ee_read_span(&store, 1, 2, NULL) == EE_NULL && ee_read_span(NULL, 1, 2, &span) == EE_NULL);
+    CHECK(ee_read_span(&store, 1, 0, &span) == EE_WRONG_NUMBER && ee_read_span(&store, 0, 1, &span) == EE_WRONG_NUMBER);
+    CHECK(ee_read_span(&store, 65534, 2, &span) == EE_OK && span.count == 1 && span.there == 0);
 }
 
 static void shapes(void) {

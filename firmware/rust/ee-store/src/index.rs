@@ -3,7 +3,7 @@ use crate::ee_codec::Address;
 use crate::ee_core::OpenFault;
 use crate::ee_flash::Flash;
 use crate::ee_index::{Entry, LentIndex};
-use crate::ee_pages::Layout;
+use crate::ee_pages::{Layout, SPAN};
 use crate::error::OpenError;
 use crate::store::{open_error, Finds, Store};
 use core::fmt;
@@ -41,6 +41,14 @@ impl<const N: usize> fmt::Debug for IndexMemory<N> {
 impl Finds for LentIndex<'_> {
     fn find_anew<F: Flash>(&mut self, flash: &F, layout: &Layout) {
         self.read(flash, layout);
+    }
+
+    fn at_once(&self) -> usize {
+        if self.is_given_up() {
+            SPAN
+        } else {
+            1
+        }
     }
 }
 

@@ -29,7 +29,8 @@ impl<D: Driver, L: Finds> Store<D, L> {
         record: Record,
         space: &mut [u8],
     ) -> Result<Option<usize>, Error<D::Error>> {
-        let found = record.read(self.running()?, space);
+        let store = self.running()?;
+        let found = record.read(store, store.lookup().at_once(), space);
         self.whole(found.map_err(|fault| match fault {
             Unread::Off => Error::NotOpen,
             Unread::TooLong(length) => Error::TooShort(length),

@@ -5,7 +5,7 @@ use crate::ee_core::{
     self as proved, LiveBatch, Lookup, OpenFault, Put, Rescued, Slots, Variables, Wanted, Written,
 };
 use crate::ee_flash::{Cut, Flash, Shape};
-use crate::ee_pages::{Layout, Side};
+use crate::ee_pages::{Layout, Side, SPAN};
 use crate::error::{Error, OpenError};
 use crate::iter::Iter;
 use crate::part::Part;
@@ -32,10 +32,17 @@ pub struct Store<D: Driver, L: Finds = Slots> {
 pub trait Finds: Lookup {
     /// Forgets what it knows, and learns what the slots say.
     fn find_anew<F: Flash>(&mut self, flash: &F, layout: &Layout);
+
+    /// For how many addresses a record is read at once: one by an index, and else as many as one look through the slots takes.
+    fn at_once(&self) -> usize;
 }
 
 impl Finds for Slots {
     fn find_anew<F: Flash>(&mut self, _flash: &F, _layout: &Layout) {}
+
+    fn at_once(&self) -> usize {
+        SPAN
+    }
 }
 
 // What the layout of a store that is off says: nothing looks at it.

@@ -16,9 +16,10 @@
 //! `Store` keeps it on every device that keeps `Flash`, over every look-up. A change is appended or
 //! moved with exactly this map, fill, generation, pending and wear, or refused exactly under its
 //! cause with nothing changed; values written at once are all there or none is. `Store::load` gives
-//! each entry of a list what a read of its address gives. After a cut the state is the old one or
-//! the new one, and the device is what a front of the call's steps and one cut step leave
-//! (`IsCutChange`, `IsCutTransfer`, `IsCutClear`, `IsCutClean`). The image stays legal, always.
+//! each entry of a list what a read of its address gives, and `Store::read_span` likewise of
+//! addresses that follow one another. After a cut the state is the old one or the new one, and the
+//! device is what a front of the call's steps and one cut step leave (`IsCutChange`,
+//! `IsCutTransfer`, `IsCutClear`, `IsCutClean`). The image stays legal, always.
 //! `open`, `start`, `format` and `rescue` say word for word what they leave, after a cut too
 //! (`opened`, `started`, `formatted`, `rescued`, `failed`). `laws`: over any run without cuts the
 //! map is the changes in their order and wear rises by the pages of a set a transfer; starts end

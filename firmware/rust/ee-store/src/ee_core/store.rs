@@ -13,7 +13,7 @@ use crate::ee_core::variables::{
 };
 use crate::ee_codec::Address;
 use crate::ee_flash::{Cut, Flash};
-use crate::ee_pages::{Layout, LiveBatch, Wanted, load, torn_slots};
+use crate::ee_pages::{Layout, LiveBatch, Span, Wanted, load, read_span, torn_slots};
 
 /// The greatest generation of a set.
 pub const GREATEST_GENERATION: u32 = 4_294_967_294;
@@ -85,6 +85,23 @@ impl<F: Flash, L: Lookup> Store<F, L> {
         }
         load(&self.flash, &self.known.layout, entries);
         Ok(())
+    }
+
+    /// The values of so many addresses from this one on, or of fewer, by one look through the
+    /// slots. Of one address alone it is by the store's look-up.
+    ///
+    /// # Errors
+    ///
+    /// The store is off.
+    pub fn read_span(&self, first: Address, count: usize) -> Result<Span, Off> {
+        if count == 1 {
+            let value = self.known.read(&self.flash, first)?;
+            return Ok(Span::of_one(first, value));
+        }
+        if !self.flash.is_on() {
+            return Err(Off);
+        }
+        Ok(read_span(&self.flash, &self.known.layout, first, count))
     }
 
     /// Writes the one value of a list.

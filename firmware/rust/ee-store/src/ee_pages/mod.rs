@@ -14,11 +14,11 @@
 //! else the first fault that applies (`layout`, `fault`, `legal`). `state_of`, `is_blank`,
 //! `slot_word`, `latest`, `next_live`, `live_count`, `torn_slots` are their definitions;
 //! `next_batch` gives the next live addresses with their values (`live`, `proper`), `load` the
-//! value of each address of a list. `mark` takes no step where its word is written, and else
-//! programs that word alone (`present`, `on`, `done`, `cut`). `rescued_side`, `named_generation`
-//! and `bad_words` are their definitions, of any device. `laws`: each outcome of a step, whole or
-//! cut, in the set that is not live keeps the live one and its meaning, unless the step can commit;
-//! what whole steps make of a set; what one bad word costs.
+//! value of each address of a list, `read_span` of addresses that follow one another. `mark` takes
+//! no step where its word is written, and else programs that word alone (`present`, `on`, `done`,
+//! `cut`). `rescued_side`, `named_generation` and `bad_words` are their definitions, of any device.
+//! `laws`: each outcome of a step, whole or cut, in the set that is not live keeps the live one and
+//! its meaning, unless the step can commit; what whole steps make of a set; what one bad word costs.
 //!
 //! # What is only tested
 //!
@@ -38,6 +38,7 @@ mod read;
 mod rescue;
 mod runs;
 mod side;
+mod span;
 mod state;
 mod table;
 
@@ -49,4 +50,5 @@ pub use marking::mark;
 pub use read::{latest, live_count, next_live, slot_value, slot_word, torn_slots};
 pub use rescue::{bad_words, named_generation, rescued_side};
 pub use side::{Side, first_page};
+pub use span::{SPAN, Span, read_span};
 pub use state::{Mark, State, blank_to, is_blank, state_of};
