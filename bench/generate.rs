@@ -8,6 +8,9 @@
 //! be `most`: as many as fit in 16 MiB.
 #![forbid(unsafe_code)]
 
+mod dice;
+
+use dice::Dice;
 use std::env;
 use std::fmt::Write as _;
 use std::io::{self, Write as _};
@@ -18,18 +21,7 @@ const RECEIVE: u64 = 0xAAAA_AAAA_0000_0000;
 const SCRIPT_BYTES: usize = 16_777_216;
 const ADDRESSES: usize = 65534;
 
-/// Numbers that look random (splitmix64).
-struct Dice(u64);
-
 impl Dice {
-    fn next(&mut self) -> u64 {
-        self.0 = self.0.wrapping_add(0x9E37_79B9_7F4A_7C15);
-        let mut z = self.0;
-        z = (z ^ z >> 30).wrapping_mul(0xBF58_476D_1CE4_E5B9);
-        z = (z ^ z >> 27).wrapping_mul(0x94D0_49BB_1331_11EB);
-        z ^ z >> 31
-    }
-
     /// A number below `end`.
     fn below(&mut self, end: usize) -> usize {
         ((u128::from(self.next()) * end as u128) >> 64) as usize

@@ -10,6 +10,9 @@
 //! `N passed, M failed, 0 skipped`, with status 1 where M isn't 0.
 #![forbid(unsafe_code)]
 
+mod dice;
+
+use dice::Dice;
 use std::env;
 use std::fmt::Write as _;
 use std::fs;
@@ -196,18 +199,7 @@ fn try_traces(trace: Trace, more: usize, forgets: bool, counts: &mut Counts) {
     }
 }
 
-/// Numbers that look random (splitmix64).
-struct Dice(u64);
-
 impl Dice {
-    fn next(&mut self) -> u64 {
-        self.0 = self.0.wrapping_add(0x9E37_79B9_7F4A_7C15);
-        let mut z = self.0;
-        z = (z ^ z >> 30).wrapping_mul(0xBF58_476D_1CE4_E5B9);
-        z = (z ^ z >> 27).wrapping_mul(0x94D0_49BB_1331_11EB);
-        z ^ z >> 31
-    }
-
     fn of(&mut self, least: u64, most: u64) -> u64 {
         least + self.next() % (most - least + 1)
     }
@@ -446,6 +438,9 @@ fn main() -> ExitCode {
         return ExitCode::from(2);
     }
     println!("{cases} runs of size");
-    println!("{} passed, {} failed, 0 skipped", counts.passed, counts.failed);
+    println!(
+        "{} passed, {} failed, 0 skipped",
+        counts.passed, counts.failed
+    );
     ExitCode::from(u8::from(counts.failed > 0))
 }

@@ -3,9 +3,10 @@ wrote among theirs, against the rule of docs/MODEL.md in plain Python. All that 
 forgotten behind it, once refused without `--force`."""
 import os
 import random
-import subprocess
 
 import cases
+
+from tools.places import run_of
 
 MARK = "a" * 16
 GREATEST = 4294967294
@@ -201,21 +202,15 @@ def tried(program, path, number):
     ):
         sets = [Set(lines[:pages]), Set(lines[pages:])]
         wanted = rule(sets)
-        done = subprocess.run(
-            [program, *name.split(), path],
-            stdout=subprocess.PIPE,
-            stderr=subprocess.STDOUT,
-            text=True,
-            check=False,
-        )
+        status, said = run_of(program, *name.split(), path)
         with open(path, encoding="ascii") as file:
             found = file.read().splitlines()[1:]
-        if (done.stdout, done.returncode) != wanted:
-            return f"{name}: wanted {wanted}, found {(done.stdout, done.returncode)} on {lines}"
+        if (said, status) != wanted:
+            return f"{name}: wanted {wanted}, found {(said, status)} on {lines}"
         lines = sets[0].lines() + sets[1].lines()
         if found != lines:
             return f"{name}: wanted {lines}, found {found}"
-        if done.returncode and name == "rescue":
+        if status and name == "rescue":
             return None
     return None
 

@@ -59,10 +59,6 @@ def values(dice, names):
     return "".join(f"{line}\n" for line in lines).encode()
 
 
-# What TOML 1.1 takes and 1.0 doesn't: a text that has one of these may be refused by an older library.
-NEW_IN_1_1 = ("\\e", "\\x", "a line end in an inline table", "a comma behind the last of an inline table", "no seconds")
-
-
 class Writer:
     """Writes random values of every form, and tells which forms of TOML 1.1 it used."""
 

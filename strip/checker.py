@@ -11,13 +11,15 @@ It shares no code with the crate `strip`, which made the files.
 import argparse
 import random
 import re
+import sys
 from collections import Counter
 from dataclasses import dataclass, field
 from functools import cache
 from pathlib import Path
 
-TOP = Path(__file__).resolve().parent.parent
-CRATES = TOP / "crates"
+sys.path.insert(0, str(Path(__file__).resolve().parent.parent))
+from tools.places import CRATES, TOP  # noqa: E402
+from tools.tally import Tally  # noqa: E402
 
 
 @dataclass(frozen=True)
@@ -52,9 +54,32 @@ class Package:
         return TOP / self.folder
 
 
-SIGNS = ("..=", "<<=", ">>=", "::", "->", "=>", "..", "==", "!=", "<=", ">=", "&&", "||", "<<", "+=", "-=", "*=", "/=",
-         "%=", "|=", "&=", "^=")
+SIGNS = (
+    "..=",
+    "<<=",
+    ">>=",
+    "::",
+    "->",
+    "=>",
+    "..",
+    "==",
+    "!=",
+    "<=",
+    ">=",
+    "&&",
+    "||",
+    "<<",
+    "+=",
+    "-=",
+    "*=",
+    "/=",
+    "%=",
+    "|=",
+    "&=",
+    "^=",
+)
 CLOSING = {"{": "}", "(": ")", "[": "]", "<": ">"}
+
 
 class Different(Exception):
     """The texts differ in something that no form allows."""
@@ -94,7 +119,7 @@ def token_end(text, place):
         # A letter between quotes, or a lifetime.
         if text.startswith("\\", place + 1):
             return text.index("'", place + 3) + 1
-        if text[place + 2:place + 3] == "'":
+        if text[place + 2 : place + 3] == "'":
             return place + 3
         return word_end(text, place + 1)
     if letter.isalnum() or letter == "_":
@@ -141,13 +166,17 @@ class Source:
 
     def reads(self, place, first, *others):
         # Most are told by the first.
-        return self.text(place) == first and all(self.text(place + count) == text for count, text in enumerate(others, 1))
+        return self.text(place) == first and all(
+            self.text(place + count) == text for count, text in enumerate(others, 1)
+        )
 
     def closed(self, place):
         """The place behind the bracket that closes this one, whatever stands between."""
         opening, depth = self.text(place), 0
         if opening not in CLOSING:
-            raise Different(f"no bracket at line {self.tokens[min(place, len(self.tokens) - 1)][1]}")
+            raise Different(
+                f"no bracket at line {self.tokens[min(place, len(self.tokens) - 1)][1]}"
+            )
         while place < len(self.tokens):
             depth += {opening: 1, CLOSING[opening]: -1}.get(self.text(place), 0)
             place += 1
@@ -165,8 +194,20 @@ class Source:
     @cache
     def form(self, place):
         """The name of the form that begins here and the place behind it, or None."""
-        for look in (self.ghost, self.clause, self.attribute, self.derived, self.bound, self.model, self.module,
-                     self.ghost_of_std, self.use_of_crate, self.label, self.proof, self.origin):
+        for look in (
+            self.ghost,
+            self.clause,
+            self.attribute,
+            self.derived,
+            self.bound,
+            self.model,
+            self.module,
+            self.ghost_of_std,
+            self.use_of_crate,
+            self.label,
+            self.proof,
+            self.origin,
+        ):
             found = look(place)
             if found:
                 return found
@@ -177,7 +218,11 @@ class Source:
             return None
         if self.text(place + 1) == "use":
             return "ghost uses", self.behind(place, ";")
-        if is_word(self.text(place + 1)) and self.text(place + 2) in (":", "=") and self.text(place + 3) == "{":
+        if (
+            is_word(self.text(place + 1))
+            and self.text(place + 2) in (":", "=")
+            and self.text(place + 3) == "{"
+        ):
             end = self.closed(place + 3)
             if self.text(end) == ";":
                 return "ghost members", end + 1
@@ -259,7 +304,6 @@ class Source:
 
     def module(self, place):
         """A `mod` or a `use` of a module that the package has not, with what makes it public."""
-        start = place
         if self.text(place) == "pub":
             place = self.closed(place + 1) if self.text(place + 1) == "(" else place + 1
         if self.text(place + 1) not in self.absent:
@@ -276,7 +320,11 @@ class Source:
         return None
 
     def use_of_crate(self, place):
-        if self.text(place) == "use" and self.text(place + 1) in self.package.uses and self.text(place + 2) == "::":
+        if (
+            self.text(place) == "use"
+            and self.text(place + 1) in self.package.uses
+            and self.text(place + 2) == "::"
+        ):
             return "uses of crates", self.behind(place, ";")
         return None
 
@@ -292,13 +340,19 @@ class Source:
 
     def label(self, place):
         text = self.text(place)
-        if text[:1] == "'" and self.text(place + 1) == ":" and self.text(place + 2) in ("for", "while", "loop", "{"):
+        if (
+            text[:1] == "'"
+            and self.text(place + 1) == ":"
+            and self.text(place + 2) in ("for", "while", "loop", "{")
+        ):
             return None if text in self.named else ("labels", place + 2)
         return None
 
     def origin(self, place):
         """The empty line of a doc comment, and the paragraph below it, where that says that the source is ours."""
-        is_origin = self.text(place) == "///" and self.text(place + 1).startswith("/// Source: ours")
+        is_origin = self.text(place) == "///" and self.text(place + 1).startswith(
+            "/// Source: ours"
+        )
         if not is_origin or not self.package.hides_origins:
             return None
         place += 1
@@ -321,7 +375,12 @@ class Source:
         lines = [self.tokens[now][1] for now in range(place, min(end + 1, len(self.tokens)))]
         found = self.form(end)
         alone = ("labels", "derives", "bounds of Drop", "hidings of modules")
-        if not found or found[0] in alone or found[0].endswith(" attributes") or any(b - a != 1 for a, b in zip(lines, lines[1:])):
+        if (
+            not found
+            or found[0] in alone
+            or found[0].endswith(" attributes")
+            or any(b - a != 1 for a, b in zip(lines, lines[1:]))
+        ):
             return None
         return end
 
@@ -387,11 +446,13 @@ def walk(source, plain, counts):
 
 def expect(source, left, plain, right, expected):
     """Raises `Different` where other tokens stand in the plain text."""
-    found = [token for token, _ in plain[right:right + len(expected)]]
+    found = [token for token, _ in plain[right : right + len(expected)]]
     if found != list(expected):
         line = plain[right][1] if right < len(plain) else "the end"
-        raise Different(f"`{' '.join(found)}` at line {line}, where the source has `{' '.join(expected)}`"
-                        f" at line {source.tokens[left][1]}")
+        raise Different(
+            f"`{' '.join(found)}` at line {line}, where the source has `{' '.join(expected)}`"
+            f" at line {source.tokens[left][1]}"
+        )
 
 
 def pairs(package):
@@ -409,7 +470,9 @@ def plain_tokens(package, path, source):
     """The tokens of a file of plain Rust, behind its first line, which names its source."""
     first, _, rest = path.read_text().partition("\n")
     licence, _, rest = rest.partition("\n")
-    if not first.startswith(f"// Made by {package.maker} from crates/{source.relative_to(CRATES)}."):
+    if not first.startswith(
+        f"// Made by {package.maker} from crates/{source.relative_to(CRATES)}."
+    ):
         raise Different("the first line does not name its source")
     if licence != "// SPDX-License-Identifier: MIT OR Apache-2.0":
         raise Different("the second line does not name the licence")
@@ -468,20 +531,21 @@ def damage(good, number, seed):
 
 
 def main(package, usage, more=None):
-    """Compares the files of a package, and then what `more` compares: it gives how many comparisons passed, and what is wrong."""
-    parser = argparse.ArgumentParser(description=usage, formatter_class=argparse.RawDescriptionHelpFormatter)
+    """Compares the files of a package, and then what `more` compares and counts."""
+    parser = argparse.ArgumentParser(
+        description=usage, formatter_class=argparse.RawDescriptionHelpFormatter
+    )
     parser.add_argument("--damages", type=int, default=4000)
     parser.add_argument("--seed", type=int, default=1)
-    words = parser.parse_args()
-    counts = Counter()
+    words, counts, tally = parser.parse_args(), Counter(), Tally(package.folder)
     good, wrong = compare(package, counts)
     print(f"{len(good)} files; missing in them, or written anew:")
     for form, count in counts.most_common():
         print(f"  {count:5} {form}")
     refused, let_through = damage(good, words.damages, words.seed) if good else (0, [])
-    also, bad = more() if more else (0, [])
-    for line in wrong + let_through + bad:
-        print(line)
+    tally.hold(wrong, len(good) + len(wrong))
+    tally.hold(let_through, refused + len(let_through))
+    if more:
+        more(tally)
     print(f"{len(good)} files compared, {refused} damages refused")
-    print(f"{len(good) + also + refused} passed, {len(wrong) + len(let_through) + len(bad)} failed")
-    return 1 if wrong or let_through or bad else 0
+    return tally.close()

@@ -1,11 +1,10 @@
 """The contracts of crates/: each function with its crate, its module, its type, its comment and the
 names of its clauses."""
-import glob
 import os
 import re
 from collections import namedtuple
 
-from tools.places import TOP
+from tools.places import CRATES, TOP, in_crates
 
 # The crates that are no part of the product.
 NO_PRODUCT = {"ee_cases", "ee_fakes", "ee_tests"}
@@ -23,7 +22,7 @@ HEAD = re.compile(r"\s*(pub(?:\(\w+\))? )?(?:const )?(?:unsafe )?(?:extern \"C\"
 
 def functions_of(crate, path):
     """The functions of a source file, in their order."""
-    file = os.path.relpath(path, os.path.join(TOP, "crates", crate, "src"))
+    file = os.path.relpath(path, CRATES / crate / "src")
     owner, of, comment, found, in_head = "", "", [], [], False
     with open(path, encoding="utf-8") as opened:
         lines = opened.read().splitlines()
@@ -53,13 +52,8 @@ def functions_of(crate, path):
 
 def functions():
     """The functions of all crates."""
-    found = []
-    for crate in sorted(os.listdir(os.path.join(TOP, "crates"))):
-        for path in sorted(
-            glob.glob(os.path.join(TOP, "crates", crate, "src", "**", "*.rt"), recursive=True)
-        ):
-            found += functions_of(crate, path)
-    return found
+    paths = in_crates("*/src/**/*.rt")
+    return [one for path in paths for one in functions_of(path.split("/")[1], TOP / path)]
 
 
 def public_contracts(left_out=()):

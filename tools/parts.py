@@ -18,11 +18,14 @@ Turn = namedtuple("Turn", "part words beside", defaults=((), False))
 
 PARTS = {
     "sources": Part("the tests in crates/, before any proof", ["tools/sources"]),
-    "tools": Part("the tools themselves, their format and their lints", ["tools/test"]),
+    "tools": Part(
+        "the tools themselves, their format and their lints",
+        ["tools/test"],
+        ["tools/test", "--format"],
+    ),
     "docs": Part("the documents, held to the code", ["docs/test"], ["docs/pictures/draw"]),
     "typed": Part("the documents and worked examples, typed", ["docs/typed"]),
     "first": Part("the first program in C", ["make", "-C", "firmware/c/sim", "run"]),
-    "firmware": Part("all of the store for firmware", ["firmware/test"]),
     "rust": Part(
         "the package in Rust",
         ["firmware/rust/test"],
@@ -32,6 +35,11 @@ PARTS = {
     "c": Part(
         "the C library", ["firmware/c/test"], ["firmware/c/to_c"], ["firmware/c/to_c", "--compare"]
     ),
+    "lockstep": Part("ee.c beside the package in Rust", ["firmware/c/c99/test"]),
+    "shown": Part("what firmware/README.md shows of the C library", ["firmware/shown"]),
+    "cbmc": Part("ee.c by a model checker", ["firmware/c/analysis/by_cbmc"]),
+    "frama": Part("ee.c by an analyser", ["firmware/c/analysis/by_frama"]),
+    "peer": Part("a store in plain C beside ee.c", ["firmware/peer/test"]),
     "machine": Part("the ports as machine code, in Unicorn", ["firmware/machine"]),
     "microbit": Part("the port for an nRF5 in QEMU, stopped in its steps", ["firmware/microbit"]),
     "openocd": Part("offsets and bits of the ports beside OpenOCD's", ["firmware/openocd"]),
@@ -57,6 +65,18 @@ PARTS = {
     "steps": Part("every short script, by the lists of steps alone", ["bench/steps"]),
     "lasting": Part("how long a part lasts, by trying", ["bench/lasting"]),
 }
+FIRMWARE = [
+    Turn("rust"),
+    Turn("machine"),
+    Turn("microbit"),
+    Turn("openocd"),
+    Turn("cbmc"),
+    Turn("frama"),
+    Turn("shown"),
+    Turn("c"),
+    Turn("lockstep"),
+    Turn("peer"),
+]
 # What takes no proof, in some four minutes on four processors (./test), and what the gate runs
 # behind the proofs.
 QUICK = [
@@ -77,16 +97,25 @@ GATE = [
     Turn("tools"),
     Turn("docs"),
     Turn("typed"),
-    Turn("firmware"),
+    *FIRMWARE,
     Turn("cli"),
     Turn("page", ["--compare"]),
     Turn("bench"),
     Turn("steps"),
     Turn("lasting"),
 ]
+# The runs by the words that ask for them, each with whether a failure ends it.
+RUNS = {"": (QUICK, False), "--gate": (GATE, True), "firmware": (FIRMWARE, False)}
 # Parts that are skipped whole where something is missing: the programs that they take, and how to
 # get them. `ee` is built by cargo where it wasn't proved.
-NEEDS = {"sources": (["rt"], KIT), "first": (["cc", "make"], "apt-get install gcc make")}
+COMPILER = ([os.environ.get("CC", "cc")], "apt-get install gcc")
+NEEDS = {
+    "sources": (["rt"], KIT),
+    "first": (["cc", "make"], "apt-get install gcc make"),
+    "c": COMPILER,
+    "lockstep": COMPILER,
+    "peer": COMPILER,
+}
 TAKE_PROGRAM = {"typed", "bench", "steps", "lasting"}
 NO_PROGRAM = f"no program (cargo and rustc 1.89 by {RUST}, its crates by .ci/install)"
 # A part that counts nothing of its own: its status says all.

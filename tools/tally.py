@@ -6,6 +6,8 @@ A part says of each skip `skipped: WHAT: what is missing (how to install it)`, a
 import re
 import subprocess
 
+from tools.places import is_here
+
 CLOSING = re.compile(r"(\d+) passed, (\d+) failed(?:, (\d+) skipped)?")
 
 
@@ -43,6 +45,13 @@ class Tally:
         self.skipped += 1
         print(f"skipped: {self.part}, {what}: {missing}", flush=True)
 
+    def lacks(self, what, programs, how):
+        """Skips what takes programs that aren't here. Gives whether any of them is missing."""
+        missing = [name for name in programs if not is_here(name)]
+        if missing:
+            self.skip(what, f"no {' or '.join(missing)} ({how})")
+        return bool(missing)
+
     def run(self, what, *words, **how):
         """Counts a command by its status. What it prints is shown as it comes, or told of a failure
         where it is captured."""
@@ -55,7 +64,10 @@ class Tally:
         closing = CLOSING.fullmatch(lines[-1].strip()) if lines else None
         passed, failed, skipped = map(int, closing.groups("0")) if closing else (0, 0, 0)
         if not closing or (status != 0 and failed == 0):
-            print(f"{what} ended with status {status} and no word of what failed", flush=True)
+            end = (
+                f"was stopped by signal {-status}" if status < 0 else f"ended with status {status}"
+            )
+            print(f"{what} {end} and no word of what failed", flush=True)
             passed, failed, skipped = 0, 1, 0
         self.passed, self.failed = self.passed + passed, self.failed + failed
         self.skipped += skipped

@@ -475,11 +475,6 @@ typedef struct ListOfPut {
     uint32_t len;
 } ListOfPut;
 
-typedef struct CopyingPlaceOrCut {
-    bool ok;
-    CopyingPlace value;
-} CopyingPlaceOrCut;
-
 typedef struct IndexPair {
     uint32_t first;
     uint32_t second;
@@ -642,14 +637,6 @@ static inline WriteAllFault write_all_fault_twice(uint32_t twice) {
 
 static inline Change change_put(Address address, uint32_t value) {
     return (Change){ .tag = Change_Put, .address = address, .value = value };
-}
-
-static inline CopyingPlaceOrCut copying_place_or_cut_err(void) {
-    return (CopyingPlaceOrCut){ .ok = false, .value = { .slot = 0u, .page = 0u, .at = 0u } };
-}
-
-static inline CopyingPlaceOrCut copying_place_or_cut_ok(CopyingPlace value) {
-    return (CopyingPlaceOrCut){ .ok = true, .value = value };
 }
 
 static inline MaybeLive maybe_live_some(Live value) {
@@ -915,19 +902,19 @@ static void cursor_begin(Cursor *self, const Device *flash, const Layout *layout
 static MaybeLive cursor_next(Cursor *self, const Device *flash, const Layout *layout);
 static MaybeLive next_given(const Device *flash, const Layout *layout, LiveBatch *batch,
         uint32_t *given);
-static CopyingPlaceOrCut fill_set(Device *flash, const Layout *layout, const Put *puts_items,
-        uint32_t puts_len, bool forgets, Cursor *cursor);
+static Step fill_set(Device *flash, const Layout *layout, const Put *puts_items, uint32_t puts_len,
+        bool forgets, Cursor *cursor, CopyingPlace *made);
 #ifdef EE_INDEX
-static CopyingPlaceOrCut fill_set_lent_cursor(Device *flash, const Layout *layout,
-        const Put *puts_items, uint32_t puts_len, bool forgets, LentCursor *cursor);
+static Step fill_set_lent_cursor(Device *flash, const Layout *layout, const Put *puts_items,
+        uint32_t puts_len, bool forgets, LentCursor *cursor, CopyingPlace *made);
 #endif
-static CopyingPlaceOrCut put_all(Device *flash, const Layout *layout, const Put *puts_items,
-        uint32_t puts_len);
-static CopyingPlaceOrCut copy_others(Device *flash, const Layout *layout, const Put *puts_items,
-        uint32_t puts_len, CopyingPlace place, Cursor *cursor);
+static Step put_all(Device *flash, const Layout *layout, const Put *puts_items, uint32_t puts_len,
+        CopyingPlace *made);
+static Step copy_others(Device *flash, const Layout *layout, const Put *puts_items,
+        uint32_t puts_len, CopyingPlace place, Cursor *cursor, CopyingPlace *made);
 #ifdef EE_INDEX
-static CopyingPlaceOrCut copy_others_lent_cursor(Device *flash, const Layout *layout,
-        const Put *puts_items, uint32_t puts_len, CopyingPlace place, LentCursor *cursor);
+static Step copy_others_lent_cursor(Device *flash, const Layout *layout, const Put *puts_items,
+        uint32_t puts_len, CopyingPlace place, LentCursor *cursor, CopyingPlace *made);
 #endif
 static Step copy_one(Device *flash, const Layout *layout, bool passed, CopyingPlace *place,
         Address address, uint32_t value);
@@ -946,11 +933,11 @@ static Step transfer_lent_cursor(Device *flash, Layout *layout, const Put *puts_
 #endif
 static Step transfer_by_slots(Device *flash, Layout *layout, const Put *puts_items,
         uint32_t puts_len, bool forgets);
-static CopyingPlaceOrCut move_map(Device *flash, const Layout *layout, const Put *puts_items,
-        uint32_t puts_len, bool forgets, Cursor *cursor);
+static Step move_map(Device *flash, const Layout *layout, const Put *puts_items, uint32_t puts_len,
+        bool forgets, Cursor *cursor, CopyingPlace *made);
 #ifdef EE_INDEX
-static CopyingPlaceOrCut move_map_lent_cursor(Device *flash, const Layout *layout,
-        const Put *puts_items, uint32_t puts_len, bool forgets, LentCursor *cursor);
+static Step move_map_lent_cursor(Device *flash, const Layout *layout, const Put *puts_items,
+        uint32_t puts_len, bool forgets, LentCursor *cursor, CopyingPlace *made);
 #endif
 static Step transfer_nothing(Device *flash, Layout *layout);
 static Step move_nothing(Device *flash, const Layout *layout);
@@ -989,17 +976,18 @@ EE_IN_PLACE ForgetFault known_forget(Known *self, Device *flash, Address address
 static CleanResult known_clean_step(const Known *self, Device *flash);
 EE_IN_PLACE WriteFault known_append_value(Known *self, Device *flash, Address address,
         uint32_t value);
-static WriteFault known_move_value(Known *self, Device *flash, Address address, uint32_t value);
+EE_IN_PLACE WriteFault known_move_value(Known *self, Device *flash, Address address,
+        uint32_t value);
 static bool known_has_no_place(const Known *self, const Device *flash, Address address);
 static uint32_t store_torn_slots(const Store *self);
 static Step store_load(const Store *self, Wanted *entries_items, uint32_t entries_len);
 static WriteAllFault store_write_one(Store *self, Put put);
-static WriteAllFault store_write_several(Store *self, const Put *puts_items, uint32_t puts_len);
+EE_APART WriteAllFault store_write_several(Store *self, const Put *puts_items, uint32_t puts_len);
 static bool store_is_full_for_all(const Store *self, const Put *puts_items, uint32_t puts_len);
 static bool store_is_last(const Store *self);
 static uint32_t store_slots(const Store *self);
 static ReadResult store_read(const Store *self, Address address);
-EE_IN_PLACE WriteFault store_write(Store *self, Address address, uint32_t value);
+EE_APART WriteFault store_write(Store *self, Address address, uint32_t value);
 static WriteAllFault store_write_all(Store *self, const Put *changes_items, uint32_t changes_len);
 static ForgetFault store_forget(Store *self, Address address);
 static ClearFault store_clear(Store *self);
@@ -1048,10 +1036,11 @@ EE_IN_PLACE MaybePlaced first_above(const LentList *list, MaybeAddress after);
 static MaybeLive next_indexed(const LentList *list, const Device *flash, const Layout *layout,
         MaybeAddress after);
 static IndexCursor index_cursor_new(const LentList *list, uint32_t fill);
-static MaybeLive index_cursor_next(IndexCursor *self, const Device *flash, const Layout *layout);
-static MaybeShown next_shown(const Entry *entries_items, uint32_t entries_len, uint32_t fill);
+EE_IN_PLACE MaybeLive index_cursor_next(IndexCursor *self, const Device *flash,
+        const Layout *layout);
+EE_IN_PLACE MaybeShown next_shown(const Entry *entries_items, uint32_t entries_len, uint32_t fill);
 static void lent_cursor_begin(LentCursor *self, const Device *flash, const Layout *layout);
-static MaybeLive lent_cursor_next(LentCursor *self, const Device *flash, const Layout *layout);
+EE_IN_PLACE MaybeLive lent_cursor_next(LentCursor *self, const Device *flash, const Layout *layout);
 static Step enter_hidden(LentList *list, const Put *puts_items, uint32_t puts_len, uint32_t fill);
 static Step enter_new(LentList *list, Address address, uint32_t number);
 static void follow(LentList *list, const Put *puts_items, uint32_t puts_len, bool forgets);
@@ -1089,7 +1078,7 @@ static ListOfU64 pairs_run(const Numbers *self, uint32_t page, uint32_t at, uint
 static Step pairs_program(Numbers *self, uint32_t page, uint32_t at, uint64_t value);
 static void fill_run(const Numbers *nor, uint32_t page, uint32_t at, uint64_t *room_items,
         uint32_t room_len);
-static void fill_from_window(const uint64_t *numbers_items, uint32_t numbers_len,
+EE_APART void fill_from_window(const uint64_t *numbers_items, uint32_t numbers_len,
         uint64_t *room_items, uint32_t room_len);
 static void fill_by_reading(const Numbers *nor, uint32_t page, uint32_t at, uint64_t *room_items,
         uint32_t room_len);
@@ -1116,9 +1105,15 @@ EE_IN_PLACE Step step_ended(const Device *device, uint32_t failed) {
     return CUT;
 }
 
-/* A read ended with this number, which isn't 0: the word is torn, or the read itself failed. */
-EE_APART void read_failed(const Device *device, uint32_t failed) {
+/* Reads a word, or a number of one. Whether it can be read: else it is 0, and where the read itself
+ * failed the device is off. */
+EE_IN_PLACE bool is_read(const Device *device, const ee_flash *flash, uint32_t page, uint32_t at,
+        uint64_t *number) {
+    const uint32_t failed = flash->word(flash->context, page, at, number);
+    if (failed == 0u) { return true; }
+    *number = 0u;
     if (failed != EE_TORN) { device->power->flash = NULL; }
+    return false;
 }
 
 /* The flash, while it is on and has this page; else NULL, and the device is off. The page is asked
@@ -1136,11 +1131,8 @@ EE_IN_PLACE const ee_flash *flash_with(const Device *device, uint32_t page, uint
 EE_APART uint64_t numbers_read(const Numbers *numbers, uint32_t page, uint32_t at) {
     const ee_flash *const flash = numbers->power->flash;
     uint64_t number;
-    if (flash == NULL) { return 0u; }
-    const uint32_t failed = flash->word(flash->context, page, at, &number);
-    if (failed == 0u) { return number; }
-    read_failed(numbers, failed);
-    return 0u;
+    if (flash == NULL || !is_read(numbers, flash, page, at, &number)) { return 0u; }
+    return number;
 }
 
 /* So many words or numbers of a page from a place on, where C has them in memory; else no items. */
@@ -1165,11 +1157,7 @@ static Word device_word(const Device *device, uint32_t page, uint32_t at) {
     if (flash == NULL) { return word_torn(); }
     if (EE_IS_OF_PAIRS(flash)) { return pairs_word(device, page, at); }
     uint64_t number = 0u;
-    const uint32_t failed = flash->word(flash->context, page, at, &number);
-    if (failed != 0u) {
-        read_failed(device, failed);
-        return word_torn();
-    }
+    if (!is_read(device, flash, page, at, &number)) { return word_torn(); }
     return number == UINT64_MAX ? word_erased() : word_held(number);
 }
 
@@ -1179,15 +1167,11 @@ EE_APART void fill_unread(uint64_t *items, uint32_t len) {
     for (uint32_t at = 0u; at < len; at++) { items[at] = UNREAD; }
 }
 
-/* Asks for each word of a run. One that can't be read is 0. No read follows one that failed. */
+/* Asks for each word of a run. No read follows one that failed. */
 static void device_fill(const Device *device, const ee_flash *flash, uint32_t page, uint32_t at,
         uint64_t *items, uint32_t len) {
     for (uint64_t *const end = &items[len]; items != end; items++, at++) {
-        const uint32_t failed = flash->word(flash->context, page, at, items);
-        if (failed == 0u) { continue; }
-        *items = 0u;
-        if (failed != EE_TORN) {
-            device->power->flash = NULL;
+        if (!is_read(device, flash, page, at, items) && device->power->flash == NULL) {
             fill_unread(items, (uint32_t)(end - items));
             return;
         }
@@ -2308,8 +2292,12 @@ static void load(const Device *flash, const Layout *layout, Wanted *entries_item
 /* Takes the value of each entry away. */
 static void clear_values(Wanted *entries_items, uint32_t entries_len) {
     const RoomOfWanted entries = { .items = entries_items, .len = entries_len };
-    for (uint32_t at = 0u, end = entries.len; at < end; at++) {
-        entries.items[at].value = maybe_u32_none();
+    if (entries.len != 0u) {
+        uint32_t at = 0u;
+        do {
+            entries.items[at].value = maybe_u32_none();
+            at++;
+        } while (at != entries.len);
     }
 }
 
@@ -2333,13 +2321,17 @@ static void tell_run(const uint64_t *numbers_items, uint32_t numbers_len, Wanted
         uint32_t entries_len) {
     const ListOfU64 numbers = { .items = numbers_items, .len = numbers_len };
     const RoomOfWanted entries = { .items = entries_items, .len = entries_len };
-    for (uint32_t at = 0u, end = entries.len; at < end; at++) {
-        const MaybeSaidValue maybe_said = said_in(numbers.items, numbers.len,
-                entries.items[at].address);
-        if (maybe_said.some) {
-            const MaybeU32 said_2 = maybe_said.value;
-            entries.items[at].value = said_2;
-        }
+    if (entries.len != 0u) {
+        uint32_t at = 0u;
+        do {
+            const MaybeSaidValue maybe_said = said_in(numbers.items, numbers.len,
+                    entries.items[at].address);
+            if (maybe_said.some) {
+                const MaybeU32 said_2 = maybe_said.value;
+                entries.items[at].value = said_2;
+            }
+            at++;
+        } while (at != entries.len);
     }
 }
 
@@ -2604,10 +2596,14 @@ static ListOfPut values_put(const Put *puts_items, uint32_t puts_len, bool forge
 /* The first entry, counted from 0, whose address an earlier one has. */
 static MaybeIndex first_twice(const Put *puts_items, uint32_t puts_len) {
     const ListOfPut puts = { .items = puts_items, .len = puts_len };
-    for (uint32_t place = 0u, end = puts.len; place < end; place++) {
-        if (has_put(puts.items, place, puts.items[place].address)) {
-            return maybe_index_some(place);
-        }
+    if (puts.len != 0u) {
+        uint32_t place = 0u;
+        do {
+            if (has_put(puts.items, place, puts.items[place].address)) {
+                return maybe_index_some(place);
+            }
+            place++;
+        } while (place != puts.len);
     }
     return maybe_index_none();
 }
@@ -2789,73 +2785,66 @@ static MaybeLive next_given(const Device *flash, const Layout *layout, LiveBatch
 /* Fills the other set, which was opened, with the map after changes: the values that are put come
  * first, in their order, and then each other live address, rising. Where they are forgotten, their
  * addresses are left out alone. Gives how far that fills it. */
-static CopyingPlaceOrCut fill_set(Device *flash, const Layout *layout, const Put *puts_items,
-        uint32_t puts_len, bool forgets, Cursor *cursor) {
+static Step fill_set(Device *flash, const Layout *layout, const Put *puts_items, uint32_t puts_len,
+        bool forgets, Cursor *cursor, CopyingPlace *made) {
     const ListOfPut puts = { .items = puts_items, .len = puts_len };
+    CopyingPlace first;
     const ListOfPut puts_2 = values_put(puts.items, puts.len, forgets);
-    const CopyingPlaceOrCut first_result = put_all(flash, layout, puts_2.items, puts_2.len);
-    if (!first_result.ok) {
-        return copying_place_or_cut_err();
+    if (put_all(flash, layout, puts_2.items, puts_2.len, &first) == CUT) {
+        return CUT;
     }
-    const CopyingPlace first = first_result.value;
-    const CopyingPlaceOrCut all_result = copy_others(flash, layout, puts.items, puts.len, first,
-            cursor);
-    if (!all_result.ok) {
-        return copying_place_or_cut_err();
+    if (copy_others(flash, layout, puts.items, puts.len, first, cursor, made) == CUT) {
+        return CUT;
     }
-    const CopyingPlace all = all_result.value;
-    return copying_place_or_cut_ok(all);
+    return DONE;
 }
 
 #ifdef EE_INDEX
 /* Fills the other set, which was opened, with the map after changes: the values that are put come
  * first, in their order, and then each other live address, rising. Where they are forgotten, their
  * addresses are left out alone. Gives how far that fills it. */
-static CopyingPlaceOrCut fill_set_lent_cursor(Device *flash, const Layout *layout,
-        const Put *puts_items, uint32_t puts_len, bool forgets, LentCursor *cursor) {
+static Step fill_set_lent_cursor(Device *flash, const Layout *layout, const Put *puts_items,
+        uint32_t puts_len, bool forgets, LentCursor *cursor, CopyingPlace *made) {
     const ListOfPut puts = { .items = puts_items, .len = puts_len };
+    CopyingPlace first;
     const ListOfPut puts_2 = values_put(puts.items, puts.len, forgets);
-    const CopyingPlaceOrCut first_result = put_all(flash, layout, puts_2.items, puts_2.len);
-    if (!first_result.ok) {
-        return copying_place_or_cut_err();
+    if (put_all(flash, layout, puts_2.items, puts_2.len, &first) == CUT) {
+        return CUT;
     }
-    const CopyingPlace first = first_result.value;
-    const CopyingPlaceOrCut all_result = copy_others_lent_cursor(flash, layout, puts.items,
-            puts.len, first, cursor);
-    if (!all_result.ok) {
-        return copying_place_or_cut_err();
+    if (copy_others_lent_cursor(flash, layout, puts.items, puts.len, first, cursor, made) == CUT) {
+        return CUT;
     }
-    const CopyingPlace all = all_result.value;
-    return copying_place_or_cut_ok(all);
+    return DONE;
 }
 #endif
 
 /* Writes values into the first slots of the other set, in their order. Gives how far that fills
  * it. */
-static CopyingPlaceOrCut put_all(Device *flash, const Layout *layout, const Put *puts_items,
-        uint32_t puts_len) {
+static Step put_all(Device *flash, const Layout *layout, const Put *puts_items, uint32_t puts_len,
+        CopyingPlace *made) {
     const ListOfPut puts = { .items = puts_items, .len = puts_len };
-    CopyingPlace place = first_place(flash, layout);
+    *made = first_place(flash, layout);
     if (puts.len != 0u) {
         const Put *put = puts.items;
         const Put *const put_end = put + puts.len;
         do {
             const Address address = put->address;
             const uint32_t value = put->value;
-            if (stage_put(flash, layout, &place, address, value) == CUT) {
-                return copying_place_or_cut_err();
+            if (stage_put(flash, layout, made, address, value) == CUT) {
+                return CUT;
             }
             put++;
         } while (put != put_end);
     }
-    return copying_place_or_cut_ok(place);
+    return DONE;
 }
 
 /* Copies each live address but those of the changes to the other set, from this place on. Gives
  * how far it is filled then. */
-static CopyingPlaceOrCut copy_others(Device *flash, const Layout *layout, const Put *puts_items,
-        uint32_t puts_len, CopyingPlace place, Cursor *cursor) {
+static Step copy_others(Device *flash, const Layout *layout, const Put *puts_items,
+        uint32_t puts_len, CopyingPlace place, Cursor *cursor, CopyingPlace *made) {
     const ListOfPut puts = { .items = puts_items, .len = puts_len };
+    *made = place;
     for (;;) {
         const MaybeLive maybe_address_and_value = cursor_next(cursor, flash, layout);
         if (!maybe_address_and_value.some) {
@@ -2864,19 +2853,20 @@ static CopyingPlaceOrCut copy_others(Device *flash, const Layout *layout, const 
         const Address address = maybe_address_and_value.value.first;
         const uint32_t value = maybe_address_and_value.value.second;
         const bool carries = has_put(puts.items, puts.len, address);
-        if (copy_one(flash, layout, carries, &place, address, value) == CUT) {
-            return copying_place_or_cut_err();
+        if (copy_one(flash, layout, carries, made, address, value) == CUT) {
+            return CUT;
         }
     }
-    return copying_place_or_cut_ok(place);
+    return DONE;
 }
 
 #ifdef EE_INDEX
 /* Copies each live address but those of the changes to the other set, from this place on. Gives
  * how far it is filled then. */
-static CopyingPlaceOrCut copy_others_lent_cursor(Device *flash, const Layout *layout,
-        const Put *puts_items, uint32_t puts_len, CopyingPlace place, LentCursor *cursor) {
+static Step copy_others_lent_cursor(Device *flash, const Layout *layout, const Put *puts_items,
+        uint32_t puts_len, CopyingPlace place, LentCursor *cursor, CopyingPlace *made) {
     const ListOfPut puts = { .items = puts_items, .len = puts_len };
+    *made = place;
     for (;;) {
         const MaybeLive maybe_address_and_value = lent_cursor_next(cursor, flash, layout);
         if (!maybe_address_and_value.some) {
@@ -2885,11 +2875,11 @@ static CopyingPlaceOrCut copy_others_lent_cursor(Device *flash, const Layout *la
         const Address address = maybe_address_and_value.value.first;
         const uint32_t value = maybe_address_and_value.value.second;
         const bool carries = has_put(puts.items, puts.len, address);
-        if (copy_one(flash, layout, carries, &place, address, value) == CUT) {
-            return copying_place_or_cut_err();
+        if (copy_one(flash, layout, carries, made, address, value) == CUT) {
+            return CUT;
         }
     }
-    return copying_place_or_cut_ok(place);
+    return DONE;
 }
 #endif
 
@@ -2976,12 +2966,10 @@ static CopyingPlace next_place(const Device *flash, const Layout *layout, Copyin
 static Step transfer(Device *flash, Layout *layout, const Put *puts_items, uint32_t puts_len,
         bool forgets, Cursor *cursor) {
     const ListOfPut puts = { .items = puts_items, .len = puts_len };
-    const CopyingPlaceOrCut filled_result = move_map(flash, layout, puts.items, puts.len, forgets,
-            cursor);
-    if (!filled_result.ok) {
+    CopyingPlace filled;
+    if (move_map(flash, layout, puts.items, puts.len, forgets, cursor, &filled) == CUT) {
         return CUT;
     }
-    const CopyingPlace filled = filled_result.value;
     *layout = (Layout){ .side = side_other(layout->side), .generation = layout->generation + 1u,
             .fill = filled.slot, .current = filled.page };
     if (finish(flash, layout) == CUT) {
@@ -2998,12 +2986,11 @@ static Step transfer(Device *flash, Layout *layout, const Put *puts_items, uint3
 static Step transfer_lent_cursor(Device *flash, Layout *layout, const Put *puts_items,
         uint32_t puts_len, bool forgets, LentCursor *cursor) {
     const ListOfPut puts = { .items = puts_items, .len = puts_len };
-    const CopyingPlaceOrCut filled_result = move_map_lent_cursor(flash, layout, puts.items,
-            puts.len, forgets, cursor);
-    if (!filled_result.ok) {
+    CopyingPlace filled;
+    if (move_map_lent_cursor(flash, layout, puts.items, puts.len, forgets, cursor,
+            &filled) == CUT) {
         return CUT;
     }
-    const CopyingPlace filled = filled_result.value;
     *layout = (Layout){ .side = side_other(layout->side), .generation = layout->generation + 1u,
             .fill = filled.slot, .current = filled.page };
     if (finish(flash, layout) == CUT) {
@@ -3027,49 +3014,43 @@ static Step transfer_by_slots(Device *flash, Layout *layout, const Put *puts_ite
 
 /* Moves the map, with what it is to carry, to the other set, and makes that one live. Gives how
  * far that fills it. */
-static CopyingPlaceOrCut move_map(Device *flash, const Layout *layout, const Put *puts_items,
-        uint32_t puts_len, bool forgets, Cursor *cursor) {
+static Step move_map(Device *flash, const Layout *layout, const Put *puts_items, uint32_t puts_len,
+        bool forgets, Cursor *cursor, CopyingPlace *made) {
     const ListOfPut puts = { .items = puts_items, .len = puts_len };
     if (clear(flash, layout) == CUT) {
-        return copying_place_or_cut_err();
+        return CUT;
     }
     if (open_set(flash, layout) == CUT) {
-        return copying_place_or_cut_err();
+        return CUT;
     }
-    const CopyingPlaceOrCut filled_result = fill_set(flash, layout, puts.items, puts.len, forgets,
-            cursor);
-    if (!filled_result.ok) {
-        return copying_place_or_cut_err();
+    if (fill_set(flash, layout, puts.items, puts.len, forgets, cursor, made) == CUT) {
+        return CUT;
     }
-    const CopyingPlace filled = filled_result.value;
     if (commit(flash, layout) == CUT) {
-        return copying_place_or_cut_err();
+        return CUT;
     }
-    return copying_place_or_cut_ok(filled);
+    return DONE;
 }
 
 #ifdef EE_INDEX
 /* Moves the map, with what it is to carry, to the other set, and makes that one live. Gives how
  * far that fills it. */
-static CopyingPlaceOrCut move_map_lent_cursor(Device *flash, const Layout *layout,
-        const Put *puts_items, uint32_t puts_len, bool forgets, LentCursor *cursor) {
+static Step move_map_lent_cursor(Device *flash, const Layout *layout, const Put *puts_items,
+        uint32_t puts_len, bool forgets, LentCursor *cursor, CopyingPlace *made) {
     const ListOfPut puts = { .items = puts_items, .len = puts_len };
     if (clear(flash, layout) == CUT) {
-        return copying_place_or_cut_err();
+        return CUT;
     }
     if (open_set(flash, layout) == CUT) {
-        return copying_place_or_cut_err();
+        return CUT;
     }
-    const CopyingPlaceOrCut filled_result = fill_set_lent_cursor(flash, layout, puts.items,
-            puts.len, forgets, cursor);
-    if (!filled_result.ok) {
-        return copying_place_or_cut_err();
+    if (fill_set_lent_cursor(flash, layout, puts.items, puts.len, forgets, cursor, made) == CUT) {
+        return CUT;
     }
-    const CopyingPlace filled = filled_result.value;
     if (commit(flash, layout) == CUT) {
-        return copying_place_or_cut_err();
+        return CUT;
     }
-    return copying_place_or_cut_ok(filled);
+    return DONE;
 }
 #endif
 
@@ -3383,7 +3364,8 @@ EE_IN_PLACE WriteFault known_append_value(Known *self, Device *flash, Address ad
 }
 
 /* Writes a value with the transfer that it needs, since every slot is used. */
-static WriteFault known_move_value(Known *self, Device *flash, Address address, uint32_t value) {
+EE_IN_PLACE WriteFault known_move_value(Known *self, Device *flash, Address address,
+        uint32_t value) {
     if (known_has_no_place(self, flash, address)) {
         return WriteFault_Full;
     }
@@ -3459,7 +3441,7 @@ static WriteAllFault store_write_one(Store *self, Put put) {
 }
 
 /* Writes two values or more, with a transfer. */
-static WriteAllFault store_write_several(Store *self, const Put *puts_items, uint32_t puts_len) {
+EE_APART WriteAllFault store_write_several(Store *self, const Put *puts_items, uint32_t puts_len) {
     const ListOfPut puts = { .items = puts_items, .len = puts_len };
     const MaybeIndex maybe_place = first_twice(puts.items, puts.len);
     if (maybe_place.some) {
@@ -3518,7 +3500,7 @@ static ReadResult store_read(const Store *self, Address address) {
  * Errors:
  *
  * The first `WriteFault` that applies. */
-EE_IN_PLACE WriteFault store_write(Store *self, Address address, uint32_t value) {
+EE_APART WriteFault store_write(Store *self, Address address, uint32_t value) {
     return known_write(&self->known, &self->flash, address, value);
 }
 
@@ -3750,13 +3732,17 @@ static void renumber(Entry *entries_items, uint32_t entries_len, const Put *puts
     const RoomOfEntry entries = { .items = entries_items, .len = entries_len };
     const ListOfPut puts = { .items = puts_items, .len = puts_len };
     uint32_t number = puts.len;
-    for (uint32_t place = 0u, end = entries.len; place < end; place++) {
-        const Address address = entries.items[place].first;
-        const IndexPair slot_and_next = next_number(number, puts.items, puts.len, address);
-        const uint32_t slot = slot_and_next.first;
-        const uint32_t next = slot_and_next.second;
-        entries.items[place] = (Entry){ .first = address, .second = (uint16_t)slot };
-        number = next;
+    if (entries.len != 0u) {
+        uint32_t place = 0u;
+        do {
+            const Address address = entries.items[place].first;
+            const IndexPair slot_and_next = next_number(number, puts.items, puts.len, address);
+            const uint32_t slot = slot_and_next.first;
+            const uint32_t next = slot_and_next.second;
+            entries.items[place] = (Entry){ .first = address, .second = (uint16_t)slot };
+            number = next;
+            place++;
+        } while (place != entries.len);
     }
 }
 
@@ -3776,10 +3762,14 @@ static IndexPair next_number(uint32_t number, const Put *puts_items, uint32_t pu
 /* The place of an address in a list, counted from 0. */
 static MaybeIndex entries_place_in(const Put *puts_items, uint32_t puts_len, Address address) {
     const ListOfPut puts = { .items = puts_items, .len = puts_len };
-    for (uint32_t place = 0u, end = puts.len; place < end; place++) {
-        if (puts.items[place].address == address) {
-            return maybe_index_some(place);
-        }
+    if (puts.len != 0u) {
+        uint32_t place = 0u;
+        do {
+            if (puts.items[place].address == address) {
+                return maybe_index_some(place);
+            }
+            place++;
+        } while (place != puts.len);
     }
     return maybe_index_none();
 }
@@ -4001,7 +3991,8 @@ static IndexCursor index_cursor_new(const LentList *list, uint32_t fill) {
 }
 
 /* The next live address, with its value. `None` if there is none. */
-static MaybeLive index_cursor_next(IndexCursor *self, const Device *flash, const Layout *layout) {
+EE_IN_PLACE MaybeLive index_cursor_next(IndexCursor *self, const Device *flash,
+        const Layout *layout) {
     const MaybeShown maybe_entry_and_rest = next_shown(self->entries.items, self->entries.len,
             self->fill);
     if (!maybe_entry_and_rest.some) {
@@ -4017,7 +4008,7 @@ static MaybeLive index_cursor_next(IndexCursor *self, const Device *flash, const
 
 /* The next entry whose slot is one of those used, of which there are so many, and
  * what is left behind it. */
-static MaybeShown next_shown(const Entry *entries_items, uint32_t entries_len, uint32_t fill) {
+EE_IN_PLACE MaybeShown next_shown(const Entry *entries_items, uint32_t entries_len, uint32_t fill) {
     const ListOfEntry entries = { .items = entries_items, .len = entries_len };
     ListOfEntry left = entries;
     for (;;) {
@@ -4047,7 +4038,8 @@ static void lent_cursor_begin(LentCursor *self, const Device *flash, const Layou
 }
 
 /* The next live address, with its value. `None` if there is none. */
-static MaybeLive lent_cursor_next(LentCursor *self, const Device *flash, const Layout *layout) {
+EE_IN_PLACE MaybeLive lent_cursor_next(LentCursor *self, const Device *flash,
+        const Layout *layout) {
     if (self->tag == LentCursor_ByIndex) {
         IndexCursor *const cursor = &self->by_index;
         return index_cursor_next(cursor, flash, layout);
@@ -4332,12 +4324,17 @@ static void fill_run(const Numbers *nor, uint32_t page, uint32_t at, uint64_t *r
 }
 
 /* The same of numbers in memory, two of each word. */
-static void fill_from_window(const uint64_t *numbers_items, uint32_t numbers_len,
+EE_APART void fill_from_window(const uint64_t *numbers_items, uint32_t numbers_len,
         uint64_t *room_items, uint32_t room_len) {
     const ListOfU64 numbers = { .items = numbers_items, .len = numbers_len };
     const RoomOfU64 room = { .items = room_items, .len = room_len };
-    for (uint32_t word = 0u, end = room.len; word < end; word++) {
-        room.items[word] = number_of_pair(numbers.items[2u * word], numbers.items[2u * word + 1u]);
+    if (room.len != 0u) {
+        uint32_t word = 0u;
+        do {
+            room.items[word] = number_of_pair(numbers.items[2u * word],
+                    numbers.items[2u * word + 1u]);
+            word++;
+        } while (word != room.len);
     }
 }
 
@@ -4483,6 +4480,9 @@ static struct ee_power *power_of(const ee_store *memory) {
     return &((ee_store *)memory)->memory.parts.power;
 }
 
+/* What a call that changes it takes of a store. */
+static Store *store_of(ee_store *memory) { return &memory->memory.parts.store; }
+
 /* Begins a call on a store, with an address of it; of a call that has none it is 1. EE_OK, or why
  * not. A copy of a store has the place of that store, and is off. */
 static ee_result begun(const ee_store *memory, uint16_t address) {
@@ -4514,6 +4514,15 @@ static ee_result ended(ee_result status, const ee_store *memory) {
     return status;
 }
 
+/* The same of a call with a list, each of whose addresses has to be one. */
+static ee_result begun_with_list(const ee_store *memory, const ee_value *values, uint32_t count) {
+    ee_result status = begun_with(memory, 1u, values);
+    for (uint32_t at = 0u; status == EE_OK && at < count; at++) {
+        if (!address_new(values[at].address).some) { status = ended(EE_WRONG_NUMBER, memory); }
+    }
+    return status;
+}
+
 /* Makes the device of a flash, on where the members of that are in range; else says why not. */
 static ee_result device_in(ee_store *memory, const ee_flash *flash) {
     if (memory == NULL) { return EE_NULL; }
@@ -4525,14 +4534,14 @@ static ee_result device_in(ee_store *memory, const ee_flash *flash) {
     const MaybeShape shape = shape_new(flash->pages, flash->page_words);
     if (!shape.some || flash->kind > EE_GREATEST_KIND) { return EE_WRONG_SHAPE; }
     power->flash = flash;
-    memory->memory.parts.store.flash = (Device){ .power = power, .shape = shape.value };
+    store_of(memory)->flash = (Device){ .power = power, .shape = shape.value };
     return EE_OK;
 }
 
 /* An opening ends with this status: the store is off unless it is EE_OK. */
 EE_APART ee_result opening_ended(ee_result status, ee_store *memory) {
     struct ee_power *const power = power_of(memory);
-    Store *const store = &memory->memory.parts.store;
+    Store *const store = store_of(memory);
     store->known.lookup = NULL;
 #ifdef EE_INDEX
     if (status == EE_OK && power->flash != NULL && power->flash->index != NULL) {
@@ -4560,19 +4569,16 @@ EE_APART bool holds_more(const Device *device, bool clears_first) {
  * before, unless its erases clear first: EE_FOREIGN where a word is no store's. Where it holds more
  * than a first start leaves it is opened, and no first store made there. */
 static ee_result started(ee_store *memory, const ee_flash *flash, bool may_be_new) {
-    ee_result status = device_in(memory, flash);
-    if (status != EE_OK) { return status; }
-    Device *const device = &memory->memory.parts.store.flash;
-    Layout *const layout = &memory->memory.parts.store.known.layout;
-    if (EE_IS_OF_PAIRS(flash) && flash->kind == EE_PAIRS && first_low(device).some) {
-        status = EE_FOREIGN;
-    } else if (may_be_new && !(EE_IS_OF_PAIRS(flash) &&
-            holds_more(device, flash->kind == EE_PAIRS_CLEARING))) {
-        status = start_on(device, layout);
-    } else {
-        status = open_on(device, layout);
+    const ee_result refused = device_in(memory, flash);
+    if (refused != EE_OK) { return refused; }
+    Device *const device = &store_of(memory)->flash;
+    Layout *const layout = &store_of(memory)->known.layout;
+    if (EE_IS_OF_PAIRS(flash)) {
+        const bool clears_first = flash->kind == EE_PAIRS_CLEARING;
+        if (!clears_first && first_low(device).some) { return opening_ended(EE_FOREIGN, memory); }
+        may_be_new = may_be_new && !holds_more(device, clears_first);
     }
-    return opening_ended(status, memory);
+    return opening_ended(may_be_new ? start_on(device, layout) : open_on(device, layout), memory);
 }
 
 ee_result ee_start(ee_store *store, const ee_flash *flash) { return started(store, flash, true); }
@@ -4584,7 +4590,7 @@ ee_result ee_open(ee_store *store, const ee_flash *flash) { return started(store
 ee_result ee_format(ee_store *store, const ee_flash *flash) {
     const ee_result refused = device_in(store, flash);
     if (refused != EE_OK) { return refused; }
-    Store *const kept = &store->memory.parts.store;
+    Store *const kept = store_of(store);
     const Step step = write_format(&kept->flash, &kept->known.layout);
     return opening_ended(step == DONE ? EE_OK : EE_DRIVER, store);
 }
@@ -4595,7 +4601,7 @@ ee_result ee_format(ee_store *store, const ee_flash *flash) {
 ee_result ee_rescue(ee_store *store, const ee_flash *flash) {
     const ee_result refused = device_in(store, flash);
     if (refused != EE_OK) { return refused; }
-    Store *const kept = &store->memory.parts.store;
+    Store *const kept = store_of(store);
     const MaybeSide side = rescued_side(&kept->flash);
     if (!side.some) { return opening_ended(EE_NOTHING, store); }
     const uint32_t generation = named_generation(&kept->flash, side.value);
@@ -4642,42 +4648,33 @@ ee_result ee_foreign_word(const ee_flash *flash, uint32_t *page, uint32_t *word)
 
 ee_result ee_write(ee_store *store, uint16_t address, uint32_t value) {
     const ee_result refused = begun(store, address);
-    if (refused != EE_OK) { return refused; }
-    return ended(store_write(&store->memory.parts.store, address, value), store);
-}
-
-static bool are_addresses(const ee_value *values, uint32_t count) {
-    uint32_t at = 0u;
-    while (at < count && address_new(values[at].address).some) { at++; }
-    return at == count;
+    return refused != EE_OK ? refused : ended(store_write(store_of(store), address, value), store);
 }
 
 #ifndef EE_NO_LISTS
 ee_result ee_write_all(ee_store *store, const ee_value *values, uint32_t count) {
-    const ee_result refused = begun_with(store, 1u, values);
-    if (refused != EE_OK) { return refused; }
-    if (!are_addresses(values, count)) { return ended(EE_WRONG_NUMBER, store); }
-    return ended(store_write_all(&store->memory.parts.store, values, count), store);
+    const ee_result refused = begun_with_list(store, values, count);
+    return refused != EE_OK ? refused : ended(store_write_all(store_of(store), values, count),
+            store);
 }
 #endif
 
 #ifndef EE_NO_FORGET
 ee_result ee_forget(ee_store *store, uint16_t address) {
     const ee_result refused = begun(store, address);
-    if (refused != EE_OK) { return refused; }
-    return ended(store_forget(&store->memory.parts.store, address), store);
+    return refused != EE_OK ? refused : ended(store_forget(store_of(store), address), store);
 }
 
 ee_result ee_forget_all(ee_store *store) {
     const ee_result refused = begun(store, 1u);
-    return refused != EE_OK ? refused : ended(store_clear(&store->memory.parts.store), store);
+    return refused != EE_OK ? refused : ended(store_clear(store_of(store)), store);
 }
 #endif
 
 ee_result ee_clean(ee_store *store) {
     const ee_result refused = begun(store, 1u);
     if (refused != EE_OK) { return refused; }
-    const CleanResult answer = store_clean_step(&store->memory.parts.store);
+    const CleanResult answer = store_clean_step(store_of(store));
     return ended(answer.ok && answer.value ? EE_OK : EE_NOTHING, store);
 }
 
@@ -4694,9 +4691,8 @@ ee_result ee_read(const ee_store *store, uint16_t address, uint32_t *value) {
 #define EE_WANTED 32u
 
 ee_result ee_load(const ee_store *store, ee_value *values, uint32_t count, uint32_t *loaded) {
-    ee_result status = begun_with(store, 1u, loaded == NULL ? NULL : values);
+    ee_result status = begun_with_list(store, loaded == NULL ? NULL : values, count);
     if (status != EE_OK) { return status; }
-    if (!are_addresses(values, count)) { return ended(EE_WRONG_NUMBER, store); }
     uint32_t found = 0u;
     uint32_t some = 0u;
     for (uint32_t from = 0u; from < count && power_of(store)->flash != NULL; from += some) {

@@ -17,8 +17,15 @@ MODELS = {
     "cortex-m33": arm.UC_CPU_ARM_CORTEX_M33,
 }
 # What is pushed where an exception is taken, but for the return address and the flags.
-FRAME = [arm.UC_ARM_REG_R0, arm.UC_ARM_REG_R1, arm.UC_ARM_REG_R2, arm.UC_ARM_REG_R3, arm.UC_ARM_REG_R12, arm.UC_ARM_REG_LR]
-NMI, RETURN, WAS_ODD, SECONDS = 2, 0xfffffff9, 1 << 9, 120
+FRAME = [
+    arm.UC_ARM_REG_R0,
+    arm.UC_ARM_REG_R1,
+    arm.UC_ARM_REG_R2,
+    arm.UC_ARM_REG_R3,
+    arm.UC_ARM_REG_R12,
+    arm.UC_ARM_REG_LR,
+]
+NMI, RETURN, WAS_ODD, SECONDS = 2, 0xFFFFFFF9, 1 << 9, 120
 
 
 class Broken(Exception):
@@ -36,15 +43,28 @@ class Program:
 
     def __init__(self, path, core):
         self.core, whole = core, path.read_bytes()
-        at, size, count = (struct.unpack_from(form, whole, place)[0] for form, place in (("<I", 28), ("<H", 42), ("<H", 44)))
+        at, size, count = (
+            struct.unpack_from(form, whole, place)[0]
+            for form, place in (("<I", 28), ("<H", 42), ("<H", 44))
+        )
         headers = [struct.unpack_from("<8I", whole, at + i * size) for i in range(count)]
         # Where each piece stands in flash, and its bytes.
-        self.pieces = [(physical, whole[offset:offset + length])
-                       for kind, offset, _, physical, length, *_ in headers if kind == 1 and length]
+        self.pieces = [
+            (physical, whole[offset : offset + length])
+            for kind, offset, _, physical, length, *_ in headers
+            if kind == 1 and length
+        ]
         self.base = min(place for place, _ in self.pieces)
-        said = subprocess.run(["arm-none-eabi-nm", path], capture_output=True, text=True, check=True).stdout
-        self.names = {name: int(value, 16) for value, _, name in (line.split() for line in said.splitlines() if line[0] != " ")}
-        said = subprocess.run(["arm-none-eabi-objdump", "-d", path], capture_output=True, text=True, check=True).stdout
+        said = subprocess.run(
+            ["arm-none-eabi-nm", path], capture_output=True, text=True, check=True
+        ).stdout
+        self.names = {
+            name: int(value, 16)
+            for value, _, name in (line.split() for line in said.splitlines() if line[0] != " ")
+        }
+        said = subprocess.run(
+            ["arm-none-eabi-objdump", "-d", path], capture_output=True, text=True, check=True
+        ).stdout
         self.barriers, self.conditional = [], set()
         self.read(said.splitlines())
 
@@ -87,6 +107,7 @@ class Core:
 
     def map(self, base, size, read, write):
         """Puts registers at an address. What they object to ends the run."""
+
         def guarded_read(uc, offset, width, _):
             try:
                 return read(offset, width)
@@ -104,6 +125,7 @@ class Core:
 
     def hook(self, place, call):
         """Has a call made where an instruction stands, before it is done."""
+
         def guarded(*_):
             try:
                 call(self)
@@ -132,7 +154,10 @@ class Core:
         elif offset == STATUS:
             self.told = value, self.answer
         else:
-            check(self.asked[0] == LOOK and self.part.is_of_others(), f"an NMI that is not the port's, in call {self.asked[0]}")
+            check(
+                self.asked[0] == LOOK and self.part.is_of_others(),
+                f"an NMI that is not the port's, in call {self.asked[0]}",
+            )
 
     def at_barrier(self, *_):
         self.part.barrier()
@@ -142,7 +167,12 @@ class Core:
 
     def at_each(self, _, place, *__):
         try:
-            if self.part.is_raised and self.frame is None and place not in self.program.conditional and self.watcher.is_taken():
+            if (
+                self.part.is_raised
+                and self.frame is None
+                and place not in self.program.conditional
+                and self.watcher.is_taken()
+            ):
                 self.is_taken = True
                 self.uc.emu_stop()
             else:
@@ -153,7 +183,14 @@ class Core:
     def run(self, plan, ram):
         """Starts the program with its memory as given, which does what the plan asks for. The plan is a generator: it gives a
         call with its address and value, and gets what the program tells of it."""
-        self.plan, self.told, self.answer, self.asked, self.fault, self.frame = plan, None, 0, None, None, None
+        self.plan, self.told, self.answer, self.asked, self.fault, self.frame = (
+            plan,
+            None,
+            0,
+            None,
+            None,
+            None,
+        )
         self.is_over = False
         self.uc.mem_write(RAM, ram)
         vectors = self.program.names["vectors"]
@@ -167,7 +204,7 @@ class Core:
             if place == done:
                 check(self.is_over, "the program took a fault")
                 return
-            place = self.leave() if place >= 0xffffff00 else self.enter(place, vectors)
+            place = self.leave() if place >= 0xFFFFFF00 else self.enter(place, vectors)
 
     def go(self, place, done):
         """Runs from a place. Where it came to a halt."""
@@ -175,12 +212,15 @@ class Core:
             self.uc.emu_start(place, done, timeout=SECONDS * 1000000)
         except UcError as fault:
             place = self.uc.reg_read(arm.UC_ARM_REG_PC)
-            if self.fault is None and (place < 0xffffff00 or self.frame is None):
+            if self.fault is None and (place < 0xFFFFFF00 or self.frame is None):
                 raise Broken(f"{fault} at {place:#x}") from None
         if self.fault:
             raise self.fault
         place = self.uc.reg_read(arm.UC_ARM_REG_PC)
-        check(place == done or place >= 0xffffff00 or self.is_taken, f"no end after {SECONDS} s, at {place:#x}")
+        check(
+            place == done or place >= 0xFFFFFF00 or self.is_taken,
+            f"no end after {SECONDS} s, at {place:#x}",
+        )
         return place
 
     def enter(self, place, vectors):
@@ -188,7 +228,10 @@ class Core:
         uc, stack = self.uc, self.uc.reg_read(arm.UC_ARM_REG_SP)
         flags, is_odd = uc.reg_read(arm.UC_ARM_REG_XPSR), stack & 4
         stack = (stack & ~7) - 32
-        words = [uc.reg_read(it) for it in FRAME] + [place, (flags & ~WAS_ODD) | (WAS_ODD if is_odd else 0)]
+        words = [uc.reg_read(it) for it in FRAME] + [
+            place,
+            (flags & ~WAS_ODD) | (WAS_ODD if is_odd else 0),
+        ]
         uc.mem_write(stack, struct.pack("<8I", *words))
         uc.reg_write(arm.UC_ARM_REG_SP, stack)
         uc.reg_write(arm.UC_ARM_REG_LR, RETURN)

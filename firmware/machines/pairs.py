@@ -36,16 +36,21 @@ class OneWay(Stm32):
 class Stm32f1(OneWay):
     """Four pages of 1 KB of half words. There is no cache of data."""
 
-    BASE, PLACE, FLASH, SIZE, BITS, COUNT, PAGES = 0x40022000, 0, 0x0800f000, 0x1000, 16, 2048, 4
+    BASE, PLACE, FLASH, SIZE, BITS, COUNT, PAGES = 0x40022000, 0, 0x0800F000, 0x1000, 16, 2048, 4
     LOCK, STRT, BSY, ERROR, AR = 1 << 7, 1 << 6, 1, 1 << 2, 20
     AFTER_RESET = {OneWay.ACR: 0x30, AR: 0}
 
     def regions(self):
-        return [(self.BASE, 0x1000, self.read_register, self.write_register),
-                (self.FLASH, self.SIZE, self.read_flash, self.write_flash)]
+        return [
+            (self.BASE, 0x1000, self.read_register, self.write_register),
+            (self.FLASH, self.SIZE, self.read_flash, self.write_flash),
+        ]
 
     def set(self, offset, value):
-        check(offset == self.AR and self.cr == self.ERASE and not self.busy, "another register is written")
+        check(
+            offset == self.AR and self.cr == self.ERASE and not self.busy,
+            "another register is written",
+        )
         self.others[offset] = value
 
     def read_flash(self, offset, width):
@@ -54,18 +59,23 @@ class Stm32f1(OneWay):
 
     def write_flash(self, offset, width, value):
         half = offset // 2
-        check(width == 2 and not self.busy, "a write that is not of a half word, or of a busy flash")
+        check(
+            width == 2 and not self.busy, "a write that is not of a half word, or of a busy flash"
+        )
         self.is_queued = self.is_touched = True
         check(self.cr == self.PG, "a write of the flash that nothing asked for")
-        if self.cells[half] != 0xffff:
+        if self.cells[half] != 0xFFFF:
             self.sr |= self.ERROR  # a second program
         else:
             self.begin([(half, value)], 9)
 
     def erased(self, value):
         page, rest = divmod(self.others[self.AR] - self.FLASH, 1024)
-        check(value == self.STRT | self.ERASE and 0 <= page < self.PAGES and rest == 0, "an erase of another page")
-        return [(half, 0xffff) for half in range(page * 512, (page + 1) * 512)]
+        check(
+            value == self.STRT | self.ERASE and 0 <= page < self.PAGES and rest == 0,
+            "an erase of another page",
+        )
+        return [(half, 0xFFFF) for half in range(page * 512, (page + 1) * 512)]
 
     def is_at_rest(self):
         self.others[self.AR] = 0
@@ -78,13 +88,15 @@ class Stm32f1(OneWay):
 class Stm32f4(OneWay):
     """The first 2 KB of two sectors, and the data cache: eight lines of 16 bytes."""
 
-    BASE, PLACE, FLASH, BITS, COUNT, SECTOR = 0x40023000, 0xc00, 0x08008000, 32, 1024, 0x4000
+    BASE, PLACE, FLASH, BITS, COUNT, SECTOR = 0x40023000, 0xC00, 0x08008000, 32, 1024, 0x4000
     ERROR, BY_32, DCEN, DCRST, LINES, LINE = 1 << 7, 2 << 8, 1 << 10, 1 << 12, 8, 4
     AFTER_RESET = {OneWay.ACR: 0x705}
 
     def regions(self):
-        return [(self.BASE, 0x1000, self.read_register, self.write_register),
-                (self.FLASH, 2 * self.SECTOR, self.read_flash, self.write_flash)]
+        return [
+            (self.BASE, 0x1000, self.read_register, self.write_register),
+            (self.FLASH, 2 * self.SECTOR, self.read_flash, self.write_flash),
+        ]
 
     def reset(self):
         self.lines = {}
@@ -99,9 +111,14 @@ class Stm32f4(OneWay):
         self.is_settled = was_settled and offset - self.PLACE != self.ACR
 
     def set(self, offset, value):
-        check(offset == self.ACR and not (value ^ self.others[offset]) & ~(self.DCEN | self.DCRST), "another bit is written")
+        check(
+            offset == self.ACR and not (value ^ self.others[offset]) & ~(self.DCEN | self.DCRST),
+            "another bit is written",
+        )
         if value & self.DCRST:
-            check(not (value | self.others[offset]) & self.DCEN, "the cache is emptied while it is on")
+            check(
+                not (value | self.others[offset]) & self.DCEN, "the cache is emptied while it is on"
+            )
             self.lines = {}
         self.others[offset] = value
 
@@ -124,7 +141,7 @@ class Stm32f4(OneWay):
         if line not in self.lines:
             if len(self.lines) == self.LINES:
                 del self.lines[next(iter(self.lines))]
-            self.lines[line] = self.cells[line * self.LINE:(line + 1) * self.LINE]
+            self.lines[line] = self.cells[line * self.LINE : (line + 1) * self.LINE]
         return part_of(self.lines[line][half % self.LINE], offset, width)
 
     def write_flash(self, offset, width, value):
@@ -137,9 +154,14 @@ class Stm32f4(OneWay):
             self.lines[half // self.LINE][half % self.LINE] = value
 
     def erased(self, value):
-        sector = (value >> 3 & 0x1f) - 2
-        check(value & ~(0x1f << 3) == self.STRT | self.BY_32 | self.ERASE and sector in (0, 1), "an erase of another sector")
-        return [(half, ONES) for half in range(sector * self.COUNT // 2, (sector + 1) * self.COUNT // 2)]
+        sector = (value >> 3 & 0x1F) - 2
+        check(
+            value & ~(0x1F << 3) == self.STRT | self.BY_32 | self.ERASE and sector in (0, 1),
+            "an erase of another sector",
+        )
+        return [
+            (half, ONES) for half in range(sector * self.COUNT // 2, (sector + 1) * self.COUNT // 2)
+        ]
 
     def expected(self, offset):
         return self.cells[self.at(offset)]
@@ -148,11 +170,17 @@ class Stm32f4(OneWay):
 class Rp2040(Part):
     """Two sectors of 4 KB behind the XIP cache, the functions of the boot ROM, and the status of the chip by the SSI."""
 
-    FLASH, OFFSET, SIZE = 0x101fe000, 0x1fe000, 0x2000
+    FLASH, OFFSET, SIZE = 0x101FE000, 0x1FE000, 0x2000
     TABLE, LOOKUP, FUNCTIONS, END = 0x100, 0x200, 0x300, 6
     # The functions by their codes, and how many turns each takes.
-    NAMES = {"IF": ("connect", 2), "EX": ("leave_xip", 5), "RE": ("erase", 200), "RP": ("program", 60), "FC": ("flush", 5),
-             "CX": ("enter_xip", 5)}
+    NAMES = {
+        "IF": ("connect", 2),
+        "EX": ("leave_xip", 5),
+        "RE": ("erase", 200),
+        "RP": ("program", 60),
+        "FC": ("flush", 5),
+        "CX": ("enter_xip", 5),
+    }
 
     def blank(self):
         return bytearray(b"\xff" * self.SIZE)
@@ -160,37 +188,53 @@ class Rp2040(Part):
     def hook(self, core):
         """The ROM: a look-up, and functions that wait a while and return."""
         rom = bytearray(0x1000)
-        rom[0x14:0x16], rom[0x18:0x1a] = self.TABLE.to_bytes(2, "little"), (self.LOOKUP | 1).to_bytes(2, "little")
-        rom[self.LOOKUP:self.LOOKUP + 2] = bytes.fromhex("7047")  # bx lr
+        rom[0x14:0x16], rom[0x18:0x1A] = self.TABLE.to_bytes(2, "little"), (
+            self.LOOKUP | 1
+        ).to_bytes(2, "little")
+        rom[self.LOOKUP : self.LOOKUP + 2] = bytes.fromhex("7047")  # bx lr
         core.hook(self.LOOKUP, self.look_up)
         for i, (name, turns) in enumerate(self.NAMES.values()):
             place = self.FUNCTIONS + 16 * i
             # movs r3, #turns; 1: subs r3, #1; bne 1b; bx lr
-            rom[place:place + 8] = bytes([turns]) + bytes.fromhex("23013bfdd17047")
+            rom[place : place + 8] = bytes([turns]) + bytes.fromhex("23013bfdd17047")
             core.hook(place, getattr(self, name))
             core.hook(place + self.END, self.end)
         core.uc.mem_map(0, 0x1000)
         core.uc.mem_write(0, bytes(rom))
 
     def regions(self):
-        return [(self.FLASH, self.SIZE, self.read_flash, self.no_write), (0x18000000, 0x1000, self.read_chip, self.write_chip),
-                (0x40018000, 0x1000, self.read_select, self.write_select)]
+        return [
+            (self.FLASH, self.SIZE, self.read_flash, self.no_write),
+            (0x18000000, 0x1000, self.read_chip, self.write_chip),
+            (0x40018000, 0x1000, self.read_select, self.write_select),
+        ]
 
     def reset(self):
         self.state, self.step, self.is_erase, self.lines = "reads", None, False, {}
         # The chip may be busy with a step from before the reset.
-        self.busy, self.select, self.asked, self.given = self.dice.choice((0, self.dice.randrange(20))), 5, 0, False
+        self.busy, self.select, self.asked, self.given = (
+            self.dice.choice((0, self.dice.randrange(20))),
+            5,
+            0,
+            False,
+        )
 
     def read_select(self, offset, _):
         check(offset == 12, "another pin")
         return self.select
 
     def write_select(self, offset, _, value):
-        check(offset == 12 and not (value ^ self.select) & ~0x300 and self.state == "commands", "another bit of the pin is written")
+        check(
+            offset == 12 and not (value ^ self.select) & ~0x300 and self.state == "commands",
+            "another bit of the pin is written",
+        )
         self.select, self.asked = value, 0
 
     def write_chip(self, offset, _, value):
-        check(offset == 0x60 and self.state == "commands" and self.select >> 8 & 3 == 2, "a byte to a chip that is not selected")
+        check(
+            offset == 0x60 and self.state == "commands" and self.select >> 8 & 3 == 2,
+            "a byte to a chip that is not selected",
+        )
         check(self.asked == 1 or (self.asked == 0 and value == 5), "another command")
         self.asked, self.given = self.asked + 1, True
 
@@ -201,22 +245,34 @@ class Rp2040(Part):
         check(offset == 0x60 and self.given, "a byte that did not come")
         self.given = False
         if self.asked == 1:
-            return 0xff
+            return 0xFF
         self.busy -= self.busy > 0
         return int(self.busy > 0)
 
     def look_up(self, core):
         table, code = (core.uc.reg_read(it) for it in (arm.UC_ARM_REG_R0, arm.UC_ARM_REG_R1))
-        name = chr(code & 0xff) + chr(code >> 8)
-        check(table == self.TABLE and name in self.NAMES, "another function of the ROM is looked up")
-        core.uc.reg_write(arm.UC_ARM_REG_R0, (self.FUNCTIONS + 16 * list(self.NAMES).index(name)) | 1)
+        name = chr(code & 0xFF) + chr(code >> 8)
+        check(
+            table == self.TABLE and name in self.NAMES, "another function of the ROM is looked up"
+        )
+        core.uc.reg_write(
+            arm.UC_ARM_REG_R0, (self.FUNCTIONS + 16 * list(self.NAMES).index(name)) | 1
+        )
 
     def goes(self, core, state, *before):
         """The ROM is called in one of some states, while interrupts are off and the program stands in RAM."""
         caller = core.uc.reg_read(arm.UC_ARM_REG_LR)
-        check(self.state in before, f"the ROM's function for {state} is called while flash {self.state}")
-        check(core.uc.reg_read(arm.UC_ARM_REG_PRIMASK) == 1, "interrupts are on while flash is written")
-        check(0x20000000 <= caller < 0x20004000, "the program stands in flash while flash is written")
+        check(
+            self.state in before,
+            f"the ROM's function for {state} is called while flash {self.state}",
+        )
+        check(
+            core.uc.reg_read(arm.UC_ARM_REG_PRIMASK) == 1,
+            "interrupts are on while flash is written",
+        )
+        check(
+            0x20000000 <= caller < 0x20004000, "the program stands in flash while flash is written"
+        )
         self.state, self.is_touched = state, True
 
     def connect(self, core):
@@ -235,19 +291,28 @@ class Rp2040(Part):
 
     def erase(self, core):
         self.goes(core, "commands", "commands")
-        offset, count, size, command = (core.uc.reg_read(it) for it in (arm.UC_ARM_REG_R0, arm.UC_ARM_REG_R1, arm.UC_ARM_REG_R2,
-                                                                       arm.UC_ARM_REG_R3))
+        offset, count, size, command = (
+            core.uc.reg_read(it)
+            for it in (arm.UC_ARM_REG_R0, arm.UC_ARM_REG_R1, arm.UC_ARM_REG_R2, arm.UC_ARM_REG_R3)
+        )
         at = offset - self.OFFSET
-        check(at in (0, 4096) and (count, size, command) == (4096, 65536, 0xd8), "an erase of other sectors")
-        self.step, self.is_erase = [(i, 0xff) for i in range(at, at + count)], True
+        check(
+            at in (0, 4096) and (count, size, command) == (4096, 65536, 0xD8),
+            "an erase of other sectors",
+        )
+        self.step, self.is_erase = [(i, 0xFF) for i in range(at, at + count)], True
 
     def program(self, core):
         self.goes(core, "commands", "commands")
-        offset, source, count = (core.uc.reg_read(it) for it in (arm.UC_ARM_REG_R0, arm.UC_ARM_REG_R1, arm.UC_ARM_REG_R2))
+        offset, source, count = (
+            core.uc.reg_read(it) for it in (arm.UC_ARM_REG_R0, arm.UC_ARM_REG_R1, arm.UC_ARM_REG_R2)
+        )
         at = offset - self.OFFSET
         check(0 <= at < self.SIZE and at % 256 == 0 and count == 256, "a program of another place")
         given = core.uc.mem_read(source, count)
-        self.step, self.is_erase = [(at + i, self.cells[at + i] & given[i]) for i in range(count)], False
+        self.step, self.is_erase = [
+            (at + i, self.cells[at + i] & given[i]) for i in range(count)
+        ], False
 
     def end(self, _):
         """A function of the ROM returns."""
@@ -261,12 +326,12 @@ class Rp2040(Part):
         or all and some set again."""
         cells = self.cells.copy()
         if self.step and self.is_erase:
-            kept = self.dice.choice((0, 0xff))
+            kept = self.dice.choice((0, 0xFF))
             for at, _ in self.step:
                 cells[at] = (cells[at] | kept) & self.dice.randrange(256)
             return cells
         for at, value in self.step or ():
-            cells[at] ^= (cells[at] ^ value) & self.dice.choice((0, 0xff, self.any_bits() & 0xff))
+            cells[at] ^= (cells[at] ^ value) & self.dice.choice((0, 0xFF, self.any_bits() & 0xFF))
         return cells
 
     def read_flash(self, offset, width):
@@ -274,8 +339,8 @@ class Rp2040(Part):
         line, rest = divmod(offset, 8)
         found = self.lines.get(line)
         if found is None:
-            found = self.lines[line] = bytes(self.cells[8 * line:8 * line + 8])
-        return int.from_bytes(found[rest:rest + width], "little")
+            found = self.lines[line] = bytes(self.cells[8 * line : 8 * line + 8])
+        return int.from_bytes(found[rest : rest + width], "little")
 
     def no_write(self, *_):
         check(False, "flash is written as memory is")
@@ -287,4 +352,4 @@ class Rp2040(Part):
         return self.state == "reads"
 
     def expected(self, offset):
-        return int.from_bytes(self.cells[offset:offset + 4], "little")
+        return int.from_bytes(self.cells[offset : offset + 4], "little")

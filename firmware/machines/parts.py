@@ -1,8 +1,8 @@
 """What the models of parts share: a flash with a step that is under way, and the lock of an STM32's controller."""
 from core import check
 
-ONES = 0xffffffff
-KEYS = (0x45670123, 0xcdef89ab)
+ONES = 0xFFFFFFFF
+KEYS = (0x45670123, 0xCDEF89AB)
 
 
 def part_of(word, offset, width):
@@ -62,7 +62,14 @@ class Stm32(Part):
     ERASE, ERROR = 2, 1 << 3  # what asks for an erase; a program over what stands
 
     def reset(self):
-        self.cr, self.keys, self.busy, self.step, self.is_queued, self.is_settled = self.LOCK, 0, 0, None, False, False
+        self.cr, self.keys, self.busy, self.step, self.is_queued, self.is_settled = (
+            self.LOCK,
+            0,
+            0,
+            None,
+            False,
+            False,
+        )
         # An error of before stands.
         self.sr = self.dice.choice((0, self.ERROR))
         self.others = dict(self.AFTER_RESET)

@@ -44,19 +44,27 @@ class EccFlash(Stm32):
         self.is_lying, self.has_lied = self.dice.random() < 0.5, False
 
     def told_regions(self):
-        return [(base, 0x1000, self.told_by(words), self.take_clock(words)) for base, words in self.TOLD.items()]
+        return [
+            (base, 0x1000, self.told_by(words), self.take_clock(words))
+            for base, words in self.TOLD.items()
+        ]
 
     def told_by(self, words):
         return lambda offset, _: words.get(offset, 0)
 
     def take_clock(self, words):
         """Clocks that are turned on and off again: what stands behind them reads as well without."""
+
         def write(offset, _, value):
-            check(offset in words and not (value ^ words[offset]) & ~self.CLOCK, "another register is written")
+            check(
+                offset in words and not (value ^ words[offset]) & ~self.CLOCK,
+                "another register is written",
+            )
+
         return write
 
     def leave(self, cells, at, values):
-        cells.values[at * self.PARTS:(at + 1) * self.PARTS] = values
+        cells.values[at * self.PARTS : (at + 1) * self.PARTS] = values
         cells.states[at] = FINE
 
     def tear(self, cells, at, values):
@@ -64,7 +72,15 @@ class EccFlash(Stm32):
         kind = self.dice.randrange(7)
         if kind == 0:
             return
-        self.leave(cells, at, values if kind < 3 else [ONES for _ in values] if kind == 3 else [self.any_bits() for _ in values])
+        self.leave(
+            cells,
+            at,
+            values
+            if kind < 3
+            else [ONES for _ in values]
+            if kind == 3
+            else [self.any_bits() for _ in values],
+        )
         cells.states[at] = FINE if kind == 1 else CORRECTED if kind < 4 else TORN
 
     def tell(self, unit, flag):
@@ -85,19 +101,27 @@ class EccFlash(Stm32):
             return
         self.buffer = unit
         if self.cells.states[unit]:
-            self.tell(unit, self.CORRECTION if self.cells.states[unit] == CORRECTED else self.DETECTION)
+            self.tell(
+                unit, self.CORRECTION if self.cells.states[unit] == CORRECTED else self.DETECTION
+            )
 
     def write_flash(self, offset, width, value):
         at, i = divmod(offset // 4, self.PARTS)
         check(width == 4, "a write of the flash that is not of 32 bits")
-        check(not self.busy and not self.is_cached(), "a write of the flash while it is busy or cached")
+        check(
+            not self.busy and not self.is_cached(),
+            "a write of the flash while it is busy or cached",
+        )
         self.is_queued = self.is_touched = True
-        check(self.cr == self.PG and i == len(self.filled), "a write of the flash that nothing asked for, or in another order")
+        check(
+            self.cr == self.PG and i == len(self.filled),
+            "a write of the flash that nothing asked for, or in another order",
+        )
         self.filled.append(value)
         if len(self.filled) < self.PARTS:
             return
         values, self.filled = self.filled, []
-        stands = self.cells.values[at * self.PARTS:(at + 1) * self.PARTS]
+        stands = self.cells.values[at * self.PARTS : (at + 1) * self.PARTS]
         if stands != [ONES] * self.PARTS or self.cells.states[at] != FINE:
             self.sr |= self.ERROR  # a second program
         else:
@@ -105,7 +129,10 @@ class EccFlash(Stm32):
 
     def erased(self, value):
         page = (value >> 3 & self.PAGES_MASK) - self.FIRST_PAGE
-        check(value >> self.BANK_SHIFT & 1 == self.BANK and 0 <= page < self.PAGES, "an erase of another page")
+        check(
+            value >> self.BANK_SHIFT & 1 == self.BANK and 0 <= page < self.PAGES,
+            "an erase of another page",
+        )
         check(not self.is_cached(), "an erase while the cache is on")
         units = self.COUNT // self.PAGES
         return [(at, [ONES] * self.PARTS) for at in range(page * units, (page + 1) * units)]
@@ -144,8 +171,11 @@ class DoubleWords(EccFlash):
     SIZE, PARTS, PAGES, COUNT, LINES, LINE = 0x1000, 2, 2, 512, 8, 8
 
     def regions(self):
-        return [(self.BASE, 0x1000, self.read_register, self.write_register),
-                (self.FLASH, self.SIZE, self.read_flash, self.write_flash), *self.told_regions()]
+        return [
+            (self.BASE, 0x1000, self.read_register, self.write_register),
+            (self.FLASH, self.SIZE, self.read_flash, self.write_flash),
+            *self.told_regions(),
+        ]
 
     def reset(self):
         self.lines = {}
@@ -169,22 +199,31 @@ class DoubleWords(EccFlash):
                 self.sense(unit)
             if len(self.lines) == self.LINES:
                 del self.lines[next(iter(self.lines))]
-            self.lines[line] = self.cells.values[line * self.LINE:(line + 1) * self.LINE]
+            self.lines[line] = self.cells.values[line * self.LINE : (line + 1) * self.LINE]
         return self.lines[line][half % self.LINE]
 
     def leave(self, cells, at, values):
         super().leave(cells, at, values)
-        line = self.lines.get(2 * at // self.LINE) if self.updates and cells is self.cells and values != [ONES, ONES] else None
+        line = (
+            self.lines.get(2 * at // self.LINE)
+            if self.updates and cells is self.cells and values != [ONES, ONES]
+            else None
+        )
         if line:
-            line[2 * at % self.LINE:2 * at % self.LINE + 2] = values
+            line[2 * at % self.LINE : 2 * at % self.LINE + 2] = values
 
     def set(self, offset, value):
         if offset == self.ECCR:
             self.set_eccr(value)
             return
-        check(offset == self.ACR and not (value ^ self.others[offset]) & ~(self.ON | self.EMPTY), "another bit is written")
+        check(
+            offset == self.ACR and not (value ^ self.others[offset]) & ~(self.ON | self.EMPTY),
+            "another bit is written",
+        )
         if value & self.EMPTY:
-            check(not (value | self.others[offset]) & self.ON, "the cache is emptied while it is on")
+            check(
+                not (value | self.others[offset]) & self.ON, "the cache is emptied while it is on"
+            )
             self.lines = {}
         self.others[offset] = value
 
@@ -192,34 +231,44 @@ class DoubleWords(EccFlash):
 class Stm32g4(DoubleWords):
     """The last two pages of the first bank of 256 KB, which is read at the address of the second."""
 
-    FLASH, FIRST_PAGE, BANK, BESIDE, PAGES_MASK = 0x0807f000, 126, 0, 0, 0x7f
+    FLASH, FIRST_PAGE, BANK, BESIDE, PAGES_MASK = 0x0807F000, 126, 0, 0, 0x7F
     FIRST_UNIT = FIRST_PAGE * 256
     ACR, ECCR, OPTR, ON, EMPTY = 0, 24, 32, 1 << 10, 1 << 12
-    AFTER_RESET = {ACR: 0x40600, ECCR: EccFlash.ECCIE, OPTR: 0xffeff8aa}
-    TOLD = {0xe0042000: {0: 0x20010469}, 0x1fff7000: {0x5e0: 512}, 0x40021000: {0x60: 0}, 0x40010000: {0: 1 << 8}}
+    AFTER_RESET = {ACR: 0x40600, ECCR: EccFlash.ECCIE, OPTR: 0xFFEFF8AA}
+    TOLD = {
+        0xE0042000: {0: 0x20010469},
+        0x1FFF7000: {0x5E0: 512},
+        0x40021000: {0x60: 0},
+        0x40010000: {0: 1 << 8},
+    }
     CLOCK = 1
 
 
 class Stm32g0(DoubleWords):
     """The last two pages of the second bank of 256 KB. That bank has a register of errors for itself."""
 
-    FLASH, FIRST_PAGE, BANK, PAGES_MASK = 0x0807f000, 126, 1, 0x3ff
+    FLASH, FIRST_PAGE, BANK, PAGES_MASK = 0x0807F000, 126, 1, 0x3FF
     FIRST_UNIT = FIRST_PAGE * 256
     BANK_SHIFT, BESIDE, UNIT, WAITS = 13, 0, 1, 1 << 18
     ACR, ECCR, OPTR, ON, EMPTY = 0, 28, 32, 1 << 9, 1 << 11
-    AFTER_RESET = {ACR: 0x40600, 24: 0, ECCR: EccFlash.ECCIE, OPTR: 0xfffffeaa}
-    TOLD = {0x40015000: {0x800: 0x10000467}, 0x1fff7000: {0x5e0: 512}, 0x40021000: {0x3c: 0}}
+    AFTER_RESET = {ACR: 0x40600, 24: 0, ECCR: EccFlash.ECCIE, OPTR: 0xFFFFFEAA}
+    TOLD = {0x40015000: {0x800: 0x10000467}, 0x1FFF7000: {0x5E0: 512}, 0x40021000: {0x3C: 0}}
     CLOCK = 1 << 27
 
 
 class Stm32l4(DoubleWords):
     """The last two pages of the second bank of 512 KB."""
 
-    FLASH, FIRST_PAGE, BANK, PAGES_MASK = 0x080ff000, 254, 1, 0xff
+    FLASH, FIRST_PAGE, BANK, PAGES_MASK = 0x080FF000, 254, 1, 0xFF
     FIRST_UNIT, BESIDE = FIRST_PAGE * 256, 1 << 19
     ACR, ECCR, OPTR, ON, EMPTY = 0, 24, 32, 1 << 10, 1 << 12
-    AFTER_RESET = {ACR: 0x600, ECCR: EccFlash.ECCIE, OPTR: 0xffeff8aa}
-    TOLD = {0xe0042000: {0: 0x10000415}, 0x1fff7000: {0x5e0: 1024}, 0x40021000: {0x60: 0}, 0x40010000: {0: 0}}
+    AFTER_RESET = {ACR: 0x600, ECCR: EccFlash.ECCIE, OPTR: 0xFFEFF8AA}
+    TOLD = {
+        0xE0042000: {0: 0x10000415},
+        0x1FFF7000: {0x5E0: 1024},
+        0x40021000: {0x60: 0},
+        0x40010000: {0: 0},
+    }
     CLOCK = 1
 
 
@@ -227,18 +276,30 @@ class Stm32u5(EccFlash):
     """The last two pages of 8 KB of the first bank, which is read at the address of the second, and ICACHE: a line for each unit
     of 16 bytes."""
 
-    FLASH, SIZE, PARTS, PAGES, COUNT, FIRST_PAGE, BANK, PAGES_MASK = 0x081fc000, 0x4000, 4, 2, 1024, 126, 0, 0xff
+    FLASH, SIZE, PARTS, PAGES, COUNT, FIRST_PAGE, BANK, PAGES_MASK = (
+        0x081FC000,
+        0x4000,
+        4,
+        2,
+        1024,
+        126,
+        0,
+        0xFF,
+    )
     FIRST_UNIT, UNIT, BESIDE = FIRST_PAGE * 512, 16, 0
     SR, CR, ECCR, OPTR = 32, 40, 48, 64
-    CACHE, CACHE_CR, CACHE_SR, CACHE_FCR = 0x40030000, 0x400, 0x404, 0x40c
-    AFTER_RESET = {ECCR: EccFlash.ECCIE, OPTR: 0x1ffff8aa, CACHE_CR: 0x30005}
-    TOLD = {0x0bfa0000: {0x7a0: 2048}}
+    CACHE, CACHE_CR, CACHE_SR, CACHE_FCR = 0x40030000, 0x400, 0x404, 0x40C
+    AFTER_RESET = {ECCR: EccFlash.ECCIE, OPTR: 0x1FFFF8AA, CACHE_CR: 0x30005}
+    TOLD = {0x0BFA0000: {0x7A0: 2048}}
     WAITS = 1 << 17
 
     def regions(self):
-        return [(self.BASE, 0x1000, self.read_register, self.write_register),
-                (self.CACHE, 0x1000, self.read_cache, self.write_cache),
-                (self.FLASH, self.SIZE, self.read_flash, self.write_flash), *self.told_regions()]
+        return [
+            (self.BASE, 0x1000, self.read_register, self.write_register),
+            (self.CACHE, 0x1000, self.read_cache, self.write_cache),
+            (self.FLASH, self.SIZE, self.read_flash, self.write_flash),
+            *self.told_regions(),
+        ]
 
     def reset(self):
         self.lines, self.cache_busy, self.is_ended = {}, 0, False
@@ -270,8 +331,14 @@ class Stm32u5(EccFlash):
             self.is_ended &= not value & 2
             return
         self.is_settled, before = False, self.others[self.CACHE_CR]
-        check(offset == self.CACHE_CR and not (value ^ before) & ~3, "another bit of the cache is written")
-        check(not value & ~before & 1 or not self.cache_busy, "the cache is turned on before it is empty")
+        check(
+            offset == self.CACHE_CR and not (value ^ before) & ~3,
+            "another bit of the cache is written",
+        )
+        check(
+            not value & ~before & 1 or not self.cache_busy,
+            "the cache is turned on before it is empty",
+        )
         self.others[self.CACHE_CR] = value & ~2
         if self.cache_busy:
             return
@@ -288,7 +355,7 @@ class Stm32u5(EccFlash):
         line = self.lines.get(unit)
         if line is None:
             self.sense(unit)
-            line = self.lines[unit] = self.cells.values[4 * unit:4 * unit + 4]
+            line = self.lines[unit] = self.cells.values[4 * unit : 4 * unit + 4]
         return line[i]
 
     def is_at_rest(self):

@@ -5,11 +5,10 @@
 
 Each row is a target, what the flash has, how it is read, how a move finds what it copies, bytes of code and constants, and the
 instructions of calls.c: a write into a free slot, a read through all slots, an opening, and a move. The last line is
-`N passed, M failed`. firmware/targets has the same rows, and the store's over them."""
+`N passed, M failed, K skipped`. firmware/targets has the same rows, and the store's over them."""
 import importlib.machinery
 import importlib.util
 import itertools
-import shutil
 import sys
 import tempfile
 from pathlib import Path
@@ -17,7 +16,11 @@ from pathlib import Path
 sys.dont_write_bytecode = True
 HERE = Path(__file__).resolve().parent
 CORES = {"cortex-m4": "Cortex-M4", "cortex-m0plus": "Cortex-M0+"}
-KINDS, READ_BY, MOVES = ("words", "pairs"), ("function", "pointer"), ("one pass", "a scan a variable")
+KINDS, READ_BY, MOVES = (
+    ("words", "pairs"),
+    ("function", "pointer"),
+    ("one pass", "a scan a variable"),
+)
 FOUR_CALLS = ("A write", "A read", "An opening", "A move")
 COLUMNS = ("Target", "Flash", "Read by", "The move is", "Code", *FOUR_CALLS)
 RATIO_COLUMNS = ("Target", "Library", "Flash", "Read by", "The peer reads by", *FOUR_CALLS)
@@ -30,11 +33,20 @@ def four_calls(tally, targets, what, core, flags):
     """The instructions of the four calls on a core, None where they fail."""
     board, tick, for_linker = targets.BOARDS[core]
     program = tally.folder / "peer.elf"
-    words = ["arm-none-eabi-gcc", *flags, "-nostdlib", *for_linker, "-Tcortex-m/link.ld", "-Wl,--gc-sections,-z,noexecstack"]
+    words = [
+        "arm-none-eabi-gcc",
+        *flags,
+        "-nostdlib",
+        *for_linker,
+        "-Tcortex-m/link.ld",
+        "-Wl,--gc-sections,-z,noexecstack",
+    ]
     sources = [HERE / "calls.c", HERE / "peer.c", "cortex-m/memory.c"]
     if tally.run(f"the program for {what}", *words, *sources, "-lgcc", "-o", program) is None:
         return None
-    ticks = tally.run(what, "qemu-system-arm", "-M", *board, *targets.COUNTED, *targets.QEMU, program)
+    ticks = tally.run(
+        what, "qemu-system-arm", "-M", *board, *targets.COUNTED, *targets.QEMU, program
+    )
     return ticks and [round(int(it) * tick / targets.INSTRUCTION) for it in ticks.split()]
 
 
@@ -42,10 +54,27 @@ def figures(tally, targets, core, choice):
     """Bytes of code and the four calls of one of the peers, None where it fails."""
     pairs, mapped, scans = choice
     what = f"the peer on {CORES[core]}, {KINDS[pairs]}, {READ_BY[mapped]}, {MOVES[scans]}"
-    flags = [*targets.STRICT, "-std=c99", "-Os", "-ffreestanding", "-mthumb", f"-mcpu={core}", f"-DPEER_PAIRS={pairs}",
-             f"-DPEER_MAPPED={mapped}", f"-DPEER_SCANS={scans}"] + [f"-DPEER_ADDRESSES={VARIABLES}"] * scans
+    flags = [
+        *targets.STRICT,
+        "-std=c99",
+        "-Os",
+        "-ffreestanding",
+        "-mthumb",
+        f"-mcpu={core}",
+        f"-DPEER_PAIRS={pairs}",
+        f"-DPEER_MAPPED={mapped}",
+        f"-DPEER_SCANS={scans}",
+    ] + [f"-DPEER_ADDRESSES={VARIABLES}"] * scans
     compiled = tally.folder / "peer.o"
-    words = ["arm-none-eabi-gcc", *flags, "-ffunction-sections", "-c", HERE / "peer.c", "-o", compiled]
+    words = [
+        "arm-none-eabi-gcc",
+        *flags,
+        "-ffunction-sections",
+        "-c",
+        HERE / "peer.c",
+        "-o",
+        compiled,
+    ]
     if tally.run(f"the object for {what}", *words) is None:
         return None
     code, data = targets.size_of(tally, core, [compiled], CALLS)
@@ -71,10 +100,11 @@ def lines(peers):
 
 def ratios(peers, rows):
     """The cells of a table of the store's four calls over those of the peer with a move of one pass. A row of the store has its
-    core, library, flash, how that is read, and the calls. A peer with a pointer has more than a store that asks a function."""
+    core, library, flash, how that is read, and the calls. A peer with a pointer has more than a store that asks a function.
+    """
     cells = []
     for row in rows:
-        for read_by in READ_BY[READ_BY.index(row.read_by):]:
+        for read_by in READ_BY[READ_BY.index(row.read_by) :]:
             peer = peers.get((row.core, row.kind, read_by, MOVES[0]))
             if peer:
                 over = [f"{its / mine:.2f}" for its, mine in zip(row.calls, peer[1:])]
@@ -93,16 +123,13 @@ def loaded_targets():
 
 def main():
     targets = loaded_targets()
-    missing = ", ".join(it for it in ("arm-none-eabi-gcc", "qemu-system-arm") if not shutil.which(it))
-    if missing:
-        print(f"left out: Cortex-M; not here: {missing}\n0 passed, 0 failed")
-        return 0
     with tempfile.TemporaryDirectory() as folder:
-        tally = targets.Tally(folder)
+        tally = targets.Tally(folder, "firmware/peer")
+        if tally.lacks("Cortex-M", ["arm-none-eabi-gcc", "qemu-system-arm"], ".ci/install"):
+            return tally.close()
         for cells in [COLUMNS, *lines(measured(tally, targets))]:
             print(targets.line_of(*cells))
-    print(f"{tally.passed} passed, {tally.failed} failed")
-    return 1 if tally.failed else 0
+    return tally.close()
 
 
 if __name__ == "__main__":

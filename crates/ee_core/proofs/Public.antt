@@ -24,5 +24,6 @@ pub use Rattle.ee_core.proofs.Running.{goes, runs_go_on_lem}
 pub use Rattle.ee_core.proofs.SetPages.{page_of_set}
 pub use Rattle.ee_core.proofs.ShownStates.{moved_words_are_live_lem}
 pub use Rattle.ee_core.proofs.Several.{live_few, needs_transfer, no_generation, no_place, one_counted, puts_within, several_proceed, some_place}
+pub use Rattle.ee_core.proofs.Startable.{legal_stays, startable_on}
 pub use Rattle.ee_core.proofs.States.{state_is}
 pub use Rattle.ee_core.proofs.Wears.{no_wear, times, times_few, wear_adds, wears_both, wears_none, wears_rise}

@@ -8,10 +8,6 @@ use Rattle.ee_core.proofs.CopiedWords.{no_elements, one_further}
 use Rattle.ee_core.proofs.Drawings.{with_word-elsewhere}
 use Rattle.ee_core.proofs.SetPages.{page_of_set}
 
-abbrev generation_in : Option (Side × ℕ) → ℕ
-generation_in None = 0
-generation_in (Some live) = live.1
-
 -- what holds of the live set, named
 of_live : (Shows : Side → ℕ → Type 0) (device : Device) (side : Side) (generation : ℕ)
     → OfLive device Shows → live_of device ≡ Some (side, generation) → Shows side generation

@@ -195,7 +195,7 @@ pub foreign_stays : (device : Device) (page at : ℕ) → IsScanFault device (Fo
 foreign_stays device _ _ fault startable =
     startable_not_live device fault.1.0 fault.1.1 startable fault.1.2
 
-legal_stays : (device : Device) → IsLegal device → ¬ IsStartable device
+pub legal_stays : (device : Device) → IsLegal device → ¬ IsStartable device
 legal_stays device legal startable =
     startable_not_live device legal.0 legal.1 startable legal.2.live
 
@@ -217,9 +217,12 @@ same_powered : (side : Side) (device : Device)
 same_powered First _ = refl
 same_powered Second _ = refl
 
+pub startable_on : (device : Device) → IsStartable device → IsStartable (with_power_on device)
+startable_on device startable =
+    record { uncommitted = search (rules, same_powered); none_held = startable.none_held }
+
 powered_starting : (device : Device) → IsStarting device → IsStarting (with_power_on device)
-powered_starting device (inl startable) =
-    inl (record { uncommitted = search (rules, same_powered); none_held = startable.none_held })
+powered_starting device (inl startable) = inl (startable_on device startable)
 powered_starting device (inr new) =
     inr
     (record {

@@ -1,5 +1,5 @@
 -- What an erase leaves of a page, word by word.
-use Rattle.std.proofs.Common.{◌≡◌, ◌⊎◌, inl, inr, ℕ, ◌+◌, ◌*◌, ◌<◌, ◌≤◌, List, [], ◌++◌, length, get_or, set, take, drop, None, Bor, replicate, refl, sym, ap, ◌∙◌, arith, rules}
+use Rattle.std.proofs.Common.{◌≡◌, ◌⊎◌, inl, inr, ℕ, ◌+◌, ◌*◌, ◌<◌, ◌≤◌, List, [], ◌++◌, length, get_or, set, take, drop, Option, None, Bor, replicate, refl, sym, ap, ◌∙◌, arith, rules}
 use borrow.Rule.Slice.PartMut.{put_mid}
 use Rattle.std.specs.List.{All, enumerate_from}
 use Rattle.std.proofs.lemmas.Bool.{cases_lt}
@@ -9,7 +9,9 @@ use Rattle.std.proofs.lemmas.List.Elements.{All-drop, All-from_get_or, All-get_o
 use Rattle.std.proofs.lemmas.List.FromFn.{get_or-enumerate_from, length-enumerate_from}
 use Rattle.ee_flash.specs.Device.{Device, IsBelowAllOnes, IsOn, page_at}
 use Rattle.ee_flash.specs.Formed.{length-page_words, page-pages_of}
+use Rattle.ee_flash.specs.Fuse.{known_after}
 use Rattle.ee_flash.specs.Pages.{page_words, pages_of}
+use Rattle.ee_flash.specs.declared.fuse.Fuse.{Fuse}
 use Rattle.ee_flash.specs.Size.{Size, page_count}
 use Rattle.ee_flash.specs.Step.{Erase, Step, IsCutIn, IsPartlyErased, with_page_erased, with_page, with_page_worn}
 use Rattle.ee_flash.proofs.Public.{All-rewritten, pages_of-rewritten, refilled}
@@ -163,6 +165,7 @@ whole_page size cells page filled in_range =
 -- an erase of a whole page, as two changes one after another, is the step
 pub after_whole_erase : (page : ℕ) (old first new : Listed)
     → page_of_fates [] After (page_at old.device page) ≡ replicate old.device.size.words Erased
+    → old.device.fuse ≡ None
     → first
     ≡ record old {
       device =
@@ -170,13 +173,21 @@ pub after_whole_erase : (page : ℕ) (old first new : Listed)
     }
     → new ≡ record first { device = with_page_worn page first.device }
     → new ≡ record old { device = with_page_erased page old.device }
-after_whole_erase page old first new blank is_begun is_new =
+after_whole_erase page old first new blank unknown is_begun is_new =
+    let erased : List Word = replicate old.device.size.words Erased in
     rw is_new
     (rw is_begun
     (ap
     (λ (words : List Word). let now : Listed =
     record old { device = with_page_worn page (with_page page words old.device) } in
-    now) blank))
+    now) blank
+    ∙ ap
+    (λ (known : Option (Option Fuse)). let now : Listed =
+    record old {
+      device =
+          record (with_page_worn page (with_page page erased old.device)) { fuse = known };
+    } in
+    now) (unknown ∙ sym (ap known_after unknown))))
 
 -- a step that is cut, once it has begun
 pub after_cut : (step : Step) (list : Bor (List Left)) (old begun new : Listed)
@@ -187,9 +198,9 @@ after_cut step list old begun new is_begun is_new = rw is_new (rw is_begun refl)
 
 -- an erase that leaves what a list says is cut
 pub IsCutIn-erase : (page : ℕ) (old new : Device) (list : Bor (List Left)) → IsOn old
-    → page < length old.image → old.cuts_left ≡ None
+    → page < length old.image → old.cuts_left ≡ None → old.fuse ≡ None
     → new ≡ device_after_fate (Erase page) (Cut list) old → IsCutIn (Erase page) old new
-IsCutIn-erase page old new list on in_range any is_new =
+IsCutIn-erase page old new list on in_range any unknown is_new =
     let words = page_of_fates list.now Before (page_at old page) in
     let same : get_or (set old.image page words) page [] ≡ words =
     get_or-set_same old.image page words [] in_range in
@@ -201,4 +212,5 @@ IsCutIn-erase page old new list on in_range any is_new =
       wear = refl;
       cuts = refl;
       cuts_left = rw any refl;
+      by_fuse = rw unknown tt;
     })

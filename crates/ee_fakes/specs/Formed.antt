@@ -18,6 +18,7 @@ pub IsFormed-listed : (size : Size) (cells : List Word) (wear : List ℕ) (cuts 
       wear = wear;
       cuts = cuts;
       cuts_left = None;
+      fuse = None;
       on = on;
     })
 IsFormed-listed size cells wear cuts on limits filled below worn fits cut = record {

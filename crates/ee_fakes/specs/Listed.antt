@@ -22,6 +22,7 @@ module _ {A : Type 0} where
     wear = flash.wear.items;
     cuts = flash.cuts;
     cuts_left = None;
+    fuse = None;
     on = flash.on;
   }
 

@@ -47,7 +47,7 @@ impl<'a, A: Allocator + Copy> ListFlash<'a, A> {
         ensures { IfOk result
             (λ flash. state_of_list flash
             ≡ record {
-              device = record (blank_device shape) { cuts_left = None };
+              device = record (blank_device shape) { cuts_left = None; fuse = None };
               fates = fates.now;
             }) }
     {

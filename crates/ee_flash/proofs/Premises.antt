@@ -4,7 +4,7 @@ use Rattle.std.proofs.lemmas.List.Sums.{sum_by-cons}
 use Rattle.std.proofs.lemmas.Bool.{true≢false}
 use Rattle.ee_flash.specs.Device.{Device, IsOn, blank_device}
 use Rattle.ee_flash.specs.Laws.{after_steps, all_completed}
-use Rattle.ee_flash.specs.Memory.{Memory, with_fuse, unused_memory}
+use Rattle.ee_flash.specs.Memory.{with_fuse}
 use Rattle.ee_flash.specs.Size.{Size}
 use Rattle.ee_flash.specs.Endurance.{erased_words, erases, is_erase, is_program, programs}
 use Rattle.ee_flash.specs.Step.{Step, Program, Erase}
@@ -18,11 +18,11 @@ at_once = record { after = 0; tear = Nothing }
 -- `no_fuse_no_cut` needs that there is no fuse: on a blank device with one that cuts the first
 -- step, an erase ends with the power off, and as a whole step would leave it on
 pub no_fuse_no_cut_needs_no_fuse : (size : Size)
-    → ((steps : List Step) (memory : Memory) → IsOn memory.device
-    → (after_steps steps memory).device ≡ all_completed steps memory.device)
+    → ((steps : List Step) (device : Device) → IsOn device
+    → after_steps steps device ≡ all_completed steps device)
     → ⊥
 no_fuse_no_cut_needs_no_fuse size law =
-    let same = law (Erase 0 ∷ []) (with_fuse at_once (unused_memory (blank_device size))) refl in
+    let same = law (Erase 0 ∷ []) (with_fuse at_once (blank_device size)) refl in
     true≢false (sym (ap (λ (device : Device). device.on) same))
 
 -- `programs_need_erases` needs that each step can be taken: on a blank device a word that is

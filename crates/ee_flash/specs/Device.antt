@@ -1,18 +1,21 @@
 -- A flash device, as a value.
-use Rattle.std.specs.Prelude.{◌≡◌, ◌≤◌, ◌<◌, ℕ, ◌-◌, ◌^◌, Bool, true, false, Option, Some, List, [], length, replicate, slice_index, slice_index_or}
+use Rattle.std.specs.Prelude.{◌≡◌, ◌≤◌, ◌<◌, ℕ, ◌-◌, ◌^◌, Bool, true, false, Option, Some, None, List, [], length, replicate, slice_index, slice_index_or}
 use Rattle.std.specs.List.{All}
 use Rattle.ee_flash.specs.Size.{Size, IsWithinLimits, page_count}
+use Rattle.ee_flash.specs.declared.fuse.Fuse.{Fuse}
 use Rattle.ee_flash.specs.declared.word.Word.{Word}
 use Rattle.ee_flash.specs.declared.word.Word.TheVariants.{Erased, Held}
 
 -- its size, the words of each page (of set 0, then of set 1), how often each was erased, how often
--- power was cut in a step, how often it still may be (a number, or any), and whether it is on
+-- power was cut in a step, how often it still may be (a number, or any), what is known of its fuse
+-- (nothing; that it has none; or the one that cuts a step), and whether it is on
 pub record Device : Type 0 where
   pub size : Size
   pub image : List (List Word)
   pub wear : List ℕ
   pub cuts : ℕ
   pub cuts_left : Option ℕ
+  pub fuse : Option (Option Fuse)
   pub on : Bool
 
 -- a device of this size, never used: on, with every word erased, no wear, no cuts and none to come
@@ -23,6 +26,7 @@ blank_device size = record {
   wear = replicate (page_count size) 0;
   cuts = 0;
   cuts_left = Some 0;
+  fuse = Some None;
   on = true;
 }
 

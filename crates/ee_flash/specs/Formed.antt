@@ -62,6 +62,7 @@ pub IsFormed-pages_of : (size : Size) (cells : List Word) (wear : List ℕ) (cut
       wear = wear;
       cuts = cuts;
       cuts_left = cuts_left_of fuse;
+      fuse = Some fuse;
       on = on;
     })
 IsFormed-pages_of size cells wear cuts fuse on limits filled below worn fits cut = record {

@@ -1,5 +1,5 @@
 -- What is left of a step that a fuse cuts, and of the fuse.
-use Rattle.std.specs.Prelude.{ℕ, ◌-◌, ◌%◌, ◌==◌, if◌then◌else◌, Option, Some, None, List, map}
+use Rattle.std.specs.Prelude.{ℕ, ◌-◌, ◌%◌, ◌==◌, if◌then◌else◌, Option, Some, None, List, map, option_map}
 use Rattle.std.specs.List.{enumerate_from}
 use Rattle.ee_flash.specs.declared.fuse.Fuse.{Fuse}
 use Rattle.ee_flash.specs.declared.fuse.Tear.{Tear}
@@ -35,6 +35,15 @@ abbrev pub next_fuse : Option Fuse → Option Fuse
 next_fuse None = None
 next_fuse (Some fuse) =
     if fuse.after == 0 then None else Some (record { after = fuse.after - 1; tear = fuse.tear })
+
+-- the tear of the step that comes, where a fuse is known that cuts it
+abbrev pub known_tear : Option (Option Fuse) → Option Tear
+known_tear None = None
+known_tear (Some fuse) = next_tear fuse
+
+-- what is known of the fuse after a step
+abbrev pub known_after : Option (Option Fuse) → Option (Option Fuse)
+known_after known = option_map next_fuse known
 
 -- one cut is left with a fuse, none without
 abbrev pub cuts_left_of : Option Fuse → Option ℕ

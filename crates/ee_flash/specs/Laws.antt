@@ -4,9 +4,8 @@ use Rattle.std.specs.Prelude.{◌≡◌, ◌<◌, ◌≤◌, ◌⊎◌, ℕ, ◌
 use Rattle.std.specs.List.{All, flat_map}
 use Rattle.ee_flash.specs.Size.{Size, page_count}
 use Rattle.ee_flash.specs.Device.{Device, IsFormed, IsOn, all_ones, page_at, wear_at, word_at}
-use Rattle.ee_flash.specs.Step.{Step, Program, Erase, MayFollow, MayLeave, device_after}
+use Rattle.ee_flash.specs.Step.{Step, Program, Erase, MayFollow, MayLeave, device_after, device_after_tear, device_by_fuse}
 use Rattle.ee_flash.specs.Power.{GoesOn, IsCut}
-use Rattle.ee_flash.specs.Memory.{Memory, after_step, device_after_tear}
 use Rattle.ee_flash.specs.Pages.{pages_of}
 use Rattle.ee_flash.specs.declared.fuse.Fuse.{Fuse}
 use Rattle.ee_flash.specs.declared.word.Word.{Word}
@@ -70,35 +69,32 @@ abbrev pub all_completed : List Step → Device → Device
 all_completed [] device = device
 all_completed (step ∷ steps) device = all_completed steps (device_after step device)
 
--- a device in memory after these steps
-abbrev pub after_steps : List Step → Memory → Memory
-after_steps [] memory = memory
-after_steps (step ∷ steps) memory = after_steps steps (after_step step memory)
+-- a device whose fuse is known after these steps
+abbrev pub after_steps : List Step → Device → Device
+after_steps [] device = device
+after_steps (step ∷ steps) device = after_steps steps (device_by_fuse step device)
 
 -- without a fuse no step is cut
 abbrev pub NoFuseNoCut : Type 0
 NoFuseNoCut =
-    (steps : List Step) (memory : Memory) → IsOn memory.device → memory.fuse ≡ None
-    → (after_steps steps memory).device ≡ all_completed steps memory.device
+    (steps : List Step) (device : Device) → IsOn device → device.fuse ≡ Some None
+    → after_steps steps device ≡ all_completed steps device
 
 -- as many steps as the fuse says are whole, and each burns it down by one
 abbrev pub FuseWaits : Type 0
 FuseWaits =
-    (steps : List Step) (memory : Memory) (fuse : Fuse) → IsOn memory.device
-    → memory.fuse ≡ Some fuse → length steps ≤ fuse.after → let last : Memory =
-    after_steps steps memory in (last.device ≡ all_completed steps memory.device)
-    × (last.fuse ≡ Some (record fuse { after = fuse.after - length steps }))
+    (steps : List Step) (device : Device) (fuse : Fuse) → IsOn device
+    → device.fuse ≡ Some (Some fuse) → length steps ≤ fuse.after → let last : Device =
+    after_steps steps device in (last ≡ all_completed steps device)
+    × (last.fuse ≡ Some (Some (record fuse { after = fuse.after - length steps })))
 
 -- the next step is cut as the fuse's tear says, and the fuse is gone
 abbrev pub FuseCuts : Type 0
 FuseCuts =
-    (steps : List Step) (step : Step) (memory : Memory) (fuse : Fuse) → IsOn memory.device
-    → memory.fuse ≡ Some fuse → length steps ≡ fuse.after → let last : Memory =
-    after_step step (after_steps steps memory)
-    in
-    (last.device
-    ≡ device_after_tear step (Some fuse.tear) (all_completed steps memory.device))
-    × (last.fuse ≡ None)
+    (steps : List Step) (step : Step) (device : Device) (fuse : Fuse) → IsOn device
+    → device.fuse ≡ Some (Some fuse) → length steps ≡ fuse.after
+    → device_by_fuse step (after_steps steps device)
+    ≡ device_after_tear step fuse.tear (all_completed steps device)
 
 -- the pages of a list of words, joined, are the list
 abbrev pub PagesJoin : Type 0

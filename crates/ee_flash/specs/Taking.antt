@@ -1,9 +1,11 @@
--- A call as a list of steps: what they leave, all of them or up to a cut in one. A device keeps no
--- record of steps, so none of these says which were taken, nor in which order where none is cut.
-use Rattle.std.specs.Prelude.{◌≡◌, ◌⊎◌, ℕ, ◌+◌, Result, OnOk, OnErr, List, [], ◌∷◌, ◌++◌}
-use Rattle.ee_flash.specs.Device.{Device, IsOff}
-use Rattle.ee_flash.specs.Laws.{all_completed}
+-- A call as a list of steps: what they leave, all of them or up to a cut in one. Where the fuse of
+-- a device is known it says which.
+use Rattle.std.specs.Prelude.{◌≡◌, ◌⊎◌, ℕ, ◌+◌, Option, Some, Result, OnOk, OnErr, List, [], ◌∷◌, ◌++◌}
+use Rattle.ee_flash.specs.Device.{Device, IsOff, IsOn}
+use Rattle.ee_flash.specs.Fuse.{cuts_left_of}
+use Rattle.ee_flash.specs.Laws.{after_steps, all_completed}
 use Rattle.ee_flash.specs.Step.{Erase, IsCutIn, IsUntouched, Program, Step}
+use Rattle.ee_flash.specs.declared.fuse.Fuse.{Fuse}
 
 -- the device is as these steps leave it, each taken whole; while power was off there are none
 pub record Completes (steps : List Step) (old new : Device) : Type 0 where
@@ -26,6 +28,20 @@ pub record Takes {T E : Type 0} (result : Result T E) (steps : List Step) (old n
     : Type 0 where
   pub done : OnOk result (Completes steps old new)
   pub cut : OnErr result (StopsAmong steps old new)
+
+-- what is known of the fuse of a device in memory: all; and the cuts left are those that it makes
+pub record HasFuse (device : Device) : Type 0 where
+  pub fuse : Option Fuse
+  pub known : device.fuse ≡ Some fuse
+  pub left : device.cuts_left ≡ cuts_left_of fuse
+
+-- So where the fuse is known a call is a function: its steps, each whole or cut by the fuse, leave
+-- the device, and it is on behind them where the call was answered `Ok`, and off where it was cut.
+abbrev pub FuseDecides : Type 0
+FuseDecides =
+    (steps : List Step) (old new : Device) → HasFuse old → HasFuse new → IsOn old
+    → (Completes steps old new → (new ≡ after_steps steps old) × IsOn new)
+    × (IsCutAmong steps old new → (new ≡ after_steps steps old) × IsOff new)
 
 -- how many words they program
 abbrev pub words_programmed : List Step → ℕ

@@ -1,6 +1,7 @@
 //! Laws that hold of every device and every step, each the contract of a function that does
 //! nothing.
 ghost use Rattle.ee_flash.specs.Endurance.{ProgramsNeedErases, SomePageWears};
+ghost use Rattle.ee_flash.specs.Taking.{FuseDecides};
 ghost use Rattle.ee_flash.specs.Laws.{CallsCompose, FuseCuts, FuseWaits, JoinedPages, NoCutLeft, NoFuseNoCut, PagesJoin, StepChangesOnePage, StepEnds, StepKeepsFormed, StepLeavesPages};
 
 /// Every outcome of a step changes the words and the wear of one page at most.
@@ -46,6 +47,11 @@ pub fn fuse_waits()
 /// The step after those is cut as the fuse's tear says, and the fuse is gone.
 pub fn fuse_cuts()
     ensures { FuseCuts }
+{}
+
+/// Where its fuse is known, the steps of a call decide what it leaves, and whether it is cut.
+pub fn fuse_decides()
+    ensures { FuseDecides }
 {}
 
 /// The pages of a list of words, joined, are the list.

@@ -14,8 +14,9 @@
 //! this step, with its words torn in any way, or was off and nothing changed (`cut`). `MemFlash`
 //! keeps it, and says exactly what its fuse does (`exact`, `passes`). `blank`, `from_cells` and
 //! `of_cells` give the device that they name, each refusal under its cause (`fault`). `laws`: a
-//! step changes one page at most; a call is cut once at most; whoever programs a word for each
-//! change wears some page so often (`programs_need_erases`, `some_page_wears`).
+//! step changes one page at most; a call is cut once at most; where a fuse is known, the steps of a
+//! call decide what it leaves (`fuse_decides`); whoever programs a word for each change wears some
+//! page so often (`programs_need_erases`, `some_page_wears`).
 //!
 //! # What is only tested
 //!

@@ -141,7 +141,8 @@ impl<A: Allocator> MemFlash<A> {
     /// Sets the fuse: `after` further steps pass and the next one is cut. A new fuse replaces an
     /// old one.
     pub fn arm(&mut self, fuse: Fuse)
-        ensures { memory_of self.new ≡ with_fuse fuse (memory_of self.old) }
+        ensures { memory_of self.new
+            ≡ with_device (with_fuse fuse (device_of self.old)) (memory_of self.old) }
     {
         self.fuse = Some(fuse);
     }

@@ -1,5 +1,5 @@
 -- The text of a device: a line that says its size, and a line for each page with its wear.
-use Rattle.std.specs.Prelude.{◌≡◌, ◌≤◌, ◌^◌, ◌<◌, ℕ, Some, true, List, [], ◌∷◌, ◌++◌, length, map, decimal, codes}
+use Rattle.std.specs.Prelude.{◌≡◌, ◌≤◌, ◌^◌, ◌<◌, ℕ, None, Some, true, List, [], ◌∷◌, ◌++◌, length, map, decimal, codes}
 use Rattle.std.specs.Int.{to_be_bytes, w64}
 use Rattle.std.specs.List.{All}
 use Rattle.hex.specs.Hex.{encode_lower}
@@ -40,7 +40,7 @@ image_text device = line_of (size_text device.size) ++ page_lines device.image d
 
 -- the device with this text: it is on, power was never cut, and no cut is to come
 abbrev pub at_rest : Device → Device
-at_rest device = record device { cuts = 0; cuts_left = Some 0; on = true }
+at_rest device = record device { cuts = 0; cuts_left = Some 0; fuse = Some None; on = true }
 
 -- what the line of a page with so many words can say
 pub record IsPage (words wear : ℕ) (page : List Word) : Type 0 where

@@ -1,5 +1,5 @@
 -- An image has one cause at most for which no store is opened.
-use Rattle.std.proofs.Common.{◌≡◌, ◌≢◌, ◌⊎◌, inl, inr, ℕ, List, Some, true, refl, sym, ap, ◌∙◌, subst, rules}
+use Rattle.std.proofs.Common.{◌≡◌, ◌≢◌, ◌⊎◌, inl, inr, ℕ, List, None, Some, true, refl, sym, ap, ◌∙◌, subst, rules}
 use Rattle.ee_flash.specs.Device.{Device}
 use Rattle.ee_pages.specs.Layout.{IsScanFault}
 use Rattle.ee_pages.specs.Sets.{live_of, set_of}
@@ -27,8 +27,8 @@ same_at_rest text device other spelled again =
 pub same_state : (device other : Device) → at_rest device ≡ at_rest other
     → state_of device ≡ state_of other
 same_state device other same =
-    sym (state_in_powered 0 (Some 0) true device (live_of device)) ∙ ap state_of same
-    ∙ state_in_powered 0 (Some 0) true other (live_of other)
+    sym (state_in_powered 0 (Some 0) (Some None) true device (live_of device)) ∙ ap state_of same
+    ∙ state_in_powered 0 (Some 0) (Some None) true other (live_of other)
 
 same_set : (side : Side) (device : Device) → set_of side (at_rest device) ≡ set_of side device
 same_set First device = refl

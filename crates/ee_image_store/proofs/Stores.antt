@@ -48,6 +48,7 @@ is_opened text old new rest spelled opens =
     record {
       device = old;
       old = is_text text old spelled opens.legal;
+      rests = rest;
       opens = opens;
       stays_on = stays old new (rests old rest) goes.same_power goes.same_cuts_left;
       same_size = goes.same_size;

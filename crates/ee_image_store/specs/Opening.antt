@@ -8,7 +8,7 @@ use Rattle.ee_pages.specs.Legal.{IsLegal}
 use Rattle.ee_core.specs.Finished.{IsStore}
 use Rattle.ee_core.specs.Openings.{IsFormatted, Opens}
 use Rattle.ee_core.specs.State.{formatted_state, pending_pages, state_of}
-use Rattle.ee_image.specs.Text.{image_text}
+use Rattle.ee_image.specs.Text.{at_rest, image_text}
 use Rattle.ee_image.specs.Fault.{IsImageTextFault}
 use Rattle.ee_interface.specs.declared.replay_fault.ReplayFault.{ReplayFault}
 use Rattle.ee_interface.specs.declared.replay_fault.ReplayFault.TheVariants.{Image, Open, Script, Memory, Read}
@@ -33,11 +33,12 @@ pub record IsStoreText (text : List ℕ) (device : Device) : Type 0 where
 abbrev pub HasStore : List ℕ → Type 0
 HasStore image = (device : Device) × IsStoreText image device
 
--- the store of the image that the text spells, with its state; the same pages wait,
--- and none was erased
+-- the store of the image that the text spells, as a device that is on and was never cut, with its
+-- state; the same pages wait, and none was erased
 pub record IsOpened (text : List ℕ) (new : Device) : Type 0 where
   pub device : Device
   pub old : IsStoreText text device
+  pub rests : device ≡ at_rest device
   pub opens : Opens device new
   pub stays_on : StaysOn new
   pub same_size : new.size ≡ device.size

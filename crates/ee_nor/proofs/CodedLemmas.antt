@@ -3,6 +3,8 @@ pub mod Tables
 pub mod Near
 pub mod Spelling
 pub mod Numbers
+pub mod Marks
+pub mod Clear
 pub mod Steps
 pub mod CodeRuns
 pub mod Wipes

@@ -160,6 +160,7 @@ module _ (nor : NorDevice) (page at : ℕ) (formed : IsNorFormed nor)
         wear = cut.wear;
         cuts = cut.cuts;
         cuts_left = cut.cuts_left;
+        by_fuse = tt;
       }
 
   -- it was cut in the second
@@ -263,6 +264,7 @@ cut_erase nor new page formed new_formed in_range safe cut =
       wear = cut.wear;
       cuts = cut.cuts;
       cuts_left = cut.cuts_left;
+      by_fuse = tt;
     }
 
 safe_cut_erase : (nor new : NorDevice) (page : ℕ) → IsSafe nor

@@ -1,5 +1,5 @@
 -- Words on a flash that has none: a number beside its complement.
-use Rattle.std.specs.Prelude.{◌≡◌, ◌≢◌, ◌<◌, ◌≤◌, ℕ, ◌+◌, ◌*◌, ◌-◌, ◌==◌, if◌then◌else◌, false, List, Some, map}
+use Rattle.std.specs.Prelude.{◌≡◌, ◌≢◌, ◌<◌, ◌≤◌, ℕ, ◌+◌, ◌*◌, ◌-◌, ◌==◌, if◌then◌else◌, false, List, None, Some, map}
 use Rattle.std.specs.List.{range_with_len}
 use Rattle.ee_flash.specs.Device.{Device, all_ones}
 use Rattle.ee_flash.specs.Runs.{number_of}
@@ -41,6 +41,7 @@ paired_device nor = record {
   wear = nor.wear;
   cuts = nor.cuts;
   cuts_left = nor.cuts_left;
+  fuse = None;
   on = nor.on;
 }
 

@@ -1,4 +1,6 @@
-//! Laws of pairs, each the contract of a function that does nothing.
+//! Laws of pairs and of coded words, each the contract of a function that does nothing.
+ghost use Rattle.ee_nor.specs.Coded.Coded.{SlotsStandInClear};
+ghost use Rattle.ee_nor.specs.Coded.Shapes.{OtherMarkIsTorn};
 ghost use Rattle.ee_nor.specs.Laws.{EraseMakesNoNumber, PairsAreFormed, PartsAreAProgram, TornIsTold};
 
 /// A word that was cut on its way to a value reads as that value, or as none.
@@ -20,4 +22,15 @@ pub fn parts_are_a_program()
 /// The words of a flash of numbers that is formed are a formed device.
 pub fn pairs_are_formed()
     ensures { PairsAreFormed }
+{}
+
+/// The mark of coded words of one shape is torn on a device of another.
+pub fn other_mark_is_torn()
+    ensures { OtherMarkIsTorn }
+{}
+
+/// In the coded word of a slot's number the value, kind and address stand as they are, and no other
+/// has an address.
+pub fn slots_stand_in_clear()
+    ensures { SlotsStandInClear }
 {}

@@ -160,11 +160,6 @@ proper_items numbers all =
     (sym (get_or-map item_by numbers k 0 (item_by 0) within))
     (All-get_or IsOfAddress numbers k 0 within all))
 
-pub one_proper : (found : ℕ × ℕ) → IsAddress found.0
-    → All (λ (one : ℕ × ℕ). IsAddress one.0) (found ∷ [])
-one_proper found proper zero none h = proper
-one_proper found proper (suc k) none h = absurd (omega (arith, h))
-
 pub all_of_address : (count : ℕ) → All IsOfAddress (replicate count 1)
 all_of_address count = All-replicate IsOfAddress count 1 (omega arith, omega arith)
 

@@ -26,9 +26,6 @@ holds_along old new base room bytes held head words = record {
 turns_of : (turns count head : ℕ) → count < 65536 → head ≡ head_of turns count → head / 65536 ≡ turns
 turns_of turns count head h e = omega arith
 
-some_same : (x y : ℕ) → ◌≡◌ {A = Option ℕ} (Some x) (Some y) → x ≡ y
-some_same x y e = cc
-
 -- a map that differs where no word counts has the record still
 pub still_holds : (old new : Map) (base room turns : ℕ) (bytes : List ℕ) → room < 16384
     → AreTurnsIn old base turns → KeepsCounted base room turns old new → HoldsBytes old base room bytes

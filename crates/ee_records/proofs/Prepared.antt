@@ -46,15 +46,6 @@ refused T fault.Spent old new base room bytes on kept ends = ((on, ends.0), kept
 refused T fault.Memory old new base room bytes on kept ends = ((on, ends.0), kept, ends.1)
 refused T fault.Cut old new base room bytes on kept ends = (ends, kept)
 
-pub prepare_refused : (bad : RecordFault) (old new : Device) (base room : ℕ) (bytes : List ℕ)
-    → PreparesRecord old base room bytes (Err bad) new → WritesRecord old base room bytes (Err bad) new
-prepare_refused fault.Off old new base room bytes prepared = prepared
-prepare_refused fault.TooLong old new base room bytes prepared = prepared
-prepare_refused fault.Full old new base room bytes prepared = prepared
-prepare_refused fault.Spent old new base room bytes prepared = prepared
-prepare_refused fault.Memory old new base room bytes prepared = prepared
-prepare_refused fault.Cut old new base room bytes prepared = (prepared.0, inl prepared.1)
-
 -- ---- the last write
 
 module _ (old mid new : Device) (base room : ℕ) (bytes : List ℕ) (address value : ℕ)

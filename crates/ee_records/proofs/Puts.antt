@@ -4,7 +4,7 @@ use Rattle.std.proofs.lemmas.Bool.{cases_eq}
 use Rattle.ee_flash.specs.Device.{Device}
 use Rattle.ee_flash.specs.Power.{GoesOn, IsCut}
 use Rattle.ee_pages.specs.Meaning.{Map, Forget, Put, map_after}
-use Rattle.ee_core.proofs.Public.{cut_map, forget-at, goes_on_both, goes_on_same, put-at, put-other}
+use Rattle.ee_core.proofs.Public.{cut_map, forget-at, goes_on_both, goes_on_same, put-other}
 use Rattle.ee_core.specs.Calls.{Forgets, Writes}
 use Rattle.ee_core.specs.State.{state_of}
 use Rattle.ee_core.specs.declared.variables.Written.{Written}
@@ -19,30 +19,6 @@ use Rattle.ee_records.specs.declared.fault.RecordFault.TheVariants as fault
 use Rattle.ee_records.specs.declared.fault.TrimFault.TheVariants as trim
 
 -- ---- one write
-
-written_map : (old new : Device) (address value : ℕ) (written : Written)
-    → Writes old address value (Ok written) new
-    → (state_of new).map ≡ map_after (Put address value) (state_of old).map
-written_map old new address value written h = search rules
-
-written_goes_on : (old new : Device) (address value : ℕ) (written : Written)
-    → Writes old address value (Ok written) new → GoesOn old new
-written_goes_on old new address value written h = search rules
-
-one_write : (old new : Device) (address value : ℕ) (written : Written)
-    → Writes old address value (Ok written) new → AreWrites 1 old new
-one_write old new address value written h = inr (old, refl, address, value, written, h)
-
-pub wrote : {T : Type 0} (done : T) (old new : Device) (address value : ℕ) (written : Written)
-    → Writes old address value (Ok written) new
-    → PutsOne {T = T} old address value (Ok done) new
-wrote done old new address value written h =
-    let e = written_map old new address value written h in (
-      written_goes_on old new address value written h,
-      ap (λ (map : Map). map address) e ∙ put-at (state_of old).map address value address refl,
-      inr e,
-      one_write old new address value written h,
-    )
 
 pub wrote_cut : (T : Type 0) (old new : Device) (address value : ℕ)
     → Writes old address value (Err write.Cut) new
@@ -124,17 +100,6 @@ one_ends base room (Err fault.Memory) old new address value of puts =
     along (λ device. EndsSo {T = ℕ} base room (Err fault.Memory) old device) old new puts.0
     (goes_on_same old, (address, of, puts.1))
 one_ends base room (Err fault.Cut) old new address value of puts = puts.0
-
-pub one_may : {T : Type 0} (result : Result T RecordFault) (old new : Device) (address value : ℕ)
-    → PutsOne old address value result new
-    → MayPut address value (state_of old).map (state_of new).map
-one_may (Ok done) old new address value puts = puts.2
-one_may (Err fault.Off) old new address value puts = absurd puts
-one_may (Err fault.TooLong) old new address value puts = absurd puts
-one_may (Err fault.Full) old new address value puts = inl (ap (λ (d : Device). (state_of d).map) puts.0)
-one_may (Err fault.Spent) old new address value puts = inl (ap (λ (d : Device). (state_of d).map) puts.0)
-one_may (Err fault.Memory) old new address value puts = inl (ap (λ (d : Device). (state_of d).map) puts.0)
-one_may (Err fault.Cut) old new address value puts = puts.1
 
 -- ---- words at their other addresses
 

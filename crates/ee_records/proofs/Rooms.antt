@@ -86,17 +86,6 @@ heads_of map base room head bytes fits is held =
     some_same head (head_of held.turns (length bytes)) (sym is ∙ held.head) in
     (omega (arith, heads, held.few, fits), omega (arith, heads, held.few, fits))
 
--- its head is of too many bytes
-pub too_long : (map : Map) (base room head : ℕ) → room < 16384 → map base ≡ Some head
-    → 4 * room < head % 65536 → IsHurt map base room
-too_long map base room head fits is long = record {
-  head = head;
-  there = is;
-  no_bytes = λ bytes held.
-      let heads = heads_of map base room head bytes fits is held in
-      absurd (omega (arith, heads.1, held.few, long));
-}
-
 at_word : (word : ℕ) → 4 * word / 4 ≡ word
 at_word word = omega arith
 

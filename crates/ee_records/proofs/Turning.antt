@@ -1,14 +1,15 @@
 -- Which words change: one word more, that stands or that turns.
-use Rattle.std.proofs.Common.{◌≡◌, ◌≢◌, ◌∙◌, ◌<◌, ◌≤◌, ◌+◌, ◌*◌, ◌/◌, ◌%◌, ◌^◌, ℕ, Option, Some, None, List, inl, inr, sym, ap, subst, arith}
+use Rattle.std.proofs.Common.{◌≡◌, ◌≢◌, ◌∙◌, ◌<◌, ◌≤◌, ◌+◌, ◌*◌, ◌/◌, ◌%◌, ◌^◌, ℕ, Some, List, inl, inr, sym, ap, subst, arith}
 use Rattle.std.specs.Int.{w32}
 use Rattle.std.specs.Prelude.{bit_or}
 use Rattle.std.proofs.lemmas.Bool.{cases_eq}
 use Rattle.std.proofs.lemmas.Nat.{one_shl, or_of_16, pow_below}
-use Rattle.std.proofs.lemmas.Nat.Bits.{bit_at_ones, bit_at_or, bit_at_set_other, bit_at_set_same, bit_at-zero}
+use Rattle.std.proofs.lemmas.Nat.Bits.{bit_at_ones, bit_at_or, bit_at_set_other, bit_at_set_same}
 use Rattle.ee_pages.specs.Meaning.{Map}
+use Rattle.ee_records.proofs.RecordLaws.{some_same}
 use Rattle.ee_records.specs.Calls.{AreChanged, AreChangedIn, IsInPlace}
 use Rattle.ee_records.specs.Record.{place, record_word, word_turn}
-use Rattle.ee_records.specs.Steps.{AreTurnsIn, AreUnchanged}
+use Rattle.ee_records.specs.Steps.{AreUnchanged}
 
 -- what sets the turn of a word
 abbrev pub turn_bit : ℕ → ℕ
@@ -80,28 +81,9 @@ pub changed_within : (map : Map) (base turns turned few words : ℕ) (bytes : Li
 changed_within map base turns turned few words bytes le changed = λ word e.
     let other = changed word e in (other.0, omega (arith, other.1, le), other.2, other.3)
 
--- where there is no head, any turns will do, and all words turn
-pub no_turns : (map : Map) (base turns : ℕ) → map base ≡ None → AreTurnsIn map base turns
-no_turns map base turns none = λ head is. absurd (cc (none, is))
-
 pub none_unchanged : (map : Map) (base turns words : ℕ) (bytes : List ℕ)
     → AreUnchanged words map base bytes turns 65535
 none_unchanged map base turns words bytes = λ word low e. absurd (one_not_zero (word_turn 65535 word) (all_turn word) e)
-
-pub none_changed : (map : Map) (base turned words : ℕ) (bytes : List ℕ) → map base ≡ None
-    → AreChangedIn words map base bytes turned
-none_changed map base turned words bytes none = λ head is. absurd (cc (none, is))
-
-pub nothing_changed : (map : Map) (base turns words : ℕ) (bytes : List ℕ)
-    → AreChanged words map base bytes turns 0
-nothing_changed map base turns words bytes = λ word e.
-    absurd (one_not_zero (word_turn 0 word) e (bit_at-zero (word % 16)))
-
-some_same : (x y : ℕ) → ◌≡◌ {A = Option ℕ} (Some x) (Some y) → x ≡ y
-some_same x y e = cc
-
-pub turns_in : (map : Map) (base head : ℕ) → map base ≡ Some head → AreTurnsIn map base (head / 65536)
-turns_in map base head is = λ other e. ap (λ h. h / 65536) (some_same head other (sym is ∙ e))
 
 pub changed_in : (map : Map) (base head words turned : ℕ) (bytes : List ℕ) → map base ≡ Some head
     → AreChanged words map base bytes (head / 65536) turned

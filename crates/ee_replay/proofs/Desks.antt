@@ -19,9 +19,8 @@ use Rattle.ee_interface.specs.declared.script.answer.Answer.{Answer}
 use Rattle.ee_interface.specs.declared.script.answer.Answer.TheVariants.{Appended, Moved, Full, Spent, Cleaned, Idle, Value, NoValue, Absent, Cut, Off, Opened}
 use Rattle.ee_interface.specs.Script.Run.{Run}
 use Rattle.ee_image_store.specs.Machine.{CallStep, CutStep, CutsChange, DeskStep, is_cut_answer}
-use Rattle.ee_replay.specs.Desk.{Stand}
 use Rattle.ee_replay.specs.Serving.{CallAnswers, LineAnswers, PowerAnswers, UncutLineAnswers, desk_of, is_armed}
-use Rattle.ee_replay.proofs.Powering.{now_armed, state_armed, state_powered}
+use Rattle.ee_replay.proofs.Powering.{state_armed, state_powered}
 use Rattle.ee_replay.proofs.Runs.{machine_step}
 
 -- ---- how often a cut may come
@@ -198,26 +197,26 @@ power_made false old Cut new most powers =
     }
 power_made serving old answer new most powers = absurd powers
 
-pub line_made : (old : Stand) (command : Command) (answer : Answer) (new : Stand)
-    → AtMostOne old.point.device → LineAnswers old command answer new
-    → IsLineMade old.point command answer new.point
-line_made old (Arm fuse) answer new most attends = search (rules, now_armed, state_armed)
+pub line_made : (old : Point) (command : Command) (answer : Answer) (new : Point)
+    → AtMostOne old.device → LineAnswers old command answer new
+    → IsLineMade old command answer new
+line_made old (Arm fuse) answer new most attends = search (rules, state_armed)
 line_made old PowerOn answer new most attends =
-    power_made old.point.serving old.point.device answer new.point most attends
+    power_made old.serving old.device answer new most attends
 line_made old (Write address value) answer new most attends =
     let made =
-    asked old.point.serving old.point.device (Write address value) answer new.point most attends in
+    asked old.serving old.device (Write address value) answer new most attends in
     record { step = made.step; same_size = made.same_size; at_most = made.at_most }
 line_made old (Forget address) answer new most attends =
     let made =
-    asked old.point.serving old.point.device (Forget address) answer new.point most attends in
+    asked old.serving old.device (Forget address) answer new most attends in
     record { step = made.step; same_size = made.same_size; at_most = made.at_most }
 line_made old (Read address) answer new most attends =
     let made =
-    asked old.point.serving old.point.device (Read address) answer new.point most attends in
+    asked old.serving old.device (Read address) answer new most attends in
     record { step = made.step; same_size = made.same_size; at_most = made.at_most }
 line_made old Clean answer new most attends =
-    let made = asked old.point.serving old.point.device Clean answer new.point most attends in
+    let made = asked old.serving old.device Clean answer new most attends in
     record { step = made.step; same_size = made.same_size; at_most = made.at_most }
 
 -- ---- a run
@@ -227,17 +226,17 @@ pub record IsDeskRun (old : Point) (commands : List Command) (answers : List Ans
   pub run : Run (DeskStep old.device.size) (desk_of old) commands answers (desk_of new)
   pub same_size : new.device.size ≡ old.device.size
 
-pub desk_run : (old new : Stand) (commands : List Command) (answers : List Answer)
-    → AtMostOne old.point.device → Run LineAnswers old commands answers new
-    → IsDeskRun old.point commands answers new.point
+pub desk_run : (old new : Point) (commands : List Command) (answers : List Answer)
+    → AtMostOne old.device → Run LineAnswers old commands answers new
+    → IsDeskRun old commands answers new
 desk_run old new [] [] most run = record {
-  run = ap (λ (stand : Stand). desk_of stand.point) run;
-  same_size = ap (λ (stand : Stand). stand.point.device.size) run;
+  run = ap (λ (point : Point). desk_of point) run;
+  same_size = ap (λ (point : Point). point.device.size) run;
 }
 desk_run old new [] (answer ∷ answers) most run = absurd run
 desk_run old new (command ∷ commands) [] most run = absurd run
 desk_run old new (command ∷ commands) (answer ∷ answers) most run =
-    let mid = run.0.point in
+    let mid = run.0 in
     let here = line_made old command answer run.0 most run.1 in
     let rest = desk_run run.0 new commands answers here.at_most run.2 in
     record {
@@ -246,7 +245,7 @@ desk_run old new (command ∷ commands) (answer ∷ answers) most run =
         here.step,
         subst
             (λ (size : Size).
-            Run (DeskStep size) (desk_of mid) commands answers (desk_of new.point))
+            Run (DeskStep size) (desk_of mid) commands answers (desk_of new))
             here.same_size rest.run,
       );
       same_size = rest.same_size ∙ here.same_size;

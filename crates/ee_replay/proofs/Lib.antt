@@ -11,3 +11,5 @@ mod Kept
 mod UncutRuns
 mod ScriptWears
 mod Powering
+mod Deciding
+mod OneOutcome

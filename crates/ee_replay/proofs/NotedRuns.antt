@@ -3,7 +3,8 @@ use Rattle.std.proofs.Common.{◌≡◌, ◌∙◌, ◌++◌, ℕ, ◌+◌, ◌*
 use Rattle.std.proofs.Math.Bool.{or-false, or_assoc, or_comm}
 use Rattle.std.proofs.Math.Seq.{get_or-append_seam}
 use Rattle.std.specs.Prelude.{Bool, false, true, ◌||◌, Err}
-use Rattle.ee_flash.specs.Device.{Device}
+use Rattle.ee_flash.specs.Device.{Device, IsOn}
+use Rattle.ee_flash.specs.Taking.{HasFuse}
 use Rattle.ee_flash.specs.Size.{Size, slot_count}
 use Rattle.ee_pages.specs.Meaning.{Put}
 use Rattle.ee_pages.specs.Meaning as meaning
@@ -36,13 +37,15 @@ use Rattle.ee_core.specs.declared.variables.ForgetFault.{ForgetFault}
 use Rattle.ee_core.specs.declared.variables.ForgetFault.TheVariants as forgetting
 use Rattle.ee_core.specs.declared.variables.WriteFault.{WriteFault}
 use Rattle.ee_core.specs.declared.variables.WriteFault.TheVariants as fault
-use Rattle.ee_replay.specs.Desk.{CallsAtDesk, SaysTheSame, Stand}
+use Rattle.ee_replay.specs.Desk.{CallsAtDesk, SaysTheSame}
 use Rattle.ee_image_store.specs.Machine.{is_cut_answer, was_cut}
-use Rattle.ee_replay.specs.Serving.{LineAnswers, IsCounted, IsTraced, Noted, Notes, LineIsNoted, UncutLineAnswers, claim_noted, no_notes, notes_after, serving_on, stand_on}
+use Rattle.ee_replay.specs.Lines.{answers_of, point_behind}
+use Rattle.ee_replay.proofs.Deciding.{ServesOn, run_decided}
+use Rattle.ee_replay.specs.Serving.{LineAnswers, IsCounted, IsTraced, Noted, Notes, LineIsNoted, UncutLineAnswers, claim_noted, no_notes, notes_after, notes_behind, serving_on}
 use Rattle.ee_image_store.specs.Trace.{accepted_commands, moved_at, trace_of}
 use Rattle.ee_replay.proofs.Powering.{state_armed}
 use Rattle.ee_replay.proofs.Runs.{neither}
-use Rattle.ee_replay.proofs.UncutRuns.{at_open, from_point, served_open}
+use Rattle.ee_replay.proofs.UncutRuns.{at_open, served_open}
 
 -- ---- a store that stays open
 
@@ -57,7 +60,7 @@ record IsHeld (old : Held) (command : Command) (answer : Answer) (new : Held) : 
   notes_are : new.notes ≡ notes_after answer (state_of new.device).fill old.notes
 
 abbrev held_at : Noted → Held
-held_at noted = record { device = noted.stand.point.device; notes = noted.notes }
+held_at noted = record { device = noted.point.device; notes = noted.notes }
 
 -- ---- one change
 
@@ -374,7 +377,7 @@ module _ (size : Size) (start : Situation) (trace : List Change) where
       (sym run.1.notes_are) next)
   notes_of_run (Arm fuse ∷ commands) (Armed ∷ answers) old new before are parts sized run so_far =
       let mid = run.0 in
-      let same = ap state_of run.1.serves ∙ state_armed old.device in
+      let same = ap state_of run.1.serves ∙ state_armed fuse old.device in
       let next =
       note_none (slot_count size) start trace (length before) (state_of old.device)
       (state_of mid.device) old.notes (ap (λ (s : State). s.map) same)
@@ -432,7 +435,7 @@ noted_tight old new commands answers start are fresh run is proper =
 
 -- a run at a desk in which no line was cut is one of a store that stays open
 held_run : (device : Device) (old new : Noted) (commands : List Command) (answers : List Answer)
-    → was_cut answers ≡ false → old.stand.point ≡ serving_on device
+    → was_cut answers ≡ false → old.point ≡ serving_on device
     → Run LineIsNoted old commands answers new
     → Run IsHeld (record { device = device; notes = old.notes }) commands answers (held_at new)
 held_run device old new [] [] plain still run = search (rules, there)
@@ -441,10 +444,10 @@ held_run device old new (command ∷ commands) [] plain still run = absurd run
 held_run device old new (command ∷ commands) (answer ∷ answers) plain still run =
     let parts = neither (is_cut_answer answer) (was_cut answers) plain in
     let mid = run.0 in
-    let point = mid.stand.point in
+    let point = mid.point in
     let here =
-    served_open device command answer mid.stand parts.0
-    (from_point old.stand (stand_on device) command answer mid.stand still run.1.attends) in (
+    served_open device command answer point parts.0
+    (subst (λ (from : Point). LineAnswers from command answer point) still run.1.attends) in (
       held_at mid,
       record { serves = here.serves; notes_are = run.1.notes_are },
       held_run point.device mid new commands answers parts.1 (at_open point here.still) run.2,
@@ -453,12 +456,12 @@ held_run device old new (command ∷ commands) (answer ∷ answers) plain still 
 -- without what is noted
 run_attended : (old new : Noted) (commands : List Command) (answers : List Answer)
     → Run LineIsNoted old commands answers new
-    → Run LineAnswers old.stand commands answers new.stand
-run_attended old new [] [] run = ap (λ (n : Noted). n.stand) run
+    → Run LineAnswers old.point commands answers new.point
+run_attended old new [] [] run = ap (λ (n : Noted). n.point) run
 run_attended old new [] (answer ∷ answers) run = absurd run
 run_attended old new (command ∷ commands) [] run = absurd run
 run_attended old new (command ∷ commands) (answer ∷ answers) run =
-    (run.0.stand, run.1.attends, run_attended run.0 new commands answers run.2)
+    (run.0.point, run.1.attends, run_attended run.0 new commands answers run.2)
 
 -- each answer `moved` ends a stretch
 one_stretch : (answer : Answer) (fill n : ℕ) (notes : Notes) (answers : List Answer)
@@ -484,7 +487,7 @@ stretches_are old new [] [] n run =
 stretches_are old new [] (answer ∷ answers) n run = absurd run
 stretches_are old new (command ∷ commands) [] n run = absurd run
 stretches_are old new (command ∷ commands) (answer ∷ answers) n run =
-    let one = one_stretch answer (state_of run.0.stand.point.device).fill n old.notes answers in
+    let one = one_stretch answer (state_of run.0.point.device).fill n old.notes answers in
     let rest = stretches_are run.0 new commands answers one.0 run.2 in
     let same = ap (λ (notes : Notes). length notes.stretches) run.1.notes_are in
     omega (arith, one.1, rest, same)
@@ -505,42 +508,40 @@ cuts_are old new (command ∷ commands) (answer ∷ answers) run =
     let kept =
     ap (λ (notes : Notes). was || notes.cut) run.1.notes_are
     ∙ ap (λ (cut : Bool). was || cut)
-    (one_cut answer (state_of run.0.stand.point.device).fill old.notes) in
+    (one_cut answer (state_of run.0.point.device).fill old.notes) in
     cuts_are run.0 new commands answers run.2 ∙ kept
     ∙ sym (or_assoc was (is_cut_answer answer) old.notes.cut)
     ∙ ap (λ (cut : Bool). cut || old.notes.cut) (or_comm was (is_cut_answer answer))
-
--- and from another stand at the same point
-run_from_there : (old from new : Stand) (commands : List Command) (answers : List Answer)
-    → old.point ≡ from.point → Run LineAnswers old commands answers new
-    → (last : Stand) × (last.point ≡ new.point) × Run LineAnswers from commands answers last
-run_from_there old from new [] [] at run = (from, search (at, run), refl)
-run_from_there old from new [] (answer ∷ answers) at run = absurd run
-run_from_there old from new (command ∷ commands) [] at run = absurd run
-run_from_there old from new (command ∷ commands) (answer ∷ answers) at run =
-    (new, refl, (run.0, from_point old from command answer run.0 at run.1, run.2))
 
 -- what serves, as its desk and its notes are seen
 pub is_traced : {S : Type 0} (see : S → Noted) (device : Device) (old new : S) (text lines : List ℕ)
     → IsAnswered (λ from command answer to. LineIsNoted (see from) command answer (see to)) old text
     new lines
-    → (see old).stand.point ≡ serving_on device → (see old).notes ≡ no_notes (state_of device).fill
-    → IsTraced device text (see new).stand.point (see new).notes lines
-is_traced see device old new text lines answered still fresh =
+    → (see old).point ≡ serving_on device → (see old).notes ≡ no_notes (state_of device).fill
+    → IsOn device → HasFuse device → IsTraced device text (see new).point (see new).notes lines
+is_traced see device old new text lines answered still fresh on fused =
     let seen = IsAnswered-seen see LineIsNoted old new text lines answered in
     let attended =
-    run_from_there (see old).stand (stand_on device) (see new).stand seen.commands seen.answers
-    still (run_attended (see old) (see new) seen.commands seen.answers seen.run) in
+    subst
+    (λ (point : Point). Run LineAnswers point seen.commands seen.answers (see new).point) still
+    (run_attended (see old) (see new) seen.commands seen.answers seen.run) in
+    let decided =
+    run_decided (see old) (see new) seen.commands seen.answers
+    (subst ServesOn (sym still) (λ serves. on))
+    (subst (λ (point : Point). HasFuse point.device) (sym still) fused) seen.run in
     record {
-      last = attended.0;
-      last_is = attended.1;
       answered = record {
         commands = seen.commands;
         answers = seen.answers;
         is_script = seen.is_script;
-        run = attended.2;
+        run = attended;
         report_is = seen.report_is;
       };
+      answers_are = decided.said ∙ ap (answers_of seen.commands) still;
+      point_is = decided.left ∙ ap (point_behind seen.commands) still;
+      notes_are = decided.noted
+          ∙ ap (λ (point : Point). notes_behind seen.commands point (see old).notes) still
+          ∙ ap (notes_behind seen.commands (serving_on device)) fresh;
       transfers =
           omega (
             arith,

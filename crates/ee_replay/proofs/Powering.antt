@@ -27,15 +27,19 @@ use Rattle.ee_core.specs.declared.variables.WriteFault.TheVariants as fault
 use Rattle.ee_core.specs.declared.variables.Written.{Written}
 use Rattle.ee_core.specs.declared.variables.Written.TheVariants as written
 use Rattle.ee_flash.specs.declared.fuse.Fuse.{Fuse}
-use Rattle.ee_replay.specs.Desk.{CallsAtDesk, SaysTheSame, Stand, stand_of}
+use Rattle.ee_replay.specs.Desk.{CallsAtDesk, SaysTheSame}
 use Rattle.ee_core.specs.Lookups.{slots_by}
 use Rattle.ee_flash.specs.declared.word.Word.{Word}
 use Rattle.ee_interface.specs.declared.script.answer.Answer.{Answer}
 use Rattle.ee_interface.specs.declared.script.answer.Answer.TheVariants.{Cut, Opened}
-use Rattle.ee_replay.specs.Serving.{ArmsItsFuse, IsSound, PowerAnswers, with_cut_to_come}
+use Rattle.ee_replay.specs.Serving.{IsSound, PowerAnswers}
 
-pub state_armed : (device : Device) → state_of (with_cut_to_come device) ≡ state_of device
-state_armed device = state_in_powered device.cuts (Some 1) device.on device (live_of device)
+-- ---- a cut that is armed
+
+pub state_armed : (fuse : Fuse) (device : Device)
+    → state_of (with_fuse fuse device) ≡ state_of device
+state_armed fuse device =
+    state_in_powered device.cuts (Some 1) (Some (Some fuse)) device.on device (live_of device)
 
 pub state_powered : (device : Device) → state_of (with_power_on device) ≡ state_of device
 state_powered device = state_in_on device (live_of device)
@@ -43,79 +47,68 @@ state_powered device = state_in_on device (live_of device)
 few_cuts : (left : ℕ) → Some 1 ≡ Some left → left ≤ all_ones
 few_cuts left e = search rules
 
-legal_armed : (device : Device) → IsLegal device → IsLegal (with_cut_to_come device)
-legal_armed device legal =
-    legal_powered device.cuts (Some 1) device.on device legal.2.formed.cuts_fit few_cuts legal
+module _ (fuse : Fuse) (device : Device) where
+  abbrev armed : Device
+  armed = with_fuse fuse device
 
-marked_armed : (device : Device) (side : Side) → IsMarked device side
-    → IsMarked (with_cut_to_come device) side
-marked_armed device First marked = record {
-  live =
-      record { valid = marked.live.valid; active = marked.live.active };
-  old = marked.old;
-}
-marked_armed device Second marked = record {
-  live =
-      record { valid = marked.live.valid; active = marked.live.active };
-  old = marked.old;
-}
+  legal_armed : IsLegal device → IsLegal armed
+  legal_armed legal =
+      legal_powered device.cuts (Some 1) (Some (Some fuse)) device.on device
+      legal.2.formed.cuts_fit few_cuts legal
 
-store_armed : (device : Device) → IsStore device → IsStore (with_cut_to_come device)
-store_armed device store = record {
-  legal = legal_armed device store.legal;
-  finished =
-      λ on side generation live. marked_armed device side (store.finished on side generation live);
-}
-
-set_armed : (device : Device) (side : Side)
-    → set_of side (with_cut_to_come device) ≡ set_of side device
-set_armed device First = refl
-set_armed device Second = refl
-
-layout_armed : (device : Device) (layout : pages.Layout) → IsLayout device layout
-    → IsLayout (with_cut_to_come device) layout
-layout_armed device layout is = record {
-  live = live_powered device.cuts (Some 1) device.on device is.live.formed.cuts_fit few_cuts
-      layout.side layout.generation is.live;
-  fill = is.fill ∙ sym (ap (λ set. fill_of (slots_of set)) (set_armed device layout.side));
-  current = is.current;
-}
-
--- ---- a device that is armed
-
-module _ (old new : Memory) (fuse : Fuse) (armed : new ≡ with_fuse fuse old) where
-  device_armed : new.device ≡ with_cut_to_come old.device
-  device_armed = ap (λ (kept : Memory). kept.device) armed
-
-  pub known_with_fuse : {L : Type 0} (finds : L → List Word → Type 0) (known : Known L)
-      → Knows finds old.device known → Knows finds new.device known
-  known_with_fuse finds known knows =
-      subst (λ (kept : Memory). Knows finds kept.device known) (sym armed) (record {
-        store = store_armed old.device knows.store;
-        layout = λ on. layout_armed old.device known.layout (knows.layout on);
-        fits = λ on. subst (λ (set : List (List Word)). finds known.lookup (slots_of set))
-            (sym (set_armed old.device known.layout.side)) (knows.fits on);
-      })
-
-  -- a desk on which a cut was armed
-  pub arms_stand : ArmsItsFuse (open_point old.device) fuse (stand_of new)
-  arms_stand =
-      subst (λ (kept : Memory). ArmsItsFuse (open_point old.device) fuse (stand_of kept))
-      (sym armed)
-      (record { before = old; before_is = refl; at_hand = refl; point_is = refl })
-
-  pub armed_same : SaysTheSame old.device new.device
-  armed_same = record {
-    same_size = ap (λ (at : Device). at.size) device_armed;
-    state_is = ap state_of device_armed ∙ state_armed old.device;
+  marked_armed : (side : Side) → IsMarked device side → IsMarked armed side
+  marked_armed First marked = record {
+    live =
+        record { valid = marked.live.valid; active = marked.live.active };
+    old = marked.old;
+  }
+  marked_armed Second marked = record {
+    live =
+        record { valid = marked.live.valid; active = marked.live.active };
+    old = marked.old;
   }
 
--- what a line that arms a cut makes of a point
-pub now_armed : (old : Point) (new : Stand) (fuse : Fuse) → ArmsItsFuse old fuse new
-    → new.point ≡ record old { device = with_cut_to_come old.device }
-now_armed old new fuse line =
-    line.point_is
-    ∙ ap (λ (device : Device). record old { device = with_cut_to_come device }) line.before_is
+  store_armed : IsStore device → IsStore armed
+  store_armed store = record {
+    legal = legal_armed store.legal;
+    finished =
+        λ on side generation live. marked_armed side (store.finished on side generation live);
+  }
+
+  set_armed : (side : Side) → set_of side armed ≡ set_of side device
+  set_armed First = refl
+  set_armed Second = refl
+
+  layout_armed : (layout : pages.Layout) → IsLayout device layout → IsLayout armed layout
+  layout_armed layout is = record {
+    live = live_powered device.cuts (Some 1) (Some (Some fuse)) device.on device
+        is.live.formed.cuts_fit few_cuts layout.side layout.generation is.live;
+    fill = is.fill ∙ sym (ap (λ set. fill_of (slots_of set)) (set_armed layout.side));
+    current = is.current;
+  }
+
+  pub known_armed : {L : Type 0} (finds : L → List Word → Type 0) (known : Known L)
+      → Knows finds device known → Knows finds armed known
+  known_armed finds known knows = record {
+    store = store_armed knows.store;
+    layout = λ on. layout_armed known.layout (knows.layout on);
+    fits = λ on. subst (λ (set : List (List Word)). finds known.lookup (slots_of set))
+        (sym (set_armed known.layout.side)) (knows.fits on);
+  }
+
+pub known_with_fuse : {L : Type 0} (finds : L → List Word → Type 0) (known : Known L)
+    (old new : Device) (fuse : Fuse)
+    → new ≡ with_fuse fuse old → Knows finds old known → Knows finds new known
+known_with_fuse finds known old new fuse is knows =
+    subst (λ (device : Device). Knows finds device known) (sym is)
+    (known_armed fuse old finds known knows)
+
+pub armed_same : (old new : Device) (fuse : Fuse) → new ≡ with_fuse fuse old
+    → SaysTheSame old new
+armed_same old new fuse is = record {
+  same_size = ap (λ (device : Device). device.size) is;
+  state_is = ap state_of is ∙ state_armed fuse old;
+}
 
 -- an open store is on, and no mark is left to set
 pub store_sound : (device : Device) → IsStore device → IsSound (open_point device)

@@ -1,15 +1,17 @@
 -- A run on a store that was opened is a run from what the text spells.
-use Rattle.std.proofs.Common.{◌≡◌, ℕ, List, ap, subst, arith}
+use Rattle.std.proofs.Common.{◌≡◌, ◌∙◌, ℕ, List, ap, subst, arith}
 use Rattle.ee_flash.specs.Device.{Device, blank_device}
 use Rattle.ee_flash.specs.Size.{Size}
 use Rattle.ee_core.specs.Points.{Point}
 use Rattle.ee_core.specs.Runs.{WearsAtMost}
 use Rattle.ee_core.specs.State.{State, formatted_state, state_of}
+use Rattle.ee_image.specs.Text.{image_text}
 use Rattle.ee_image_store.specs.Erases.{ErasesRise, erases_of_all}
 use Rattle.ee_image_store.specs.Opening.{IsNewStore, IsOpened, SpellsDevice}
 use Rattle.ee_image_store.specs.Trace.{moves}
-use Rattle.ee_replay.specs.Replaying.{IsReplayed, IsScriptRun, IsRunOn, IsTried}
-use Rattle.ee_replay.specs.Serving.{IsMade, IsServed, IsSound}
+use Rattle.ee_replay.specs.Lines.{point_behind}
+use Rattle.ee_replay.specs.Replaying.{IsReplayed, IsScriptRun, IsRunOn, IsTried, leaves_of}
+use Rattle.ee_replay.specs.Serving.{IsMade, IsServed, IsSound, serving_on}
 use Rattle.ee_image_store.proofs.Public.{both, wear_since}
 use Rattle.ee_replay.proofs.ScriptWears.{wears_since_opening}
 
@@ -27,6 +29,15 @@ is_run_on old flash new text image reported served sound same spelled = record {
     report = served.report;
   };
   made = served.made;
+  leaves =
+      ap (λ one. (one, reported))
+      ((subst (SpellsDevice image) same spelled).text_is
+      ∙ ap (λ (point : Point). image_text point.device) served.made.point_is)
+      ∙ ap
+      (λ one. (
+        image_text (point_behind served.report.commands (serving_on old)).device,
+        one,
+      )) served.report_is;
 }
 
 -- a run of the machine of this size from this state, on this store
@@ -34,6 +45,7 @@ abbrev RunFrom : Size → State → List ℕ → List ℕ → List ℕ → Devic
 RunFrom size start text image reported store =
     (run : IsScriptRun size start text image reported)
     × IsMade store run.report.commands run.report.answers run.last
+    × ((image, reported) ≡ leaves_of store run.report.commands)
 
 -- the same run, of a machine that is known by another size and state
 from_there : (size other : Size) (start from : State) (text image reported : List ℕ)
@@ -51,13 +63,16 @@ pub is_replayed : (old_image text image reported : List ℕ) (store : Device)
 is_replayed old_image text image reported store opened on =
     let there =
     from_there store.size opened.device.size (state_of store) (state_of opened.device) text
-    image reported store opened.same_size opened.state_is (on.run, on.made) in
+    image reported store opened.same_size opened.state_is (on.run, on.made, on.leaves) in
     let answers = there.0.report.answers in
     let pages = erases_of_all opened.device.size answers in
     record {
       device = opened.device;
       old = opened.old;
+      rests = opened.rests;
       run = there.0;
+      leaves = there.2
+          ∙ ap (λ (at : Device). leaves_of at there.0.report.commands) opened.opens.steps.done;
       opened = store;
       opens = opened.opens;
       made = there.1;
@@ -70,10 +85,8 @@ is_replayed old_image text image reported store opened on =
           both opened.device store there.0.last.device 0 pages pages opened.erases further
           (omega arith);
       wears = λ plain page.
-          subst (λ (point : Point). WearsAtMost (moves answers) page opened.device point.device)
-          there.1.last_is
-          (wears_since_opening opened.device store there.1.last there.0.report.commands answers
-          opened.opens plain there.1.lines page);
+          wears_since_opening opened.device store there.0.last there.0.report.commands answers
+          opened.opens plain there.1.lines page;
     }
 
 -- a run from what was formatted
@@ -82,7 +95,7 @@ pub is_tried : (size : Size) (text image reported : List ℕ) (store : Device) �
 is_tried size text image reported store new on =
     let there =
     from_there store.size size (state_of store) formatted_state text image reported store
-    new.size_is new.state_is (on.run, on.made) in
+    new.size_is new.state_is (on.run, on.made, on.leaves) in
     let answers = there.0.report.answers in
     let pending : (state_of store).pending ≡ 0 = ap (λ (s : State). s.pending) new.state_is in
     record {
@@ -90,6 +103,8 @@ is_tried size text image reported store new on =
       fresh = store;
       formats = new.formats;
       made = there.1;
+      leaves = there.2
+          ∙ ap (λ (at : Device). leaves_of at there.0.report.commands) new.formats.steps.done;
       worn = λ plain.
           let rises =
           subst (λ (s : Size). ErasesRise (erases_of_all s answers) store there.0.last.device)

@@ -1,24 +1,25 @@
 -- What a report says in the end.
-use Rattle.std.proofs.Common.{◌≡◌, ◌∙◌, ◌-◌, ◌++◌, ℕ, List, ap, append_assoc, codes, decimal, false, inl, length, refl, subst, sym, true, arith}
+use Rattle.std.proofs.Common.{◌≡◌, ◌∙◌, ◌-◌, ◌++◌, ℕ, Bool, cond, List, ap, append_assoc, codes, decimal, false, inl, inr, length, refl, subst, sym, true, arith}
 use Rattle.std.proofs.lemmas.Grind.{common_steps}
 use Rattle.ee_flash.specs.Device.{Device}
-use Rattle.ee_flash.specs.Size.{slot_count}
+use Rattle.std.proofs.lemmas.Bool.{cases_Bool}
+use Rattle.ee_flash.specs.Size.{Size, slot_count}
 use Rattle.ee_check.specs.Schedule.{IsProper, Situation}
 use Rattle.ee_check.specs.Text.{text_of}
 use Rattle.ee_plan.specs.Start.{IsStartOf}
 use Rattle.ee_interface.specs.Script.Answer.{report}
-use Rattle.ee_interface.specs.Script.Script.{IsFirstBadCommandLine}
-use Rattle.ee_interface.proofs.ScriptLemmas.Public.{scripts_are_good_lem}
 use Rattle.ee_pages.specs.Meaning.{live_in}
 use Rattle.ee_core.specs.State.{State, state_of}
 use Rattle.ee_core.specs.Points.{Point}
+use Rattle.ee_interface.specs.declared.script.command.Command.{Command}
 use Rattle.ee_interface.specs.Script.Run.{Run}
 use Rattle.ee_image_store.specs.Machine.{Desk, DeskStep, desk_with, was_cut}
 use Rattle.ee_replay.specs.Report.{IsReported, cut_report_text, desk_line, end_line}
-use Rattle.ee_replay.specs.Serving.{IsServed, IsTraced, Notes, claim_noted, desk_of, serving_on, stand_on}
+use Rattle.ee_replay.specs.Lines.{answers_of, point_behind}
+use Rattle.ee_replay.specs.Serving.{IsServed, IsTraced, Notes, certificate_text, claim_noted, claim_since, desk_of, report_of, serving_on}
 use Rattle.ee_image_store.specs.Opening.{StaysOn}
 use Rattle.ee_image_store.specs.Trace.{accepted_commands, moves, trace_of}
-use Rattle.ee_plan.proofs.Public.{fewest_transfers_wear_lem}
+use Rattle.ee_plan.proofs.Public.{fewest_transfers_wear_lem, live_count_is}
 use Rattle.ee_replay.proofs.Desks.{IsDeskRun, desk_run}
 use Rattle.ee_replay.proofs.Kept.{keeps_all}
 use Rattle.ee_replay.proofs.Late.{all_put, run_fewest, run_room, values_are}
@@ -98,9 +99,8 @@ module _ (old : Device) (new : Point) (text lines : List ℕ) (notes : Notes)
         let answers = run.answered.answers in
         let are = run.answered.is_script.proper in
         let claim = claim_noted start notes in
-        let whole =
-        subst (IsRunOpen old commands answers) run.last_is
-        (run_open old run.last commands answers plain run.answered.run) in
+        let whole : IsRunOpen old commands answers new =
+        run_open old new commands answers plain run.answered.run in
         let machine = machine_run old new.device commands answers whole.run in
         let tight = run.tight plain start is proper in
         let line = line_is ended machine.same_size end in
@@ -133,6 +133,92 @@ module _ (old : Device) (new : Point) (text lines : List ℕ) (notes : Notes)
           report_is = all_parts ended reported _ (text_of claim) standing all;
         }
 
+-- the report is the function's
+claim_is : (slots : ℕ) (state : State) (start : Situation) (notes : Notes)
+    → IsStartOf slots state start → claim_noted start notes ≡ claim_since slots state notes
+claim_is slots state start notes is =
+    let writes = notes.changes in
+    let stretches = notes.stretches in
+    let live = length start.live in
+    let fill = start.fill in
+    ap
+    (λ (n : ℕ). record {
+      slots = n;
+      fill = fill;
+      live = live;
+      writes = writes;
+      stretches = stretches;
+    }) is.slots_are
+    ∙ ap
+    (λ (n : ℕ). record {
+      slots = slots;
+      fill = n;
+      live = live;
+      writes = writes;
+      stretches = stretches;
+    }) is.fill_is
+    ∙ ap
+    (λ (n : ℕ). record {
+      slots = slots;
+      fill = state.fill;
+      live = n;
+      writes = writes;
+      stretches = stretches;
+    }) (sym (live_count_is state.map start.live is.are_live))
+
+certificate_is : (slots : ℕ) (state : State) (start : Situation) (notes : Notes)
+    (ended reported : List ℕ)
+    → IsStartOf slots state start
+    → (notes.cut ≡ true → reported ≡ ended ++ codes "no certificate\n")
+    → (notes.cut ≡ false → reported ≡ ended ++ text_of (claim_noted start notes))
+    → reported ≡ ended ++ certificate_text slots state notes
+certificate_is slots state start notes ended reported is cut plain =
+    let by_cut : Bool → List ℕ =
+    λ b. ended ++ cond b (codes "no certificate\n") (text_of (claim_since slots state notes)) in
+    elim (cases_Bool notes.cut) [
+      | inl was ↦ cut was ∙ ap by_cut (sym was)
+      | inr never ↦
+          plain never
+          ∙ ap (λ claim. ended ++ text_of claim) (claim_is slots state start notes is)
+          ∙ ap by_cut (sym never)
+    ]
+
+function_report : (old : Device) (new : Point) (text lines : List ℕ) (notes : Notes)
+    (start : Situation) (ended reported : List ℕ)
+    → (run : IsTraced old text new notes lines)
+    → IsStartOf (slot_count old.size) (state_of old) start → new.device.size ≡ old.size
+    → ended
+    ≡ lines
+    ++ desk_line (slot_count new.device.size) new.serving (state_of new.device)
+    (length notes.stretches)
+    → (notes.cut ≡ true → reported ≡ ended ++ codes "no certificate\n")
+    → (notes.cut ≡ false → reported ≡ ended ++ text_of (claim_noted start notes))
+    → reported ≡ report_of old run.answered.commands
+function_report old new text lines notes start ended reported run is sizes end cut plain =
+    let slots : ℕ = slot_count old.size in
+    let state : State = state_of old in
+    let commands : List Command = run.answered.commands in
+    let desk : Point → Notes → List ℕ =
+    λ point noted. desk_line slots point.serving (state_of point.device) (length noted.stretches)
+    ++ certificate_text slots state noted in
+    let sized : ended ≡ lines
+    ++ desk_line slots new.serving (state_of new.device) (length notes.stretches) =
+    end
+    ∙ ap
+    (λ (size : Size). lines
+    ++ desk_line (slot_count size) new.serving (state_of new.device) (length notes.stretches))
+    sizes in
+    certificate_is slots state start notes ended reported is cut plain
+    ∙ ap (λ front. front ++ certificate_text slots state notes) sized
+    ∙ append_assoc lines
+    (desk_line slots new.serving (state_of new.device) (length notes.stretches))
+    (certificate_text slots state notes)
+    ∙ ap (λ front. front ++ desk new notes) (run.answered.report_is ∙ ap report run.answers_are)
+    ∙ ap (λ point. report (answers_of commands (serving_on old)) ++ desk point notes) run.point_is
+    ∙ ap
+    (λ noted. report (answers_of commands (serving_on old))
+    ++ desk (point_behind commands (serving_on old)) noted) run.notes_are
+
 -- no cut is to come yet
 unarmed : (old : Device) → StaysOn old → desk_of (serving_on old) ≡ desk_with (state_of old)
 unarmed old stays = rw stays.never_cut refl
@@ -152,10 +238,8 @@ pub is_served : (old : Device) (new : Point) (text lines : List ℕ) (notes : No
 is_served old new text lines notes start run is proper stays ended reported end cut plain =
     let commands = run.answered.commands in
     let answers = run.answered.answers in
-    let desk =
-    subst (IsDeskRun (serving_on old) commands answers) run.last_is
-    (desk_run (stand_on old) run.last commands answers (inl stays.never_cut)
-    run.answered.run) in
+    let desk : IsDeskRun (serving_on old) commands answers new =
+    desk_run (serving_on old) new commands answers (inl stays.never_cut) run.answered.run in
     let machine =
     subst (λ (state : Desk). Run (DeskStep old.size) state commands answers (desk_of new))
     (unarmed old stays) desk.run in
@@ -172,12 +256,8 @@ is_served old new text lines notes start run is proper stays ended reported end 
         cut = λ e. cut_report old new text lines notes run ended reported desk.same_size end
             (cut (run.cut ∙ e));
       };
-      made = made_of old new run.last commands answers run.last_is run.answered.run;
+      made = made_of old new commands answers run.answered.run run.answers_are run.point_is;
       same_size = desk.same_size;
+      report_is = function_report old new text lines notes start ended reported run is
+          desk.same_size end cut plain;
     }
-
--- a script that was answered has no bad line
-pub no_bad_line : (old : Device) (new : Point) (text lines : List ℕ) (notes : Notes) (n : ℕ)
-    → IsTraced old text new notes lines → IsFirstBadCommandLine text n → ⊥
-no_bad_line old new text lines notes n run bad =
-    scripts_are_good_lem text run.answered.commands n run.answered.is_script bad

@@ -1,5 +1,7 @@
 -- How often pages are erased by a script that is not cut.
 use Rattle.std.proofs.Common.{◌≡◌, ℕ, ◌+◌, Bool, true, false, cond, Ok, Err, Option, Some, None, List, [], ◌∷◌, length, refl, subst, arith, rules}
+use Rattle.ee_flash.specs.Memory.{with_fuse}
+use Rattle.ee_flash.specs.declared.fuse.Fuse.{Fuse}
 use Rattle.ee_flash.specs.Device.{Device}
 use Rattle.ee_pages.specs.Sets.{live_of, other}
 use Rattle.ee_pages.specs.declared.side.Side.{Side}
@@ -20,8 +22,8 @@ use Rattle.ee_interface.specs.declared.script.command.Command.{Command}
 use Rattle.ee_interface.specs.declared.script.command.Command.TheVariants.{Write, Read, Forget, Clean, Arm, PowerOn}
 use Rattle.ee_image_store.specs.Machine.{was_cut}
 use Rattle.ee_image_store.specs.Trace.{moved_at, moves}
-use Rattle.ee_replay.specs.Desk.{Stand}
-use Rattle.ee_replay.specs.Serving.{LineAnswers, IsMade, UncutLineAnswers, stand_on, with_cut_to_come}
+use Rattle.ee_replay.specs.Lines.{answers_of, point_behind}
+use Rattle.ee_replay.specs.Serving.{LineAnswers, IsMade, UncutLineAnswers, serving_on}
 use Rattle.ee_replay.proofs.Runs.{machine_run, whole_run}
 use Rattle.ee_replay.proofs.UncutRuns.{run_open}
 
@@ -48,15 +50,15 @@ moves_more answer answers = omega arith
 
 -- ---- lines
 
-named_armed : (device : Device) (side : Side)
-    → not_blank_in side (with_cut_to_come device) ≡ not_blank_in side device
-named_armed device First = refl
-named_armed device Second = refl
+named_armed : (fuse : Fuse) (device : Device) (side : Side)
+    → not_blank_in side (with_fuse fuse device) ≡ not_blank_in side device
+named_armed fuse device First = refl
+named_armed fuse device Second = refl
 
-pending_armed : (device : Device) (live : Option (Side × ℕ))
-    → pending_pages_in (with_cut_to_come device) live ≡ pending_pages_in device live
-pending_armed device None = refl
-pending_armed device (Some live) = named_armed device (other live.0)
+pending_armed : (fuse : Fuse) (device : Device) (live : Option (Side × ℕ))
+    → pending_pages_in (with_fuse fuse device) live ≡ pending_pages_in device live
+pending_armed fuse device None = refl
+pending_armed fuse device (Some live) = named_armed fuse device (other live.0)
 
 line_ages : (old new : Device) (command : Command) (answer : Answer)
     → UncutLineAnswers old command answer new → Ages (is_move answer) old new
@@ -84,7 +86,7 @@ line_ages old new (Read address) NoValue serves =
 line_ages old new Clean Cleaned serves = ages (call.Cleaned (Ok true)) old new refl serves
 line_ages old new Clean Idle serves = ages (call.Cleaned (Ok false)) old new refl serves
 line_ages old new (Arm fuse) Armed serves =
-    rw serves (stays old (with_cut_to_come old) refl refl (pending_armed old (live_of old)) refl)
+    rw serves (stays old (with_fuse fuse old) refl refl (pending_armed fuse old (live_of old)) refl)
 line_ages old new PowerOn Opened serves = rw serves (stays old old refl refl refl refl)
 line_ages old new command answer serves = absurd serves
 
@@ -112,38 +114,33 @@ lines_wear old new commands answers run =
     λ page. wears_at_most (moves answers) page old new (lines_age old new commands answers run)
 
 -- all that the lines made of it
-made_at : (old : Device) (last : Stand) (commands : List Command) (answers : List Answer)
-    → Run LineAnswers (stand_on old) commands answers last → IsMade old commands answers last.point
-made_at old last commands answers run = record {
-  last = last;
-  last_is = refl;
+pub made_of : (old : Device) (last : Point) (commands : List Command) (answers : List Answer)
+    → Run LineAnswers (serving_on old) commands answers last
+    → answers ≡ answers_of commands (serving_on old)
+    → last ≡ point_behind commands (serving_on old) → IsMade old commands answers last
+made_of old last commands answers run said left = record {
   lines = run;
+  answers_are = said;
+  point_is = left;
   erases =
-      λ plain. (machine_run old last.point.device commands answers
+      λ plain. (machine_run old last.device commands answers
       (run_open old last commands answers plain run).run).erases;
   wears =
-      λ plain. lines_wear old last.point.device commands answers
+      λ plain. lines_wear old last.device commands answers
       (run_open old last commands answers plain run).run;
   calls =
-      λ plain unarmed. whole_run old last.point.device commands answers unarmed
+      λ plain unarmed. whole_run old last.device commands answers unarmed
       (run_open old last commands answers plain run).run;
 }
 
-pub made_of : (old : Device) (new : Point) (last : Stand) (commands : List Command)
-    (answers : List Answer)
-    → last.point ≡ new → Run LineAnswers (stand_on old) commands answers last
-    → IsMade old commands answers new
-made_of old new last commands answers is run =
-    subst (IsMade old commands answers) is (made_at old last commands answers run)
-
 -- on the store that was opened of a device
-pub wears_since_opening : (old store : Device) (last : Stand) (commands : List Command)
+pub wears_since_opening : (old store : Device) (last : Point) (commands : List Command)
     (answers : List Answer)
     → Opens old store → was_cut answers ≡ false
-    → Run LineAnswers (stand_on store) commands answers last → (page : ℕ)
-    → WearsAtMost (moves answers) page old last.point.device
+    → Run LineAnswers (serving_on store) commands answers last → (page : ℕ)
+    → WearsAtMost (moves answers) page old last.device
 wears_since_opening old store last commands answers opens plain run = λ page.
-    let end = last.point.device in
+    let end = last.device in
     let later =
     lines_age store end commands answers (run_open store last commands answers plain run).run in
     let opening =

@@ -8,35 +8,8 @@ use Rattle.ee_interface.specs.declared.script.answer.Answer.TheVariants.{Appende
 use Rattle.ee_interface.specs.declared.script.command.Command.{Command}
 use Rattle.ee_interface.specs.declared.script.command.Command.TheVariants.{Write, Read, Forget, Clean, Arm, PowerOn}
 use Rattle.ee_image_store.specs.Machine.{is_cut_answer, was_cut}
-use Rattle.ee_replay.specs.Desk.{Stand}
-use Rattle.ee_replay.specs.Serving.{ArmsItsFuse, CallAnswers, LineAnswers, PowerAnswers, UncutLineAnswers, serving_on, stand_on}
-use Rattle.ee_replay.proofs.Powering.{now_armed}
+use Rattle.ee_replay.specs.Serving.{LineAnswers, UncutLineAnswers, serving_on}
 use Rattle.ee_replay.proofs.Runs.{neither}
-
--- a line starts from a point, whatever is at hand
-pub from_point : (old from : Stand) (command : Command) (answer : Answer) (new : Stand)
-    → old.point ≡ from.point → LineAnswers old command answer new
-    → LineAnswers from command answer new
-from_point old from (Arm fuse) answer new at attends =
-    (attends.0, subst (λ (point : Point). ArmsItsFuse point fuse new) at attends.1)
-from_point old from PowerOn answer new at attends =
-    subst (λ (point : Point). PowerAnswers point.serving point.device answer new.point) at attends
-from_point old from (Write address value) answer new at attends =
-    subst
-    (λ (point : Point).
-    CallAnswers point.serving point.device (Write address value) answer new.point) at
-    attends
-from_point old from (Forget address) answer new at attends =
-    subst
-    (λ (point : Point).
-    CallAnswers point.serving point.device (Forget address) answer new.point) at attends
-from_point old from (Read address) answer new at attends =
-    subst
-    (λ (point : Point). CallAnswers point.serving point.device (Read address) answer new.point)
-    at attends
-from_point old from Clean answer new at attends =
-    subst (λ (point : Point). CallAnswers point.serving point.device Clean answer new.point) at
-    attends
 
 -- a line that is served by a store that is open, and leaves it open
 pub record IsServedOpen (old : Device) (command : Command) (answer : Answer) (new : Point)
@@ -44,10 +17,10 @@ pub record IsServedOpen (old : Device) (command : Command) (answer : Answer) (ne
   pub serves : UncutLineAnswers old command answer new.device
   pub still : new.serving ≡ true
 
-pub served_open : (old : Device) (command : Command) (answer : Answer) (new : Stand)
-    → is_cut_answer answer ≡ false → LineAnswers (stand_on old) command answer new
-    → IsServedOpen old command answer new.point
-served_open old (Arm fuse) Armed new plain attends = search (rules, now_armed)
+pub served_open : (old : Device) (command : Command) (answer : Answer) (new : Point)
+    → is_cut_answer answer ≡ false → LineAnswers (serving_on old) command answer new
+    → IsServedOpen old command answer new
+served_open old (Arm fuse) Armed new plain attends = search rules
 served_open old (Arm fuse) answer new plain attends = absurd (cc (attends.0))
 served_open old PowerOn Opened new plain attends = record {
   serves =
@@ -91,11 +64,11 @@ pub record IsRunOpen (old : Device) (commands : List Command) (answers : List An
 pub at_open : (point : Point) → point.serving ≡ true → point ≡ serving_on point.device
 at_open point still = rw still refl
 
-run_from : (device : Device) (old new : Stand) (commands : List Command) (answers : List Answer)
-    → was_cut answers ≡ false → old.point ≡ serving_on device
-    → Run LineAnswers old commands answers new → IsRunOpen device commands answers new.point
+run_from : (device : Device) (old new : Point) (commands : List Command) (answers : List Answer)
+    → was_cut answers ≡ false → old ≡ serving_on device
+    → Run LineAnswers old commands answers new → IsRunOpen device commands answers new
 run_from device old new [] [] plain at run =
-    let there = ap (λ (stand : Stand). stand.point) run ∙ at in
+    let there = run ∙ at in
     record {
       run = ap (λ (point : Point). point.device) there;
       still = ap (λ (point : Point). point.serving) there;
@@ -104,16 +77,16 @@ run_from device old new [] (answer ∷ answers) plain at run = absurd run
 run_from device old new (command ∷ commands) [] plain at run = absurd run
 run_from device old new (command ∷ commands) (answer ∷ answers) plain at run =
     let parts = neither (is_cut_answer answer) (was_cut answers) plain in
-    let mid = run.0.point in
+    let mid = run.0 in
     let here =
-    served_open device command answer run.0 parts.0
-    (from_point old (stand_on device) command answer run.0 at run.1) in
+    served_open device command answer mid parts.0
+    (subst (λ (point : Point). LineAnswers point command answer mid) at run.1) in
     let rest =
     run_from mid.device run.0 new commands answers parts.1 (at_open mid here.still) run.2 in
     record { run = (mid.device, here.serves, rest.run); still = rest.still }
 
-pub run_open : (device : Device) (new : Stand) (commands : List Command) (answers : List Answer)
-    → was_cut answers ≡ false → Run LineAnswers (stand_on device) commands answers new
-    → IsRunOpen device commands answers new.point
+pub run_open : (device : Device) (new : Point) (commands : List Command) (answers : List Answer)
+    → was_cut answers ≡ false → Run LineAnswers (serving_on device) commands answers new
+    → IsRunOpen device commands answers new
 run_open device new commands answers plain run =
-    run_from device (stand_on device) new commands answers plain refl run
+    run_from device (serving_on device) new commands answers plain refl run

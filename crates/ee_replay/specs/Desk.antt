@@ -1,7 +1,6 @@
 -- Where a desk is: its device, and whether a store is open on it.
-use Rattle.std.specs.Prelude.{◌≡◌, Bool, true, false, Option, Some, Err}
+use Rattle.std.specs.Prelude.{◌≡◌, Bool, true, false, Err}
 use Rattle.ee_flash.specs.Device.{Device, IsOn}
-use Rattle.ee_flash.specs.Memory.{Memory}
 use Rattle.ee_core.specs.Points.{Point, closed_point, open_point}
 use Rattle.ee_core.specs.Runs.{Call, Cleaned, DidRead, Follows, Forgot, Wrote}
 use Rattle.ee_core.specs.State.{state_of}
@@ -26,12 +25,3 @@ CallsAtDesk false old made new = IsOffCall made × (new ≡ closed_point old)
 pub record SaysTheSame (old new : Device) : Type 0 where
   pub same_size : new.size ≡ old.size
   pub state_is : state_of new ≡ state_of old
-
--- where a desk is, and the device in memory, with its fuse, where that is told
-pub record Stand : Type 0 where
-  pub point : Point
-  pub memory : Option Memory
-
--- of a desk with this device in memory
-abbrev pub stand_of : Memory → Stand
-stand_of memory = record { point = open_point memory.device; memory = Some memory }

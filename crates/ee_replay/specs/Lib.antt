@@ -1,8 +1,10 @@
 pub mod Kept
 pub mod Report
+pub mod Lines
 pub mod Serving
 pub mod Desk
 pub mod Either
 pub mod Replaying
 pub mod Reading
 pub mod ArmedCuts
+pub mod Outcomes

@@ -1,18 +1,20 @@
 -- How a script is served at a desk: on a device, with a store open on it or none.
-use Rattle.std.specs.Prelude.{◌≡◌, ◌≤◌, ◌+◌, ◌*◌, zero, ℕ, Bool, List, [], ◌∷◌, ◌++◌, length, Option, Some, None, Ok, Err, true, false, IsSomeAnd}
+use Rattle.std.specs.Prelude.{◌≡◌, ◌≤◌, ◌+◌, ◌*◌, zero, ℕ, Bool, List, [], ◌∷◌, ◌++◌, codes, if◌then◌else◌, length, Option, Some, None, Ok, Err, true, false, IsSomeAnd}
 use Rattle.std.specs.List.{list_any}
 use Rattle.ee_flash.specs.Device.{Device, IsOn}
-use Rattle.ee_flash.specs.Memory.{Memory, with_fuse}
+use Rattle.ee_flash.specs.Memory.{with_fuse}
 use Rattle.ee_flash.specs.Size.{slot_count}
+use Rattle.ee_flash.specs.Taking.{HasFuse}
 use Rattle.ee_flash.specs.declared.fuse.Fuse.{Fuse}
 use Rattle.ee_pages.specs.Legal.{IsLegal}
+use Rattle.ee_pages.specs.Meaning.{live_in}
 use Rattle.ee_core.specs.Changes.{greatest_generation}
 use Rattle.ee_core.specs.Points.{Point, closed_point, with_power_on}
 use Rattle.ee_core.specs.Finished.{IsStore}
 use Rattle.ee_core.specs.Openings.{IsCutOpening, Opens}
 use Rattle.ee_core.specs.Runs.{Call, Wrote, Forgot, DidRead, Follows, IsWholeRun, WearsAtMost}
 use Rattle.ee_core.specs.Runs as call
-use Rattle.ee_core.specs.State.{state_of}
+use Rattle.ee_core.specs.State.{State, state_of}
 use Rattle.ee_core.specs.declared.variables.ForgetFault.TheVariants as forgetting
 use Rattle.ee_core.specs.declared.variables.WriteFault.TheVariants as fault
 use Rattle.ee_core.specs.declared.variables.Written.{Written}
@@ -20,17 +22,19 @@ use Rattle.ee_core.specs.declared.variables.Written.TheVariants as written
 use Rattle.ee_check.specs.declared.certificate.Stretch.{Stretch}
 use Rattle.ee_check.specs.Certificate.{Claim, IsTight}
 use Rattle.ee_check.specs.Schedule.{IsProper, Situation}
+use Rattle.ee_check.specs.Text.{text_of}
 use Rattle.ee_plan.specs.Start.{IsStartOf}
 use Rattle.ee_interface.specs.declared.script.command.Command.{Command}
 use Rattle.ee_interface.specs.declared.script.command.Command.TheVariants.{Write, Read, Forget, Clean, Arm, PowerOn}
 use Rattle.ee_interface.specs.declared.script.answer.Answer.{Answer}
 use Rattle.ee_interface.specs.declared.script.answer.Answer.TheVariants.{Appended, Moved, Full, Spent, Cleaned, Idle, Value, NoValue, Absent, Armed, Cut, Off, Opened}
+use Rattle.ee_interface.specs.Script.Answer as script_answer
 use Rattle.ee_interface.specs.Script.Run.{Run}
 use Rattle.ee_interface.specs.Script.Whole.{IsAnswered}
 use Rattle.ee_image_store.specs.Erases.{ErasesRise, erases_of_all}
 use Rattle.ee_image_store.specs.Machine.{Desk, is_arming, was_cut}
-use Rattle.ee_replay.specs.Desk.{Stand}
-use Rattle.ee_replay.specs.Report.{IsDeskReported}
+use Rattle.ee_replay.specs.Lines.{answer_of, answers_of, armed_point, point_after, point_behind}
+use Rattle.ee_replay.specs.Report.{IsDeskReported, desk_line}
 use Rattle.ee_image_store.specs.Trace.{accepted_commands, moves, trace_of}
 
 -- ---- the calls of a store
@@ -71,10 +75,6 @@ calls_of commands answers = []
 
 -- ---- lines, one after another
 
--- with a cut to come
-abbrev pub with_cut_to_come : Device → Device
-with_cut_to_come device = record device { cuts_left = Some 1 }
-
 -- whether a cut is to come
 abbrev pub is_armed : Option ℕ → Bool
 is_armed (Some zero) = false
@@ -99,21 +99,11 @@ PowerAnswers false old Opened new = Opens (with_power_on old) new.device × (new
 PowerAnswers false old Cut new = IsCutOpening (with_power_on old) new.device × (new.serving ≡ false)
 PowerAnswers serving old answer new = ⊥
 
--- A line arms its fuse: behind it the device in memory is at hand, and is the one before it with
--- the line's fuse; a store is open on it if one was.
-pub record ArmsItsFuse (old : Point) (fuse : Fuse) (new : Stand) : Type 0 where
-  pub before : Memory
-  pub before_is : before.device ≡ old.device
-  pub at_hand : new.memory ≡ Some (with_fuse fuse before)
-  pub point_is : new.point ≡ record old { device = (with_fuse fuse before).device }
-
--- From this stand the command is answered so, and the desk has that one afterwards.
-abbrev pub LineAnswers : Stand → Command → Answer → Stand → Type 0
-LineAnswers old (Arm fuse) answer new = (answer ≡ Armed) × ArmsItsFuse old.point fuse new
-LineAnswers old PowerOn answer new =
-    PowerAnswers old.point.serving old.point.device answer new.point
-LineAnswers old command answer new =
-    CallAnswers old.point.serving old.point.device command answer new.point
+-- From this point the command is answered so, and the desk is at that one afterwards.
+abbrev pub LineAnswers : Point → Command → Answer → Point → Type 0
+LineAnswers old (Arm fuse) answer new = (answer ≡ Armed) × (new ≡ armed_point fuse old)
+LineAnswers old PowerOn answer new = PowerAnswers old.serving old.device answer new
+LineAnswers old command answer new = CallAnswers old.serving old.device command answer new
 
 -- the desk, as the report machine knows it
 abbrev pub desk_of : Point → Desk
@@ -127,23 +117,20 @@ desk_of point = record {
 abbrev pub serving_on : Device → Point
 serving_on device = record { serving = true; device = device }
 
--- and the device in memory is not at hand
-abbrev pub stand_on : Device → Stand
-stand_on device = record { point = serving_on device; memory = None }
-
 -- whether a line arms a cut
 abbrev pub is_armed_by : List Command → Bool
 is_armed_by commands = list_any is_arming commands
 
 -- What the lines made of a store that is open on a device on which no cut is to come: each made its
--- call, or armed a cut, or turned power on. Where no line was cut, each move left the pages of a
+-- call, or armed a cut, or turned power on, and was answered so and left that by the functions of
+-- the point before it. Where no line was cut, each move left the pages of a
 -- set to be erased, and any other answer none, and no page was erased more often than at every
 -- second move, by where it stood; and where no cut was armed either, it is a whole run of calls.
 pub record IsMade (old : Device) (commands : List Command) (answers : List Answer) (new : Point)
     : Type 0 where
-  pub last : Stand
-  pub last_is : last.point ≡ new
-  pub lines : Run LineAnswers (stand_on old) commands answers last
+  pub lines : Run LineAnswers (serving_on old) commands answers new
+  pub answers_are : answers ≡ answers_of commands (serving_on old)
+  pub point_is : new ≡ point_behind commands (serving_on old)
   pub erases : was_cut answers ≡ false → ErasesRise (erases_of_all old.size answers) old new.device
   pub wears : was_cut answers ≡ false → (page : ℕ) → WearsAtMost (moves answers) page old new.device
   pub calls : was_cut answers ≡ false → is_armed_by commands ≡ false
@@ -153,7 +140,7 @@ pub record IsMade (old : Device) (commands : List Command) (answers : List Answe
 
 -- the command is served by its call, or arms a cut, or opens what is open
 abbrev pub UncutLineAnswers : Device → Command → Answer → Device → Type 0
-UncutLineAnswers old (Arm fuse) Armed new = new ≡ with_cut_to_come old
+UncutLineAnswers old (Arm fuse) Armed new = new ≡ with_fuse fuse old
 UncutLineAnswers old PowerOn Opened new = new ≡ old
 UncutLineAnswers old command answer new =
     IsSomeAnd (call_of_command command answer) (λ made. Follows made old new)
@@ -190,6 +177,13 @@ notes_after Moved fill notes = record notes {
 notes_after Cut fill notes = record notes { cut = true }
 notes_after answer fill notes = notes
 
+-- and so is what was noted behind lines, one after another
+abbrev pub notes_behind : List Command → Point → Notes → Notes
+notes_behind [] old notes = notes
+notes_behind (command ∷ commands) old notes =
+    let new : Point = point_after command old in
+    notes_behind commands new (notes_after (answer_of command old) (state_of new.device).fill notes)
+
 -- the certificate of what was noted since this start
 abbrev pub claim_noted : Situation → Notes → Claim
 claim_noted start notes = record {
@@ -202,17 +196,18 @@ claim_noted start notes = record {
 
 -- where a desk is, and what is noted
 pub record Noted : Type 0 where
-  pub stand : Stand
+  pub point : Point
   pub notes : Notes
 
-abbrev pub with_notes : Stand → Notes → Noted
-with_notes stand notes = record { stand = stand; notes = notes }
+abbrev pub with_notes : Point → Notes → Noted
+with_notes point notes = record { point = point; notes = notes }
 
--- A line is served, and its answer is noted.
+-- A line is served, and its answer is noted. The fuse of the device is known.
 pub record LineIsNoted (old : Noted) (command : Command) (answer : Answer) (new : Noted)
     : Type 0 where
-  pub attends : LineAnswers old.stand command answer new.stand
-  pub notes_are : new.notes ≡ notes_after answer (state_of new.stand.point.device).fill old.notes
+  pub attends : LineAnswers old.point command answer new.point
+  pub notes_are : new.notes ≡ notes_after answer (state_of new.point.device).fill old.notes
+  pub fused : HasFuse new.point.device
 
 -- The count of the changes stays far below 64 bits: between two moves there are no more
 -- of them than slots.
@@ -234,9 +229,11 @@ pub record IsSound (point : Point) : Type 0 where
 -- changes that were accepted, from each start that is the old state's.
 pub record IsTraced (old : Device) (text : List ℕ) (new : Point) (notes : Notes) (lines : List ℕ)
     : Type 0 where
-  pub last : Stand
-  pub last_is : last.point ≡ new
-  pub answered : IsAnswered LineAnswers (stand_on old) text last lines
+  pub answered : IsAnswered LineAnswers (serving_on old) text new lines
+  pub answers_are : answered.answers ≡ answers_of answered.commands (serving_on old)
+  pub point_is : new ≡ point_behind answered.commands (serving_on old)
+  pub notes_are : notes
+      ≡ notes_behind answered.commands (serving_on old) (no_notes (state_of old).fill)
   pub transfers : length notes.stretches ≡ moves answered.answers
   pub cut : notes.cut ≡ was_cut answered.answers
   pub tight : was_cut answered.answers ≡ false → (start : Situation)
@@ -244,9 +241,38 @@ pub record IsTraced (old : Device) (text : List ℕ) (new : Point) (notes : Note
       → IsTight start (trace_of (accepted_commands answered.commands answered.answers))
       (claim_noted start notes)
 
+-- ---- the report as a function
+
+-- what is claimed by what was noted since this state, in so many slots
+abbrev pub claim_since : ℕ → State → Notes → Claim
+claim_since slots start notes = record {
+  slots = slots;
+  fill = start.fill;
+  live = live_in start.map;
+  writes = notes.changes;
+  stretches = notes.stretches;
+}
+
+-- the text of the certificate; there is none after a cut
+abbrev pub certificate_text : ℕ → State → Notes → List ℕ
+certificate_text slots start notes =
+    if notes.cut then codes "no certificate\n" else text_of (claim_since slots start notes)
+
+-- the report of these lines on a store that is open on this device: the answers, how the desk
+-- stands, and the certificate
+abbrev pub report_of : Device → List Command → List ℕ
+report_of old commands =
+    let slots : ℕ = slot_count old.size in
+    let last : Point = point_behind commands (serving_on old) in
+    let notes : Notes = notes_behind commands (serving_on old) (no_notes (state_of old).fill) in
+    script_answer.report (answers_of commands (serving_on old))
+    ++ (desk_line slots last.serving (state_of last.device) (length notes.stretches)
+    ++ certificate_text slots (state_of old) notes)
+
 -- A script was answered from a store that is open to a point, with the whole report of a run from
--- the one's state to the other's.
+-- the one's state to the other's; it is the function's.
 pub record IsServed (old : Device) (text : List ℕ) (new : Point) (reported : List ℕ) : Type 0 where
   pub report : IsDeskReported old.size (state_of old) text (desk_of new) reported
   pub made : IsMade old report.commands report.answers new
+  pub report_is : reported ≡ report_of old report.commands
   pub same_size : new.device.size ≡ old.size

@@ -6,6 +6,7 @@ ghost use Rattle.std.specs.Prelude.{◌≡◌, IfErr, IfOk, OnOk};
 ghost use Rattle.ee_flash.specs.Device.{IsOn};
 ghost use Rattle.ee_flash.specs.Memory.{with_fuse};
 ghost use Rattle.ee_flash.specs.Size.{slot_count};
+ghost use Rattle.ee_flash.specs.Taking.{HasFuse};
 ghost use Rattle.ee_core.specs.Finished.{IsStore};
 ghost use Rattle.ee_core.specs.Points.{open_point};
 ghost use Rattle.ee_core.specs.Runs.{Cleaned, DidRead, Forgot, Wrote};
@@ -50,13 +51,14 @@ pub(crate) struct Desk<A: Allocator + Copy = Global> {
 }
 
 impl<A: Allocator + Copy> Model for Desk<A> {
-    ghost use Rattle.ee_flash.specs.Memory.{Memory, device_of, memory_of};
+    ghost use Rattle.ee_flash.specs.Device.{Device};
+    ghost use Rattle.ee_flash.specs.Memory.{device_of};
     ghost use Rattle.ee_core.specs.Known.{Knows};
     ghost use Rattle.ee_replay.specs.Either.{FitsEither};
 
-    ghost Value = { Memory };
+    ghost Value = { Device };
 
-    ghost view = { λ desk. memory_of desk.flash };
+    ghost view = { λ desk. device_of desk.flash };
 
     ghost invariant = { λ desk. Knows FitsEither (device_of desk.flash) desk.known };
 }
@@ -64,7 +66,7 @@ impl<A: Allocator + Copy> Model for Desk<A> {
 impl<A: Allocator + Copy> Desk<A> {
     /// A desk with this store, whose values are found through the slots.
     pub(crate) fn of(store: Store<MemFlash<A>>) -> Desk<A>
-        ensures { result.device ≡ store }
+        ensures { result ≡ store }
     {
         let (flash, known) = parts_of(store);
         let lookup = EitherLookup::Slots(known.lookup);
@@ -81,7 +83,7 @@ impl<A: Allocator + Copy> Desk<A> {
 
     /// The store of the image that a text spells, whose values are found so.
     pub(crate) fn open(alloc: A, image: &[u8], kind: Kind) -> Result<Desk<A>, ReplayFault>
-        ensures opened { IfOk result (λ desk. IsOpened image.now desk.device) }
+        ensures opened { IfOk result (λ desk. IsOpened image.now desk) }
         ensures fault { IfErr result (IsOpenFault image.now) }
     {
         let mut desk = Desk::of(open_image(alloc, image)?);
@@ -94,11 +96,12 @@ impl<A: Allocator + Copy> Desk<A> {
 
     /// The same desk, and what its store gives a trace to start from.
     pub(crate) fn started(self, alloc: A) -> Result<(Desk<A>, Start<A>), AllocError>
-        requires { IsOn self.device }
+        requires { IsOn self }
         ensures start { IfOk result (λ started.
-            IsStartOf (slot_count self.device.size) (state_of self.device) started.1) }
-        ensures same { IfOk result (λ started. started.0.device ≡ self.device) }
-        ensures store { OnOk result (IsStore self.device) }
+            IsStartOf (slot_count self.size) (state_of self) started.1) }
+        ensures same { IfOk result (λ started. started.0 ≡ self) }
+        ensures fused { OnOk result (HasFuse self) }
+        ensures store { OnOk result (IsStore self) }
     {
         let costs = self.costs;
         let store = self.into_store();
@@ -114,7 +117,7 @@ impl<A: Allocator + Copy> Desk<A> {
 
     /// The store.
     pub(crate) fn into_store(self) -> Store<MemFlash<A>, EitherLookup<A>>
-        ensures { result ≡ self.device }
+        ensures { result ≡ self }
     {
         store_of(self.flash, self.known)
     }
@@ -122,47 +125,52 @@ impl<A: Allocator + Copy> Desk<A> {
     /// Writes.
     #[inline(always)]
     pub(crate) fn write(&mut self, address: Address, value: u32) -> Result<Written, WriteFault>
-        ensures { let old = self.old.device in CallsAtDesk old.on old
-            (Wrote address value result) (open_point self.new.device) }
+        ensures calls { let old = self.old in CallsAtDesk old.on old
+            (Wrote address value result) (open_point self.new) }
+        ensures fused { HasFuse self.new }
     {
         self.known.write(&mut self.flash, address, value)
     }
 
     /// Forgets.
     pub(crate) fn forget(&mut self, address: Address) -> Result<Written, ForgetFault>
-        ensures { let old = self.old.device in CallsAtDesk old.on old
-            (Forgot address result) (open_point self.new.device) }
+        ensures calls { let old = self.old in CallsAtDesk old.on old
+            (Forgot address result) (open_point self.new) }
+        ensures fused { HasFuse self.new }
     {
         self.known.forget(&mut self.flash, address)
     }
 
     /// Takes a clean step.
     pub(crate) fn clean_step(&mut self) -> Result<bool, WriteFault>
-        ensures { let old = self.old.device in CallsAtDesk old.on old
-            (Cleaned result) (open_point self.new.device) }
+        ensures calls { let old = self.old in CallsAtDesk old.on old
+            (Cleaned result) (open_point self.new) }
+        ensures fused { HasFuse self.new }
     {
         self.known.clean_step(&mut self.flash)
     }
 
     /// Reads.
     pub(crate) fn read(&self, address: Address) -> Result<Option<u32>, Off>
-        ensures { let old = self.now.device in CallsAtDesk old.on old
+        ensures calls { let old = self.now in CallsAtDesk old.on old
             (DidRead address result) (open_point old) }
+        ensures fused { HasFuse self.now }
     {
         self.known.read(&self.flash, address)
     }
 
     /// How many slots are used.
     pub(crate) fn fill(&self) -> usize
-        requires { IsOn self.now.device }
-        ensures { result ≡ (state_of self.now.device).fill }
+        requires { IsOn self.now }
+        ensures { result ≡ (state_of self.now).fill }
     {
         self.known.layout.fill
     }
 
     /// Arms a cut.
     pub(crate) fn arm(&mut self, fuse: Fuse)
-        ensures { self.new ≡ with_fuse fuse self.old }
+        ensures armed { self.new ≡ with_fuse fuse self.old }
+        ensures fused { HasFuse self.new }
     {
         self.flash.arm(fuse)
     }
@@ -170,9 +178,10 @@ impl<A: Allocator + Copy> Desk<A> {
     /// Turns power on and opens the store, whose values are found so, which changes nothing where
     /// one is open. An error says that memory ran out.
     pub(crate) fn power_on(&mut self, alloc: A, kind: Kind) -> Result<Answer, AllocError>
-        ensures powers { let old = self.old.device in IfOk result
-            (λ answer. PowerAnswers old.on old answer (open_point self.new.device)) }
-        ensures same { SaysTheSame self.old.device self.new.device }
+        ensures powers { let old = self.old in IfOk result
+            (λ answer. PowerAnswers old.on old answer (open_point self.new)) }
+        ensures same { SaysTheSame self.old self.new }
+        ensures fused { HasFuse self.new }
     {
         if self.flash.is_on() {
             return Ok(Answer::Opened);
@@ -283,7 +292,7 @@ impl<A: Allocator + Copy> Desk<A> {
 
     /// Goes on with an index. An error says that memory is refused: costs are counted anew then.
     fn make_index(&mut self, alloc: A) -> Result<(), AllocError>
-        requires { IsOn self.old.device }
+        requires { IsOn self.old }
         ensures { self.new ≡ self.old }
     {
         match index_of(alloc, &self.flash, &self.known.layout) {

@@ -11,13 +11,14 @@
 //!
 //! # What is proved
 //!
-//! The answers are a run of the machine from the store that the text spells to the one whose text
-//! the new image is, by the clause of each call, whole or cut (`replayed`, `tried`); whatever is
-//! cut, an answered change is kept and each read is the map at its point (`kept`). Where no line is
-//! answered `cut`, the moves are the fewest, and the certificate says so (`uncut`). Or the first
-//! cause is named that applies, and none is passed over (`fault`, `names`, `bad`). `laws`: a change
-//! that was answered is in the new image, unless a later line changes its address; a fuse cuts once
-//! at most.
+//! The new image and the report are a function of the image and the script, cuts included
+//! (`leaves` of `replayed` and `tried`; `specs/Lines.antt`). The answers are a run of the machine
+//! from the store that the text spells to the one whose text the new image is, by the clause of
+//! each call; whatever is cut, an answered change is kept and each read is the map at its point
+//! (`kept`). Where no line is answered `cut`, the moves are the fewest, and the certificate says so
+//! (`uncut`). Or the first cause is named that applies, and none is passed over (`fault`, `names`,
+//! `bad`). `laws`: a change that was answered is in the new image, unless a later line changes its
+//! address; a fuse cuts once at most; texts decide what is left (`one_outcome`, `one_try`).
 //!
 //! # What is only tested
 //!
@@ -25,7 +26,7 @@
 //!
 //! # Read first
 //!
-//! `specs/Replaying.antt`, `specs/Report.antt`.
+//! `specs/Lines.antt`, `specs/Replaying.antt`, `specs/Report.antt`.
 #![tactic(auto)]
 
 mod desk;

@@ -170,9 +170,9 @@ fn run_on<A: Allocator + Copy>(
     kind: Kind,
     script: &[u8],
 ) -> Result<Replayed<A>, ReplayFault>
-    requires { StaysOn desk.device }
+    requires { StaysOn desk }
     ensures run { IfOk result (λ replayed.
-        IsRunOn desk.device script.now replayed.image.items replayed.report.items) }
+        IsRunOn desk script.now replayed.image.items replayed.report.items) }
     ensures fault { IfErr result (IsRunFault script.now) }
 {
     let (desk, start) = desk.started(alloc)?;
@@ -187,10 +187,10 @@ fn run_reader<A: Allocator + Copy, R: Read>(
     desk: Desk<A>,
     reader: &mut R,
 ) -> Result<Replayed<A>, ReplayFault>
-    requires { StaysOn desk.device }
+    requires { StaysOn desk }
     ensures run { IfOk result (λ replayed. (script : List ℕ)
         × IsGiven (R.remaining reader.old) (R.remaining reader.new) script
-        × IsRunOn desk.device script replayed.image.items replayed.report.items) }
+        × IsRunOn desk script replayed.image.items replayed.report.items) }
     ensures fault { IfErr result
         (IsNotAnswered (R.remaining reader.old) (R.remaining reader.new)) }
 {
@@ -209,7 +209,7 @@ fn left_by<A: Allocator + Copy>(
     lines: Vec<u8, A>,
 ) -> Result<Replayed<A>, ReplayFault>
     ensures run { IfOk result (λ replayed. (old : Device) (script : List ℕ)
-        → IsTraced old script (open_point server.desk.device) server.notes lines.items
+        → IsTraced old script (open_point server.desk) server.notes lines.items
         → IsStartOf (slot_count old.size) (state_of old) start.now → IsProper start.now
         → StaysOn old
         → IsRunOn old script replayed.image.items replayed.report.items) }

@@ -4,7 +4,6 @@ ghost use Rattle.ee_interface.specs.declared.script.command.Command.TheVariants.
 ghost use Rattle.ee_core.specs.Finished.{IsStore};
 ghost use Rattle.ee_core.specs.Points.{open_point};
 ghost use Rattle.ee_core.specs.State.{state_of};
-ghost use Rattle.ee_replay.specs.Desk.{stand_of};
 ghost use Rattle.ee_replay.specs.Serving.{IsCounted, no_notes, serving_on};
 ghost use Rattle.ee_image_store.specs.Opening.{StaysOn};
 
@@ -27,7 +26,7 @@ pub(crate) struct Server<A: Allocator + Copy = Global> {
     /// How many changes were accepted, the stretches of their certificate, and
     /// whether power was cut.
     pub(crate) notes: Notes<A>,
-    ghost counted: { IsCounted desk.device notes },
+    ghost counted: { IsCounted desk notes },
 }
 
 impl<A: Allocator + Copy> Server<A> {
@@ -35,10 +34,10 @@ impl<A: Allocator + Copy> Server<A> {
 
     /// What serves at this desk before the first command. Values are found so.
     pub(crate) fn new(alloc: A, desk: Desk<A>, kind: Kind) -> Server<A>
-        requires on { StaysOn desk.device }
-        requires legal { IsStore desk.device }
-        ensures point { open_point result.desk.device ≡ serving_on desk.device }
-        ensures notes { result.notes ≡ no_notes (state_of desk.device).fill }
+        requires on { StaysOn desk }
+        requires legal { IsStore desk }
+        ensures point { open_point result.desk ≡ serving_on desk }
+        ensures notes { result.notes ≡ no_notes (state_of desk).fill }
     {
         let notes = Notes::new(alloc, desk.fill() as u64);
         Server {
@@ -52,8 +51,8 @@ impl<A: Allocator + Copy> Server<A> {
     /// Writes, as a line of a script says. An error says that memory ran out.
     fn write(&mut self, address: Address, value: u32) -> Result<Answer, AllocError>
         ensures { IfOk result (λ answer. LineIsNoted
-            (with_notes (stand_of self.old.desk) self.old.notes) (Write address value)
-            answer (with_notes (stand_of self.new.desk) self.new.notes)) }
+            (with_notes (open_point self.old.desk) self.old.notes) (Write address value)
+            answer (with_notes (open_point self.new.desk) self.new.notes)) }
     {
         match self.desk.write(address, value) {
             Ok(written) => {
@@ -71,8 +70,8 @@ impl<A: Allocator + Copy> Server<A> {
     /// Forgets, as a line of a script says. An error says that memory ran out.
     fn forget(&mut self, address: Address) -> Result<Answer, AllocError>
         ensures { IfOk result (λ answer. LineIsNoted
-            (with_notes (stand_of self.old.desk) self.old.notes) (Forget address)
-            answer (with_notes (stand_of self.new.desk) self.new.notes)) }
+            (with_notes (open_point self.old.desk) self.old.notes) (Forget address)
+            answer (with_notes (open_point self.new.desk) self.new.notes)) }
     {
         match self.desk.forget(address) {
             Ok(written) => {
@@ -89,8 +88,8 @@ impl<A: Allocator + Copy> Server<A> {
     /// Reads.
     fn read(&mut self, address: Address) -> Answer
         ensures { LineIsNoted
-            (with_notes (stand_of self.old.desk) self.old.notes) (Read address)
-            result (with_notes (stand_of self.new.desk) self.new.notes) }
+            (with_notes (open_point self.old.desk) self.old.notes) (Read address)
+            result (with_notes (open_point self.new.desk) self.new.notes) }
     {
         match self.desk.read(address) {
             Ok(Some(value)) => Answer::Value(value),
@@ -102,8 +101,8 @@ impl<A: Allocator + Copy> Server<A> {
     /// Takes a clean step.
     fn clean(&mut self) -> Answer
         ensures { LineIsNoted
-            (with_notes (stand_of self.old.desk) self.old.notes) Clean
-            result (with_notes (stand_of self.new.desk) self.new.notes) }
+            (with_notes (open_point self.old.desk) self.old.notes) Clean
+            result (with_notes (open_point self.new.desk) self.new.notes) }
     {
         match self.desk.clean_step() {
             Ok(true) => Answer::Cleaned,
@@ -117,8 +116,8 @@ impl<A: Allocator + Copy> Server<A> {
     /// Arms a cut.
     fn arm(&mut self, fuse: Fuse) -> Answer
         ensures { LineIsNoted
-            (with_notes (stand_of self.old.desk) self.old.notes) (Arm fuse)
-            result (with_notes (stand_of self.new.desk) self.new.notes) }
+            (with_notes (open_point self.old.desk) self.old.notes) (Arm fuse)
+            result (with_notes (open_point self.new.desk) self.new.notes) }
     {
         self.desk.arm(fuse);
         Answer::Armed
@@ -127,8 +126,8 @@ impl<A: Allocator + Copy> Server<A> {
     /// Turns power on and opens the store. An error says that memory ran out.
     fn power_on(&mut self) -> Result<Answer, AllocError>
         ensures { IfOk result (λ answer. LineIsNoted
-            (with_notes (stand_of self.old.desk) self.old.notes) PowerOn
-            answer (with_notes (stand_of self.new.desk) self.new.notes)) }
+            (with_notes (open_point self.old.desk) self.old.notes) PowerOn
+            answer (with_notes (open_point self.new.desk) self.new.notes)) }
     {
         match self.desk.power_on(self.alloc, self.kind) {
             Ok(Answer::Cut) => Ok(self.notes.note_cut()),
@@ -163,8 +162,8 @@ impl<A: Allocator + Copy> Serve for Server<A> {
     ghost use Rattle.ee_replay.specs.Serving.{LineIsNoted, with_notes};
 
     ghost serves = { λ old command answer new.
-        LineIsNoted (with_notes (stand_of old.desk) old.notes) command answer
-        (with_notes (stand_of new.desk) new.notes) };
+        LineIsNoted (with_notes (open_point old.desk) old.notes) command answer
+        (with_notes (open_point new.desk) new.notes) };
 
     fn serve(&mut self, command: Command) -> Result<Answer, AllocError> {
         match command {

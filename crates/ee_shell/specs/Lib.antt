@@ -9,11 +9,13 @@ pub use Rattle.ee_image_store.specs.Opening
 pub use Rattle.ee_image_store.specs.FileFaults
 pub use Rattle.ee_replay.specs.Kept
 pub use Rattle.ee_replay.specs.Report
+pub use Rattle.ee_replay.specs.Lines
 pub use Rattle.ee_replay.specs.Serving
 pub use Rattle.ee_replay.specs.Desk
 pub use Rattle.ee_replay.specs.Replaying
 pub use Rattle.ee_replay.specs.Reading
 pub use Rattle.ee_replay.specs.ArmedCuts
+pub use Rattle.ee_replay.specs.Outcomes
 pub use Rattle.ee_commands.specs.Images
 pub use Rattle.ee_commands.specs.Wear
 pub use Rattle.ee_commands.specs.Planning

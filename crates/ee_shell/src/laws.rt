@@ -4,4 +4,4 @@
 pub use ee_commands::laws::{
     each_size_is_made_as_told, each_size_moves_as_told, each_size_wears_as_told,
 };
-pub use ee_replay::laws::{an_answered_change_stays, cuts_are_armed};
+pub use ee_replay::laws::{an_answered_change_stays, cuts_are_armed, one_outcome, one_try};

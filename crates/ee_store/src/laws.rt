@@ -1,7 +1,9 @@
 //! What holds of every run of calls, of the images that they leave, and of every list of events.
 //! Each function does nothing: its contract is the law.
 
-pub use crate::power_cuts::laws::{a_kept_change_stays, no_answered_change_is_lost};
+pub use crate::power_cuts::laws::{
+    a_kept_change_stays, no_answered_change_is_lost, none_is_lost_from_none,
+};
 pub use ee_core::laws::{
     clean_runs_erase_sets, each_page_wears_every_second_transfer, each_transfer_erases_a_set,
     held_through_cuts, lists_are_there, moved_words_are_live, no_page_wears_more,

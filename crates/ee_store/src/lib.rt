@@ -10,9 +10,10 @@
 //! # What is proved
 //!
 //! Of the calls what the heads of their crates say. `drive` puts any list of events to a store,
-//! openings and power cuts among them: each is answered by the clause of its call, and from any
-//! legal image no change that was answered is lost, whatever is cut and however often; of values
-//! written at once that met a cut all are there, or none (`driven`, `no_answered_change_is_lost`,
+//! openings, starts and power cuts among them: each is answered by the clause of its call, and from
+//! any legal image, and from a part on which no value was ever stored, no change that was answered
+//! is lost, whatever is cut and however often; of values written at once that met a cut all are
+//! there, or none (`driven`, `no_answered_change_is_lost`, `none_is_lost_from_none`,
 //! `a_kept_change_stays`). Where memory for the answers is refused, the device is as it was
 //! (`refused`).
 //!

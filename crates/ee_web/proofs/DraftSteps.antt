@@ -14,6 +14,7 @@ use Rattle.std.proofs.lemmas.Nat.{mul-add-lt}
 use Rattle.std.proofs.lemmas.Bool.Decides.{nat_tests}
 use Rattle.std.proofs.lemmas.List.Elements.{All-append, All-cons, All-nil}
 use Rattle.ee_flash.specs.Device.{Device, IsBelowAllOnes, IsFormed, all_ones, word_at}
+use Rattle.ee_flash.specs.declared.fuse.Fuse.{Fuse}
 use Rattle.ee_flash.specs.Laws.{CanTake, all_completed}
 use Rattle.ee_flash.specs.Size.{Size, page_count}
 use Rattle.ee_flash.specs.Step.{Step, Program, Erase, device_after, with_page_erased, one_more, with_word_programmed, with_page_worn}
@@ -22,7 +23,7 @@ use Rattle.ee_flash.proofs.Public.{all_completed_on, get_or-pages_of}
 use Rattle.ee_flash.specs.Endurance.{CanTakeAll}
 use Rattle.ee_web.specs.Calls.{WearsOnceMore}
 use Rattle.ee_web.specs.Draft.{IsFresh, drafted_device}
-use Rattle.ee_web.specs.DraftLaws.{all_formed, one_more_step, one_more_taken, same_cuts, same_cuts_left, same_size}
+use Rattle.ee_web.specs.DraftLaws.{all_formed, one_more_step, one_more_taken, same_cuts, same_cuts_left, same_fuse, same_size}
 use Rattle.ee_web.specs.Mirror.{cells_of, word_of_number}
 use Rattle.ee_flash.specs.declared.word.Word.{Word}
 use Rattle.ee_flash.specs.declared.word.Word.TheVariants.{Erased}
@@ -333,6 +334,10 @@ drafted_whole start steps wear cuts on fresh whole none =
     { size = last.size; cuts_left = left })
     (sym (same_cuts_left steps start ∙ fresh.any_cuts))
     ∙ ap
+    (λ (known : Option (Option Fuse)). record (drafted_device start steps last.wear last.cuts on)
+    { size = last.size; cuts_left = last.cuts_left; fuse = known })
+    (sym (same_fuse steps start fresh.no_fuse_known))
+    ∙ ap
     (λ (power : Bool). record (drafted_device start steps last.wear last.cuts power)
-    { size = last.size; cuts_left = last.cuts_left })
+    { size = last.size; cuts_left = last.cuts_left; fuse = last.fuse })
     (same.1 ∙ sym (all_completed_on steps start ∙ fresh.on))

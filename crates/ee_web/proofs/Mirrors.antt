@@ -53,4 +53,5 @@ fresh_device size words flags wears mirror words_fit wears_fit =
       on = refl;
       never_cut = refl;
       any_cuts = refl;
+      no_fuse_known = refl;
     }

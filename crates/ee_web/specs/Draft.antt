@@ -10,6 +10,7 @@ pub record IsFresh (device : Device) : Type 0 where
   pub on : IsOn device
   pub never_cut : device.cuts ≡ 0
   pub any_cuts : device.cuts_left ≡ None
+  pub no_fuse_known : device.fuse ≡ None
 
 -- the device after the listed steps, with its wears, its cuts and its power, which a step that
 -- found no place in the list has changed
@@ -20,5 +21,6 @@ drafted_device start steps wear cuts on = record {
   wear = wear;
   cuts = cuts;
   cuts_left = None;
+  fuse = None;
   on = on;
 }

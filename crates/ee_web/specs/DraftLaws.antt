@@ -1,9 +1,10 @@
 -- Why a draft is formed, and what listing one more step does to it.
-use Rattle.std.specs.Prelude.{◌≡◌, ◌≤◌, ℕ, Bool, List, [], ◌∷◌, ◌++◌, length}
+use Rattle.std.specs.Prelude.{◌≡◌, ◌≤◌, ℕ, Bool, None, List, [], ◌∷◌, ◌++◌, length}
 use Rattle.std.specs.List.{All}
 use Rattle.std.proofs.Common.{refl, subst, ap, ◌∙◌}
 use Rattle.std.proofs.lemmas.Option.{none-some}
 use Rattle.ee_flash.specs.Device.{Device, IsFormed, IsOn, all_ones}
+use Rattle.ee_flash.specs.Fuse.{known_after}
 use Rattle.ee_flash.specs.Laws.{CanTake, all_completed}
 use Rattle.ee_flash.specs.Size.{Size, page_count}
 use Rattle.ee_flash.specs.Step.{Step, Program, Erase, device_after}
@@ -37,6 +38,17 @@ pub same_cuts_left : (steps : List Step) (device : Device)
 same_cuts_left [] device = refl
 same_cuts_left (step ∷ steps) device =
     same_cuts_left steps (device_after step device) ∙ completed_cuts_left step device
+
+completed_fuse : (step : Step) (device : Device) → device.fuse ≡ None
+    → (device_after step device).fuse ≡ None
+completed_fuse (Program page at value) device none = ap known_after none
+completed_fuse (Erase page) device none = ap known_after none
+
+pub same_fuse : (steps : List Step) (device : Device) → device.fuse ≡ None
+    → (all_completed steps device).fuse ≡ None
+same_fuse [] device none = none
+same_fuse (step ∷ steps) device none =
+    same_fuse steps (device_after step device) (completed_fuse step device none)
 
 pub all_formed : (steps : List Step) (device : Device) → IsFormed device → IsOn device
     → CanTakeAll steps device → IsFormed (all_completed steps device)

@@ -34,6 +34,7 @@ mirrored_device size words flags wears = record {
   wear = wears;
   cuts = 0;
   cuts_left = None;
+  fuse = None;
   on = true;
 }
 

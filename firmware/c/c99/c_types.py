@@ -38,7 +38,7 @@ SHORT = {
     "AddressAndIndex": "Placed",
 }
 # What a call that may fail makes where its caller says, and what no caller asks for.
-PLACED, DROPPED = {"Layout"}, {"Written"}
+PLACED, DROPPED = {"Layout", "CopyingPlace"}, {"Written"}
 # Types that are written by hand.
 HAND = {"Device", "Numbers", "Lookup"}
 # Names of those in ee.h that no item has: a tuple, and a list of such.

@@ -6,6 +6,9 @@ static struct ee_power *power_of(const ee_store *memory) {
     return &((ee_store *)memory)->memory.parts.power;
 }
 
+/* What a call that changes it takes of a store. */
+static Store *store_of(ee_store *memory) { return &memory->memory.parts.store; }
+
 /* Begins a call on a store, with an address of it; of a call that has none it is 1. EE_OK, or why
  * not. A copy of a store has the place of that store, and is off. */
 static ee_result begun(const ee_store *memory, uint16_t address) {
@@ -36,6 +39,15 @@ static ee_result ended(ee_result status, const ee_store *memory) {
     return status;
 }
 
+/* The same of a call with a list, each of whose addresses has to be one. */
+static ee_result begun_with_list(const ee_store *memory, const ee_value *values, uint32_t count) {
+    ee_result status = begun_with(memory, 1u, values);
+    for (uint32_t at = 0u; status == EE_OK && at < count; at++) {
+        if (!address_new(values[at].address).some) { status = ended(EE_WRONG_NUMBER, memory); }
+    }
+    return status;
+}
+
 /* Makes the device of a flash, on where the members of that are in range; else says why not. */
 static ee_result device_in(ee_store *memory, const ee_flash *flash) {
     if (memory == NULL) { return EE_NULL; }
@@ -47,14 +59,14 @@ static ee_result device_in(ee_store *memory, const ee_flash *flash) {
     const MaybeShape shape = shape_new(flash->pages, flash->page_words);
     if (!shape.some || flash->kind > EE_GREATEST_KIND) { return EE_WRONG_SHAPE; }
     power->flash = flash;
-    memory->memory.parts.store.flash = (Device){ .power = power, .shape = shape.value };
+    store_of(memory)->flash = (Device){ .power = power, .shape = shape.value };
     return EE_OK;
 }
 
 /* An opening ends with this status: the store is off unless it is EE_OK. */
 EE_APART ee_result opening_ended(ee_result status, ee_store *memory) {
     struct ee_power *const power = power_of(memory);
-    Store *const store = &memory->memory.parts.store;
+    Store *const store = store_of(memory);
     store->known.lookup = NULL;
 #ifdef EE_INDEX
     if (status == EE_OK && power->flash != NULL && power->flash->index != NULL) {
@@ -82,19 +94,16 @@ EE_APART bool holds_more(const Device *device, bool clears_first) {
  * before, unless its erases clear first: EE_FOREIGN where a word is no store's. Where it holds more
  * than a first start leaves it is opened, and no first store made there. */
 static ee_result started(ee_store *memory, const ee_flash *flash, bool may_be_new) {
-    ee_result status = device_in(memory, flash);
-    if (status != EE_OK) { return status; }
-    Device *const device = &memory->memory.parts.store.flash;
-    Layout *const layout = &memory->memory.parts.store.known.layout;
-    if (EE_IS_OF_PAIRS(flash) && flash->kind == EE_PAIRS && first_low(device).some) {
-        status = EE_FOREIGN;
-    } else if (may_be_new && !(EE_IS_OF_PAIRS(flash) &&
-            holds_more(device, flash->kind == EE_PAIRS_CLEARING))) {
-        status = start_on(device, layout);
-    } else {
-        status = open_on(device, layout);
+    const ee_result refused = device_in(memory, flash);
+    if (refused != EE_OK) { return refused; }
+    Device *const device = &store_of(memory)->flash;
+    Layout *const layout = &store_of(memory)->known.layout;
+    if (EE_IS_OF_PAIRS(flash)) {
+        const bool clears_first = flash->kind == EE_PAIRS_CLEARING;
+        if (!clears_first && first_low(device).some) { return opening_ended(EE_FOREIGN, memory); }
+        may_be_new = may_be_new && !holds_more(device, clears_first);
     }
-    return opening_ended(status, memory);
+    return opening_ended(may_be_new ? start_on(device, layout) : open_on(device, layout), memory);
 }
 
 ee_result ee_start(ee_store *store, const ee_flash *flash) { return started(store, flash, true); }
@@ -106,7 +115,7 @@ ee_result ee_open(ee_store *store, const ee_flash *flash) { return started(store
 ee_result ee_format(ee_store *store, const ee_flash *flash) {
     const ee_result refused = device_in(store, flash);
     if (refused != EE_OK) { return refused; }
-    Store *const kept = &store->memory.parts.store;
+    Store *const kept = store_of(store);
     const Step step = write_format(&kept->flash, &kept->known.layout);
     return opening_ended(step == DONE ? EE_OK : EE_DRIVER, store);
 }
@@ -117,7 +126,7 @@ ee_result ee_format(ee_store *store, const ee_flash *flash) {
 ee_result ee_rescue(ee_store *store, const ee_flash *flash) {
     const ee_result refused = device_in(store, flash);
     if (refused != EE_OK) { return refused; }
-    Store *const kept = &store->memory.parts.store;
+    Store *const kept = store_of(store);
     const MaybeSide side = rescued_side(&kept->flash);
     if (!side.some) { return opening_ended(EE_NOTHING, store); }
     const uint32_t generation = named_generation(&kept->flash, side.value);
@@ -164,42 +173,32 @@ ee_result ee_foreign_word(const ee_flash *flash, uint32_t *page, uint32_t *word)
 
 ee_result ee_write(ee_store *store, uint16_t address, uint32_t value) {
     const ee_result refused = begun(store, address);
-    if (refused != EE_OK) { return refused; }
-    return ended(store_write(&store->memory.parts.store, address, value), store);
-}
-
-static bool are_addresses(const ee_value *values, uint32_t count) {
-    uint32_t at = 0u;
-    while (at < count && address_new(values[at].address).some) { at++; }
-    return at == count;
+    return refused != EE_OK ? refused : ended(store_write(store_of(store), address, value), store);
 }
 
 #ifndef EE_NO_LISTS
 ee_result ee_write_all(ee_store *store, const ee_value *values, uint32_t count) {
-    const ee_result refused = begun_with(store, 1u, values);
-    if (refused != EE_OK) { return refused; }
-    if (!are_addresses(values, count)) { return ended(EE_WRONG_NUMBER, store); }
-    return ended(store_write_all(&store->memory.parts.store, values, count), store);
+    const ee_result refused = begun_with_list(store, values, count);
+    return refused != EE_OK ? refused : ended(store_write_all(store_of(store), values, count), store);
 }
 #endif
 
 #ifndef EE_NO_FORGET
 ee_result ee_forget(ee_store *store, uint16_t address) {
     const ee_result refused = begun(store, address);
-    if (refused != EE_OK) { return refused; }
-    return ended(store_forget(&store->memory.parts.store, address), store);
+    return refused != EE_OK ? refused : ended(store_forget(store_of(store), address), store);
 }
 
 ee_result ee_forget_all(ee_store *store) {
     const ee_result refused = begun(store, 1u);
-    return refused != EE_OK ? refused : ended(store_clear(&store->memory.parts.store), store);
+    return refused != EE_OK ? refused : ended(store_clear(store_of(store)), store);
 }
 #endif
 
 ee_result ee_clean(ee_store *store) {
     const ee_result refused = begun(store, 1u);
     if (refused != EE_OK) { return refused; }
-    const CleanResult answer = store_clean_step(&store->memory.parts.store);
+    const CleanResult answer = store_clean_step(store_of(store));
     return ended(answer.ok && answer.value ? EE_OK : EE_NOTHING, store);
 }
 
@@ -216,9 +215,8 @@ ee_result ee_read(const ee_store *store, uint16_t address, uint32_t *value) {
 #define EE_WANTED 32u
 
 ee_result ee_load(const ee_store *store, ee_value *values, uint32_t count, uint32_t *loaded) {
-    ee_result status = begun_with(store, 1u, loaded == NULL ? NULL : values);
+    ee_result status = begun_with_list(store, loaded == NULL ? NULL : values, count);
     if (status != EE_OK) { return status; }
-    if (!are_addresses(values, count)) { return ended(EE_WRONG_NUMBER, store); }
     uint32_t found = 0u;
     uint32_t some = 0u;
     for (uint32_t from = 0u; from < count && power_of(store)->flash != NULL; from += some) {

@@ -10,9 +10,15 @@ EE_IN_PLACE Step step_ended(const Device *device, uint32_t failed) {
     return CUT;
 }
 
-/* A read ended with this number, which isn't 0: the word is torn, or the read itself failed. */
-EE_APART void read_failed(const Device *device, uint32_t failed) {
+/* Reads a word, or a number of one. Whether it can be read: else it is 0, and where the read itself
+ * failed the device is off. */
+EE_IN_PLACE bool is_read(const Device *device, const ee_flash *flash, uint32_t page, uint32_t at,
+        uint64_t *number) {
+    const uint32_t failed = flash->word(flash->context, page, at, number);
+    if (failed == 0u) { return true; }
+    *number = 0u;
     if (failed != EE_TORN) { device->power->flash = NULL; }
+    return false;
 }
 
 /* The flash, while it is on and has this page; else NULL, and the device is off. The page is asked
@@ -30,11 +36,8 @@ EE_IN_PLACE const ee_flash *flash_with(const Device *device, uint32_t page, uint
 EE_APART uint64_t numbers_read(const Numbers *numbers, uint32_t page, uint32_t at) {
     const ee_flash *const flash = numbers->power->flash;
     uint64_t number;
-    if (flash == NULL) { return 0u; }
-    const uint32_t failed = flash->word(flash->context, page, at, &number);
-    if (failed == 0u) { return number; }
-    read_failed(numbers, failed);
-    return 0u;
+    if (flash == NULL || !is_read(numbers, flash, page, at, &number)) { return 0u; }
+    return number;
 }
 
 /* So many words or numbers of a page from a place on, where C has them in memory; else no items. */
@@ -58,11 +61,7 @@ static Word device_word(const Device *device, uint32_t page, uint32_t at) {
     if (flash == NULL) { return word_torn(); }
     if (EE_IS_OF_PAIRS(flash)) { return pairs_word(device, page, at); }
     uint64_t number = 0u;
-    const uint32_t failed = flash->word(flash->context, page, at, &number);
-    if (failed != 0u) {
-        read_failed(device, failed);
-        return word_torn();
-    }
+    if (!is_read(device, flash, page, at, &number)) { return word_torn(); }
     return number == UINT64_MAX ? word_erased() : word_held(number);
 }
 
@@ -71,15 +70,11 @@ EE_APART void fill_unread(uint64_t *items, uint32_t len) {
     for (uint32_t at = 0u; at < len; at++) { items[at] = UNREAD; }
 }
 
-/* Asks for each word of a run. One that can't be read is 0. No read follows one that failed. */
+/* Asks for each word of a run. No read follows one that failed. */
 static void device_fill(const Device *device, const ee_flash *flash, uint32_t page, uint32_t at,
         uint64_t *items, uint32_t len) {
     for (uint64_t *const end = &items[len]; items != end; items++, at++) {
-        const uint32_t failed = flash->word(flash->context, page, at, items);
-        if (failed == 0u) { continue; }
-        *items = 0u;
-        if (failed != EE_TORN) {
-            device->power->flash = NULL;
+        if (!is_read(device, flash, page, at, items) && device->power->flash == NULL) {
             fill_unread(items, (uint32_t)(end - items));
             return;
         }

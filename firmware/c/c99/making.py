@@ -7,7 +7,7 @@ from .c_types import HAND, IN_HEADER, comment_of
 from .items import Source
 from .lexing import Refused
 from .program import FAULTS, INNER, Module, Program, is_flat
-from .writer import Writer
+from .writer import INLINE, Writer
 
 HERE = Path(__file__).resolve().parent
 WIDTH, FURTHER = 100, " " * 8
@@ -130,6 +130,10 @@ class Making:
         self.write(INDEX_ROOTS, folder)
         found = sorted((fn.order, args, fn, done) for (fn, args), done in self.writer.done.items())
         self.found = [(fn, args, done) for _, args, fn, done in found]
+        heads = " ".join(head for _, _, (head, _, _) in self.found)
+        for name in INLINE:
+            if f"{name}(" not in heads:
+                raise Refused(f"{HERE / 'writer.py'}: INLINE has {name}, which is no function")
 
     def write(self, roots, folder):
         """Writes these functions, and what they call."""

@@ -246,6 +246,8 @@ MAKER = re.compile(r"static inline (\w+) (\w+)\(([^)]*)\) \{\s*return \((\w+)\)\
 LIST_LOOP = re.compile(r"if \(([\w.>-]+)\.len != 0u\) \{\s*(?:const )?\w+ \*(\w+) = \1\.items;\s*"
                        r"(?:const )?\w+ \*const (\w+) = \2 \+ \1\.len;\s*do \{")
 LIST_LOOP_END = r"\b{0}\+\+;\s*\}} while \({0} != {1}\);\s*\}}"
+# The same of a loop over its places.
+PLACE_LOOP = re.compile(r"if \(([\w.>-]+\.len) != 0u\) \{\s*uint32_t (\w+) = 0u;\s*do \{")
 # A list as two parameters and as two arguments.
 PAIRED = re.compile(r"\{ \.items = (\w+)_items, \.len = (\w+)_len \}"
                     r"|([\w.>-]+)\.items,\s+([\w.>-]+)\.len\b(?! [-+*/])")
@@ -358,6 +360,13 @@ class C:
                 inner = inner[:end.start()] + "}" + inner[end.end():]
                 inner = inner.replace(f"(uint32_t)({name} - {items}.items)", "place__")
                 body = body[:found.start()] + f"for__ {items} {{" + inner
+        for found in reversed(list(PLACE_LOOP.finditer(body))):
+            length, name = found.groups()
+            inner = body[found.end():]
+            end = re.search(LIST_LOOP_END.format(name, re.escape(length)), inner)
+            if end:
+                inner = inner[:end.start()] + "}" + inner[end.end():]
+                body = body[:found.start()] + f"for__ 0u range__ {length} {{" + inner
         return body
 
     def count_call(self, tokens, at, rows):

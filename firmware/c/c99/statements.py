@@ -5,7 +5,7 @@ from .cases import member
 from .lexing import UNKNOWN
 from .program import is_flat
 from .text import nodes_of
-from .types import is_named, is_ref, known, referred
+from .types import is_named, is_ref, is_slice, known, referred
 from .values import AND, GIVEN, POSTFIX, Values
 
 
@@ -60,6 +60,9 @@ class Statements(Values):
         value, local = s.value, s.pat.local
         if local is self.given and self.types.is_placed(self.ret):
             self.let_placed(local, value)
+        elif value.kind == "try" and self.types.is_placed(value.e.ty):
+            self.declare(local)
+            self.tried_into(value.e, f"&{local.cname}")
         elif value.kind in ("match", "if"):
             self.declare(local)
             self.to(value, ("assign", [local.cname]))
@@ -86,10 +89,22 @@ class Statements(Values):
             self.emit(f"if ({' && '.join(conditions)}) {{")
             self.bound(other.body, binds, ("return",), other.note)
             self.emit("}")
-        elif value.kind == "struct":
+        elif value.kind == "try" and self.types.is_placed(value.e.ty):
+            self.tried_into(value.e, "made")
+        elif value.kind in ("struct", "call", "path"):
             self.emit(f"*made = {self.value(value).text};")
         else:
             self.fail(value, "what isn't made in the place of the caller")
+
+    def tried_into(self, call, place):
+        """`?` behind a call of a function that makes its value in a place of its caller."""
+        if not self.types.is_unit(known(call.ty).args[1]):
+            self.fail(call, "? of a Result that is a number")
+        self.place = call, place
+        self.emit(f"if ({self.value(call).text} == CUT) {{")
+        self.place = None, None
+        self.emit(f"    return {self.handed_on(None)};")
+        self.emit("}")
 
     def let_large(self, local, value):
         """A local with a list in it; that which the function gives stands with its caller."""
@@ -352,15 +367,14 @@ class Statements(Values):
     def to_for(self, it, _to):
         self.scopes.append(set())
         kind = known(it.e.ty).name
-        if kind == "rev":
-            self.for_down(it)
-        elif kind == "range":
-            self.for_up(it)
-        else:
-            self.for_each(it)
-        if kind in ("rev", "range"):
+        if kind == "range" and self.is_over_list(it.e):
+            self.for_each_place(it)
+        elif kind in ("rev", "range"):
+            (self.for_down if kind == "rev" else self.for_up)(it)
             self.scoped(it.body, ("discard",))
             self.emit("}")
+        else:
+            self.for_each(it)
         self.scopes.pop()
 
     def for_down(self, it):
@@ -381,6 +395,27 @@ class Statements(Values):
             end = self.fresh("end")
             begin += f", {end} = {high.text}"
         self.emit(f"for ({begin}; {name} < {end}; {name}++) {{")
+
+    @staticmethod
+    def is_over_list(span):
+        """Whether a range is of all places of a list."""
+        high = span.high
+        is_length = high.kind == "method" and high.name == "len" and high.what == "builtin"
+        return is_length and span.low.kind == "int" and span.low.text == "0" and is_slice(high.e.ty)
+
+    def for_each_place(self, it):
+        """The condition stands at its end, as that of a loop over items."""
+        length, name = self.value(it.e.high).text, self.fresh(it.name)
+        it.local.cname = name
+        self.emit(f"if ({length} != 0u) {{")
+        self.open()
+        self.emit(f"uint32_t {name} = 0u;")
+        self.emit("do {")
+        self.scoped(it.body, ("discard",))
+        self.emit(f"    {name}++;")
+        self.emit(f"}} while ({name} != {length});")
+        self.close()
+        self.emit("}")
 
     def for_each(self, it):
         if not is_ref(it.e.ty):

@@ -198,9 +198,10 @@ class Values(Cases):
                 self.fail(it, "a list that is copied")
             args = [*args, place]
         if self.types.is_placed(it.ty):
-            if not self.types.is_placed(self.ret):
+            made_by, place = self.place
+            if made_by is not it and not self.types.is_placed(self.ret):
                 self.fail(it, "what is made in the place of no caller")
-            args = [*args, "made"]
+            args = [*args, place if made_by is it else "made"]
         return Piece(f"{self.writer.request(it.target, it.given)}({', '.join(args)})")
 
     def wrapped(self, it):

@@ -14,11 +14,13 @@ FIELDS = {("Device", "shape"): "shape", ("Numbers", "shape"): "shape"}
 RESERVED = {"open", "remove", "read", "write", "close", "start", "format", "mark", "clean"}
 
 
+# Functions, by their names in C, that stand in place there or apart, whatever rustc is told. Apart
+# gcc keeps both halves of a word in registers, of which an M0+ has few, and a write and a list of
+# values have one body of a move; in place no struct goes through memory.
+INLINE = {"state_is_blank": "always", "is_erased": "never", "fill_from_window": "never",
+          "known_move_value": "always", "store_write": "never", "store_write_several": "never",
+          "next_shown": "always", "index_cursor_next": "always", "lent_cursor_next": "always"}
 # The sources' marks of where a function's code stands, in C.
-# Functions of the sources that stand in place in C or apart there, whatever rustc is told: so gcc
-# keeps both halves of a word in registers, of which an M0+ has few.
-INLINE = {("state", "is_blank"): "always", ("state", "is_erased"): "never",
-          ("pairs_runs", "fill_from_window"): "never"}
 MARKS = {"always": "EE_IN_PLACE", "never": "EE_APART", None: "static"}
 LOOPS = {"for", "while", "whilelet", "loop"}
 
@@ -121,7 +123,7 @@ class FunctionWriter(Statements):
             given = [node.args[0].local for node in nodes_of(self.fn.node.body)
                      if node.kind == "call" and node.what == "Ok" and node.args[0].kind == "path"]
             self.given = given[0] if given else None
-        inline = INLINE.get((self.fn.module, self.fn.name), self.fn.node.inline)
+        inline = INLINE.get(self.name, self.fn.node.inline)
         mark = MARKS[inline or ("always" if self.is_short() else None)]
         head = f"{mark} {self.spaced(gives, self.name)}({', '.join(params) or 'void'})"
         self.block(self.fn.node.body, ("discard",) if self.is_void else ("return",))

@@ -185,7 +185,7 @@ none_is_near_another number other bare bare_too apart =
     in
     omega (arith, word, check, sum)
 
-coded_payload : (number : ℕ) → IsPayload number → payload_in (codeword number) ≡ number
+pub coded_payload : (number : ℕ) → IsPayload number → payload_in (codeword number) ≡ number
 unfolding codeword
 coded_payload number bare = let fits = check_fits number bare in omega arith
 

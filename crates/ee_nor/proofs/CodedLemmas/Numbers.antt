@@ -7,9 +7,10 @@ use Rattle.std.proofs.lemmas.Bool.{cases_eq, cases_lt, eq-eqb, le-ltb, lt-ltb, n
 use Rattle.std.proofs.lemmas.Nat.{and_assoc, and_comm, and_mask}
 use Rattle.ee_flash.specs.Device.{all_ones}
 use Rattle.ee_flash.specs.Numbers.{IsSlotNumber, IsStoreNumber, header_half}
+use Rattle.ee_flash.specs.Size.{IsWithinLimits, Size}
 use Rattle.ee_flash.specs.declared.word.Word.TheVariants.{Erased, Held, Torn}
 use Rattle.ee_nor.specs.Coded.Code.{IsPayload, codeword, decoded, payload_in}
-use Rattle.ee_nor.specs.Coded.Coded.{IsOverCoded, coded_number, coded_word, held_payload, number_of_payload, payload_of_number, word_of_ecc, word_read}
+use Rattle.ee_nor.specs.Coded.Coded.{IsOverCoded, coded_number, coded_word, held_payload, mark_payload, number_of_payload, payload_of_number, word_of_ecc, word_read}
 use Rattle.ee_nor.specs.Coded.EccNor.{EccNumber, IsReadingOf}
 use Rattle.ee_nor.specs.Coded.Formed.{coded_cases}
 use Rattle.ee_nor.specs.Coded.Laws.{HasOnes}
@@ -17,43 +18,85 @@ use Rattle.ee_nor.proofs.CodedLemmas.Near.{coded_fits, coded_ones, decoded_again
 
 -- ---- a number and its payload
 
-number_cases : (number : ℕ)
+-- a slot's, the mark, or another
+pub number_cases : (size : Size) (number : ℕ)
     → ((number % 2 ^ 32 < 2 ^ 17) × (0 < number % 2 ^ 16)
-    × (payload_of_number number ≡ number / 2 ^ 32 * 2 ^ 17 + number % 2 ^ 17))
-    ⊎ ((IsSlotNumber number → ⊥) × (payload_of_number number ≡ number % 2 ^ 32 * 2 ^ 17))
-number_cases number = elim (cases_lt (number % 2 ^ 32) (2 ^ 17)) [
+    × (payload_of_number size number ≡ number / 2 ^ 32 * 2 ^ 17 + number % 2 ^ 17))
+    ⊎ (((IsSlotNumber number → ⊥) × (number % 2 ^ 32 ≡ header_half)
+    × (payload_of_number size number ≡ mark_payload size))
+    ⊎ ((IsSlotNumber number → ⊥) × (payload_of_number size number ≡ number % 2 ^ 32 * 2 ^ 17)))
+unfolding payload_of_number
+number_cases size number = elim (cases_lt (number % 2 ^ 32) (2 ^ 17)) [
   | inl low ↦ elim (cases_lt 0 (number % 2 ^ 16)) [
     | inl some ↦ inl (
       low,
       some,
       rw (lt-ltb (number % 2 ^ 32) (2 ^ 17) low, lt-ltb 0 (number % 2 ^ 16) some) refl,
     )
-    | inr none ↦ inr (
+    | inr none ↦ inr (inr (
       λ slot. let some = slot.1 in omega (arith, some, none),
-      rw (lt-ltb (number % 2 ^ 32) (2 ^ 17) low, le-ltb 0 (number % 2 ^ 16) none) refl,
-    )
+      rw (
+        lt-ltb (number % 2 ^ 32) (2 ^ 17) low,
+        le-ltb 0 (number % 2 ^ 16) none,
+        ne_eqb (number % 2 ^ 32) header_half (λ same. omega (arith, same, low)),
+      ) refl,
+    ))
   ]
-  | inr high ↦ inr (
-    λ slot. let low = slot.0 in omega (arith, low, high),
-    rw (le-ltb (number % 2 ^ 32) (2 ^ 17) high) refl,
-  )
+  | inr high ↦
+      let no_slot : IsSlotNumber number → ⊥ = λ slot. let low = slot.0 in omega (arith, low, high) in
+      elim (cases_eq (number % 2 ^ 32) header_half) [
+        | inl mark ↦ inr (inl (
+          no_slot,
+          mark,
+          rw (
+            le-ltb (number % 2 ^ 32) (2 ^ 17) high,
+            eq-eqb (number % 2 ^ 32) header_half mark,
+          ) refl,
+        ))
+        | inr other ↦ inr (inr (
+          no_slot,
+          rw (
+            le-ltb (number % 2 ^ 32) (2 ^ 17) high,
+            ne_eqb (number % 2 ^ 32) header_half other,
+          ) refl,
+        ))
+      ]
 ]
 
-pub payload_fits : (number : ℕ) → number ≤ all_ones → IsPayload (payload_of_number number)
-payload_fits number fits = elim (number_cases number) [
+pub mark_is : (size : Size)
+    → payload_of_number size (header_half * 2 ^ 32 + header_half) ≡ mark_payload size
+unfolding payload_of_number
+mark_is size = refl
+
+pub payload_fits : (size : Size) (number : ℕ) → IsWithinLimits size → number ≤ all_ones
+    → IsPayload (payload_of_number size number)
+payload_fits size number limits fits = elim (number_cases size number) [
   | inl slot ↦ let is = slot.2 in omega (arith, is)
-  | inr header ↦ let is = header.1 in omega (arith, is)
+  | inr (inl mark) ↦
+      let is = mark.2 in omega (arith, is, limits.few_pages, limits.few_words)
+  | inr (inr header) ↦ let is = header.1 in omega (arith, is)
 ]
 
 slot_again : (number : ℕ) → number % 2 ^ 32 < 2 ^ 17 → 0 < number % 2 ^ 16
     → number_of_payload (number / 2 ^ 32 * 2 ^ 17 + number % 2 ^ 17) ≡ number
+unfolding number_of_payload
 slot_again number low some =
-    let apart = ne_eqb ((number / 2 ^ 32 * 2 ^ 17 + number % 2 ^ 17) % 2 ^ 17) 0
-    (λ none. omega (arith, none, some)) in
-    rw apart (omega (arith, low))
+    let rest = (number / 2 ^ 32 * 2 ^ 17 + number % 2 ^ 17) % 2 ^ 17 in
+    let apart = ne_eqb rest 0 (λ none. omega (arith, none, some)) in
+    let no_mark = ne_eqb rest (2 ^ 16) (λ mark. omega (arith, mark, some)) in
+    rw (apart, no_mark) (omega (arith, low))
+
+pub mark_again : (size : Size) (number : ℕ) → number / 2 ^ 32 ≡ header_half
+    → number % 2 ^ 32 ≡ header_half → number_of_payload (mark_payload size) ≡ number
+unfolding number_of_payload
+mark_again size number half low =
+    let apart = ne_eqb (mark_payload size % 2 ^ 17) 0 (λ none. omega (arith, none)) in
+    let is = eq-eqb (mark_payload size % 2 ^ 17) (2 ^ 16) (omega arith) in
+    rw (apart, is) (omega (arith, half, low))
 
 header_again : (number : ℕ) → number / 2 ^ 32 ≡ header_half
     → number_of_payload (number % 2 ^ 32 * 2 ^ 17) ≡ number
+unfolding number_of_payload
 header_again number half =
     let none = eq-eqb (number % 2 ^ 32 * 2 ^ 17 % 2 ^ 17) 0 (omega arith) in
     rw none (omega (arith, half))
@@ -63,11 +106,14 @@ half : (number : ℕ) → IsStoreNumber number → (IsSlotNumber number → ⊥)
 half number (inl slot) none = absurd (none slot)
 half number (inr is) none = is
 
-pub number_again : (number : ℕ) → IsStoreNumber number
-    → number_of_payload (payload_of_number number) ≡ number
-number_again number store = elim (number_cases number) [
+pub number_again : (size : Size) (number : ℕ) → IsStoreNumber number
+    → number_of_payload (payload_of_number size number) ≡ number
+number_again size number store = elim (number_cases size number) [
   | inl slot ↦ ap number_of_payload slot.2 ∙ slot_again number slot.0 slot.1
-  | inr header ↦ ap number_of_payload header.1 ∙ header_again number (half number store header.0)
+  | inr (inl mark) ↦
+      ap number_of_payload mark.2 ∙ mark_again size number (half number store mark.0) mark.1
+  | inr (inr header) ↦
+      ap number_of_payload header.1 ∙ header_again number (half number store header.0)
 ]
 
 -- ---- coded words
@@ -79,14 +125,21 @@ coded_below payload bare =
     λ same. omega (arith, coded_ones payload bare, ap count_ones same, ones-ones 64) in
     omega (arith, fits, apart)
 
-pub reads_back : (number : ℕ) → number ≤ all_ones → IsStoreNumber number
-    → coded_word (coded_number number) ≡ Held number
-reads_back number fits store =
-    let bare = payload_fits number fits in
-    let below = coded_below (payload_of_number number) bare in
-    rw (ne_eqb (codeword (payload_of_number number)) all_ones (λ same. omega (arith, below, same)))
-    (ap held_payload (decoded_again (payload_of_number number) bare)
-    ∙ ap Held (number_again number store))
+own_payload : (size : Size) (payload number : ℕ) → payload ≡ payload_of_number size number
+    → number_of_payload payload ≡ number → held_payload size (Some payload) ≡ Held number
+own_payload size payload number is back =
+    let own = is ∙ ap (payload_of_number size) (sym back) in
+    rw (eq-eqb payload (payload_of_number size (number_of_payload payload)) own) (ap Held back)
+
+pub reads_back : (size : Size) (number : ℕ) → IsWithinLimits size → number ≤ all_ones
+    → IsStoreNumber number → coded_word size (coded_number size number) ≡ Held number
+reads_back size number limits fits store =
+    let payload = payload_of_number size number in
+    let bare = payload_fits size number limits fits in
+    let below = coded_below payload bare in
+    rw (ne_eqb (codeword payload) all_ones (λ same. omega (arith, below, same)))
+    (ap (held_payload size) (decoded_again payload bare)
+    ∙ own_payload size payload number refl (number_again size number store))
 
 -- ---- what a cut leaves
 
@@ -95,24 +148,25 @@ read_payload : (read : ℕ) → read ≡ codeword (payload_in read)
 read_payload read is = rw (eq-eqb read (codeword (payload_in read)) is) refl
 
 -- of a word that was cut on its way to a number
-pub program_cut : (number cells : ℕ) (reading : Option ℕ) → number ≤ all_ones
-    → IsStoreNumber number → cells ≤ all_ones
+pub program_cut : (size : Size) (number cells : ℕ) (reading : Option ℕ) → IsWithinLimits size
+    → number ≤ all_ones → IsStoreNumber number → cells ≤ all_ones
     → ((read : ℕ) → reading ≡ Some read → IsReadingOf cells read)
-    → HasOnes cells (coded_number number)
-    → (word_read reading ≡ Erased)
-    ⊎ ((word_read reading ≡ Held number) ⊎ (word_read reading ≡ Torn))
-program_cut number cells None fits store cells_fit reads has = inr (inr refl)
-program_cut number cells (Some read) fits store cells_fit reads has = elim (coded_cases read) [
-  | inl erased ↦ inl erased.1
-  | inr (inl held) ↦
-      let reading = reads read refl in
-      let read_fits = reading.fits in
-      let same = torn_is_told read (decoded read) (omega (arith, read_fits)) refl
-      (payload_of_number number) cells (payload_in read) (payload_fits number fits)
-      (omega (arith, cells_fit)) has reading.near (read_payload read held.1) in
-      inr (inl (held.2 ∙ ap Held (ap number_of_payload same ∙ number_again number store)))
-  | inr (inr torn) ↦ inr (inr torn)
-]
+    → HasOnes cells (coded_number size number)
+    → (word_read size reading ≡ Erased)
+    ⊎ ((word_read size reading ≡ Held number) ⊎ (word_read size reading ≡ Torn))
+program_cut size number cells None limits fits store cells_fit reads has = inr (inr refl)
+program_cut size number cells (Some read) limits fits store cells_fit reads has =
+    elim (coded_cases size read) [
+      | inl erased ↦ inl erased.1
+      | inr (inl held) ↦
+          let reading = reads read refl in
+          let read_fits = reading.fits in
+          let same = torn_is_told read (decoded read) (omega (arith, read_fits)) refl
+          (payload_of_number size number) cells (payload_in read) (payload_fits size number limits fits)
+          (omega (arith, cells_fit)) has reading.near (read_payload read held.1) in
+          inr (inl (held.3 ∙ ap Held (ap number_of_payload same ∙ number_again size number store)))
+      | inr (inr torn) ↦ inr (inr torn)
+    ]
 
 all_over : (number : ℕ) → number ≤ all_ones → bit_and all_ones number ≡ number
 all_over number fits = and_comm all_ones number ∙ and_mask number 64 ∙ omega arith
@@ -136,17 +190,17 @@ had_ones before cells read fits cells_fit reading over has is =
     ]
 
 -- of a word whose page was cut in its erase
-pub erase_cut : (old : EccNumber) (cells : ℕ) (reading : Option ℕ) → old.cells ≤ all_ones
+pub erase_cut : (size : Size) (old : EccNumber) (cells : ℕ) (reading : Option ℕ) → old.cells ≤ all_ones
     → cells ≤ all_ones → ((read : ℕ) → reading ≡ Some read → IsReadingOf cells read)
     → IsOverCoded old.cells → HasOnes cells old.cells
     → ((read : ℕ) → read ≢ all_ones → reading ≡ Some read → HasOnes old.cells read
     → old.reading ≡ Some read)
-    → (word_read reading ≡ word_of_ecc old)
-    ⊎ ((word_read reading ≡ Erased) ⊎ (word_read reading ≡ Torn))
-erase_cut old cells None fits cells_fit reads over has whole = inr (inr refl)
-erase_cut old cells (Some read) fits cells_fit reads over has whole = elim (coded_cases read) [
+    → (word_read size reading ≡ word_of_ecc size old)
+    ⊎ ((word_read size reading ≡ Erased) ⊎ (word_read size reading ≡ Torn))
+erase_cut size old cells None fits cells_fit reads over has whole = inr (inr refl)
+erase_cut size old cells (Some read) fits cells_fit reads over has whole = elim (coded_cases size read) [
   | inl erased ↦ inr (inl erased.1)
-  | inr (inl held) ↦ inl (sym (ap word_read (whole read held.0 refl
+  | inr (inl held) ↦ inl (sym (ap (word_read size) (whole read held.0 refl
       (had_ones old.cells cells read fits cells_fit (reads read refl) over has held.1))))
   | inr (inr torn) ↦ inr (inr torn)
 ]

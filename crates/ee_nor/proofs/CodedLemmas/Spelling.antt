@@ -2,7 +2,7 @@
 use Rattle.std.proofs.Common.{◌≡◌, ℕ, ◌+◌, ◌*◌, ◌/◌, ◌%◌, ◌^◌, ◌<◌, ◌≤◌, ap, sym, ◌∙◌, arith}
 use Rattle.std.specs.Prelude.{count_ones}
 use Rattle.std.proofs.lemmas.Nat.{ones-le, ones_cat}
-use Rattle.ee_nor.specs.Coded.Code.{IsPayload, codeword, half_weight, mixed_bits, parity_bits, payload_of, weight_row}
+use Rattle.ee_nor.specs.Coded.Code.{codeword, half_weight, mixed_bits, parity_bits, weight_row}
 
 pub few_ones : (value bits low : ℕ) → value < 2 ^ 32 → bits < 2 ^ 7 → low < 2 ^ 17
     → count_ones value + count_ones (bits * 2 ^ 17 + low) ≤ 56
@@ -43,7 +43,3 @@ module _ (value low : ℕ) (fits : value < 2 ^ 32) (low_fits : low < 2 ^ 17) whe
       omega (arith, ones) in
       let rows = ap weight_row half in
       omega (arith, rows, ones, same)
-
-pub payload_fits : (value kind address : ℕ) → value < 2 ^ 32 → kind < 2 → address < 2 ^ 16
-    → IsPayload (payload_of value kind address)
-payload_fits value kind address fits one_bit address_fits = omega arith

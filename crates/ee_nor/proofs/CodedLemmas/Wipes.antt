@@ -1,14 +1,14 @@
 -- Pages made blank, one after another.
-use Rattle.std.proofs.Common.{◌≡◌, ◌≢◌, ◌⊎◌, inl, inr, ℕ, zero, suc, ◌+◌, ◌<◌, ◌≤◌, List, [], Option, Some, None, true, false, not, length, replicate, refl, sym, subst, ap, ◌∙◌, arith}
+use Rattle.std.proofs.Common.{◌≡◌, ◌≢◌, ◌⊎◌, inl, inr, ℕ, zero, suc, ◌+◌, ◌-◌, ◌<◌, ◌≤◌, drop, List, [], Option, Some, None, true, false, not, length, replicate, refl, sym, subst, ap, ◌∙◌, arith}
 use Rattle.std.proofs.lemmas.Bool.{cases_Bool, cases_eq, cases_lt, eqb-true, not-false}
-use Rattle.std.proofs.lemmas.List.{get_or-set_other, get_or-set_same, get_or_past, length-set}
+use Rattle.std.proofs.lemmas.List.{get_or-drop, get_or-set_other, get_or-set_same, get_or_past, length-drop, length-set}
 use Rattle.std.proofs.lemmas.List.Elements.{All-from_get_or}
 use Rattle.std.proofs.lemmas.List.Folds.{list_any_at, list_any_none}
 use Rattle.ee_flash.specs.Device.{all_ones}
 use Rattle.ee_flash.specs.Size.{page_count}
 use Rattle.ee_nor.specs.Coded.Coded.{AllOverCoded}
 use Rattle.ee_nor.specs.Coded.EccNor.{EccDevice, EccNumber, EraseEcc, IsEccCutIn, IsEccFormed, IsEccNumber, IsEccUntouched, ecc_in, ecc_page, whole_number, with_ecc_erased}
-use Rattle.ee_nor.specs.Coded.Wiping.{IsEccWipeCut, ecc_wiped_below, is_ecc_blank, is_ecc_written, is_other_read, with_all_ecc_wiped, with_ecc_wiped}
+use Rattle.ee_nor.specs.Coded.Wiping.{IsEccWipeCut, MayBeNew, ecc_wiped_below, is_ecc_blank, is_ecc_written, is_other_read, with_all_ecc_wiped, with_ecc_wiped}
 use Rattle.ee_nor.proofs.CodedLemmas.Steps.{blank_number, number_formed}
 
 -- a page of which each number reads as erased is blank, and the other way round
@@ -25,6 +25,43 @@ pub not_blank_page : (numbers : List EccNumber) (at : ℕ) → at < length numbe
     → is_ecc_written (ecc_in numbers at) ≡ true → is_ecc_blank numbers ≡ false
 not_blank_page numbers at within written =
     ap not (list_any_at is_ecc_written numbers at (whole_number all_ones) within written)
+
+-- the same behind a place
+pub blank_from : (numbers : List EccNumber) (from count : ℕ) → length numbers ≡ count
+    → ((at : ℕ) → from ≤ at → at < count → is_ecc_written (ecc_in numbers at) ≡ false)
+    → is_ecc_blank (drop from numbers) ≡ true
+blank_from numbers from count long each =
+    blank_page (drop from numbers) (count - from) (length-drop from numbers ∙ omega (arith, long)) (λ at h.
+    ap is_ecc_written (get_or-drop from numbers at (whole_number all_ones))
+    ∙ each (from + at) (omega arith) (omega (arith, h)))
+
+pub not_blank_from : (numbers : List EccNumber) (from at : ℕ) → from ≤ at → at < length numbers
+    → is_ecc_written (ecc_in numbers at) ≡ true → is_ecc_blank (drop from numbers) ≡ false
+not_blank_from numbers from at behind within written =
+    let there : from + (at - from) ≡ at = omega (arith, behind) in
+    not_blank_page (drop from numbers) (at - from)
+    (omega (arith, length-drop from numbers, behind, within))
+    (ap is_ecc_written (get_or-drop from numbers (at - from) (whole_number all_ones)
+    ∙ ap (ecc_in numbers) there) ∙ written)
+
+pub page_long : (ecc : EccDevice) (page : ℕ) → IsEccFormed ecc → page < page_count ecc.size
+    → length (ecc_page ecc page) ≡ ecc.size.words
+page_long ecc page formed in_range =
+    formed.page_lengths page [] (omega (arith, formed.image_length))
+
+-- all pages but the first two words of page 0 are blank
+pub new_flash : (ecc : EccDevice) (count : ℕ) → IsEccFormed ecc → page_count ecc.size ≤ count
+    → is_ecc_blank (drop 2 (ecc_page ecc 0)) ≡ true
+    → ((page : ℕ) → 1 ≤ page → page < count → is_ecc_blank (ecc_page ecc page) ≡ true)
+    → MayBeNew ecc
+new_flash ecc count formed all first each = record {
+  first = first;
+  others = λ page behind. elim (cases_lt page count) [
+    | inl within ↦ each page behind within
+    | inr past ↦
+        rw (get_or_past ecc.image page [] (omega (arith, formed.image_length, all, past))) refl
+  ];
+}
 
 reads_erased : (reading : Option ℕ) → is_other_read reading ≡ false → reading ≡ Some all_ones
 reads_erased None is = cc

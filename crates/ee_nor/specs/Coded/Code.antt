@@ -58,9 +58,6 @@ check_bits payload =
 abbrev pub IsPayload : ℕ → Type 0
 IsPayload payload = payload < 2 ^ 49
 
-abbrev pub payload_of : (value kind address : ℕ) → ℕ
-payload_of value kind address = value * 2 ^ 17 + kind * 2 ^ 16 + address
-
 -- the word of a payload: the check stands between the value and the rest
 unfoldable pub codeword : ℕ → ℕ
 codeword payload = (payload / 2 ^ 17 * 2 ^ 15 + check_bits payload) * 2 ^ 17 + payload % 2 ^ 17

@@ -1,5 +1,5 @@
--- A flash of numbers that held something else, made blank.
-use Rattle.std.specs.Prelude.{◌≡◌, ◌<◌, ℕ, ◌==◌, zero, suc, if◌then◌else◌, Bool, true, false, not, Option, Some, None, List}
+-- A flash of numbers that is blank, but for what a first start left, or is made so.
+use Rattle.std.specs.Prelude.{◌≡◌, ◌<◌, ◌≤◌, ℕ, ◌==◌, drop, zero, suc, if◌then◌else◌, Bool, true, false, not, Option, Some, None, List}
 use Rattle.std.specs.List.{list_any}
 use Rattle.ee_flash.specs.Device.{all_ones}
 use Rattle.ee_flash.specs.Size.{page_count}
@@ -16,6 +16,11 @@ is_ecc_written number = is_other_read number.reading
 -- each number of the page reads as erased
 abbrev pub is_ecc_blank : List EccNumber → Bool
 is_ecc_blank numbers = not (list_any is_ecc_written numbers)
+
+-- each number reads as erased but the first two of page 0
+pub record MayBeNew (ecc : EccDevice) : Type 0 where
+  pub first : is_ecc_blank (drop 2 (ecc_page ecc 0)) ≡ true
+  pub others : (page : ℕ) → 1 ≤ page → is_ecc_blank (ecc_page ecc page) ≡ true
 
 -- with a page erased that holds something; a blank one stays as it is
 abbrev pub with_ecc_wiped : ℕ → EccDevice → EccDevice

@@ -1,6 +1,6 @@
 //! A payload as a coded word, and back.
 ghost use Rattle.std.specs.Prelude.{◌≡◌, ◌<◌, ◌+◌, ◌*◌, ◌/◌, ◌%◌, ◌^◌};
-ghost use Rattle.ee_nor.specs.Coded.Code.{codeword, decoded, mixed_bits, payload_of, weight_row};
+ghost use Rattle.ee_nor.specs.Coded.Code.{IsPayload, codeword, decoded, mixed_bits, weight_row};
 ghost use Rattle.ee_nor.specs.Coded.Laws.{EraseMakesNoNumber, ErasedIsNone, IsFarFromOthers, ReadsAsWritten, TornIsTold};
 
 /// Seven bits for each half weight: a row has a one that the next lacks, and two that each later
@@ -10,22 +10,23 @@ const WEIGHT_ROWS: [u8; 29] = [
     0x4a, 0x49, 0x0d, 0x2c, 0x34, 0x32, 0x13, 0x03, 0x21, 0x60, 0x50, 0x18, 0x08,
 ];
 
-/// The coded word of a value, a kind of one bit and an address. Its check of 15 bits stands between
-/// the value and the kind, so value, kind and address can be read where they stand.
+/// The coded word of a payload, which is one number of 49 bits: a value of 32, below it a kind of
+/// one bit, below it an address of 16. The check of 15 bits stands between the value and the kind,
+/// so all three can be read where they stand.
 ///
 /// Source: ours.
-#[tactic(auto, using(crate::proofs::CodedLemmas::Near::far_from_others, crate::proofs::CodedLemmas::Spelling::payload_fits))]
-pub fn encode(value: u32, kind: u32, address: u16) -> u64
-    requires { kind < 2 }
-    ensures word { result ≡ codeword (payload_of value kind address) }
-    ensures none_is_near_another { IsFarFromOthers (payload_of value kind address) result }
+pub fn encode(payload: u64) -> u64
+    requires { IsPayload payload }
+    ensures word { result ≡ codeword payload }
+    ensures none_is_near_another { IsFarFromOthers payload result }
 {
-    u64::from(value) * 0x1_0000_0000
-        + u64::from(low_half(value, kind * 0x1_0000 + u32::from(address)))
+    let value = (payload >> 17) as u32;
+    let low = (payload & 0x1_ffff) as u32;
+    u64::from(value) * 0x1_0000_0000 + u64::from(low_half(value, low))
 }
 
-/// The payload of a word, as one number of 49 bits: the value, below it the kind, below it the
-/// address. `None` of a word that isn't coded: it is torn or erased, or no store wrote it.
+/// The payload of a word. `None` of a word that isn't coded: it is torn or erased, or no store
+/// wrote it.
 ///
 /// Source: ours.
 pub fn decode(word: u64) -> Option<u64>

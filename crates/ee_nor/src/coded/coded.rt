@@ -1,13 +1,17 @@
 //! A device of words on a flash of coded numbers.
-ghost use Rattle.std.specs.Prelude.{◌≡◌, ℕ, IfErr, IfOk, true};
+ghost use Rattle.std.specs.Bool.{MatchBool};
+ghost use Rattle.std.specs.Prelude.{◌≡◌, ℕ, IfErr, IfOk, OnOk, true};
 ghost use Rattle.ee_flash.specs.Device.{all_ones};
 ghost use Rattle.ee_nor.specs.Coded.Coded.{IsCodedSafe};
 ghost use Rattle.ee_nor.specs.Coded.EccNor.{ecc_at, whole_number};
-ghost use Rattle.ee_nor.specs.Coded.Wiping.{IsEccWipeCut, with_all_ecc_wiped};
+ghost use Rattle.ee_flash.specs.Size.{size_of};
+ghost use Rattle.ee_nor.specs.Coded.Shapes.{IsOfNoOtherShape, IsOtherShape};
+ghost use Rattle.ee_nor.specs.Coded.Wiping.{IsEccWipeCut, MayBeNew, with_all_ecc_wiped};
 
 use crate::coded::ecc_nor::EccNor;
 use crate::coded::runs::fill_run;
-use crate::coded::wiping::wipe;
+use crate::coded::shapes::{OtherShape, other_shape};
+use crate::coded::wiping::{may_be_new, wipe};
 use crate::coded::words::{coded_number, word_of_reading};
 use ee_flash::{Cut, Flash, Shape, Word};
 
@@ -21,9 +25,33 @@ pub struct Coded<N: EccNor + Drop> {
 }
 
 impl<N: EccNor + Drop> Coded<N> {
-    /// The device of words of a flash that is blank, or to which only such devices wrote: of a
-    /// number that something else wrote an erase that is cut could make a coded word. Where power is
-    /// cut in no step it is of any flash. Nothing is read, since a reading doesn't tell.
+    /// The device of words of a flash that is blank, or to which only such devices wrote, of
+    /// whatever shape. It reads word 1 of the first page of each set, whether power is on or off,
+    /// and changes nothing.
+    ///
+    /// # Errors
+    ///
+    /// `OtherShape`, with the flash as it was: the mark there is of this shape, and not of the
+    /// device's own. Page 0 comes first, the first page of set 0 in each shape. That of set 1 is
+    /// looked for where the own shape has it. So a flash of another shape passes where page 0 is
+    /// erased and no mark stands there; as none of its marks reads as one, it has no live set.
+    pub fn of(nor: N) -> Result<Coded<N>, (N, OtherShape)>
+        requires safe { IsCodedSafe (N.ecc nor) }
+        ensures same { IfOk result (λ coded. N.ecc coded.nor ≡ N.ecc nor) }
+        ensures looked { OnOk result (IsOfNoOtherShape (N.ecc nor)) }
+        ensures fault { IfErr result (λ refused.
+            IsOtherShape (N.ecc nor) (size_of refused.1.pages refused.1.words)) }
+        ensures untouched { IfErr result (λ refused. N.ecc refused.0 ≡ N.ecc nor) }
+    {
+        match other_shape(&nor) {
+            None => Ok(Coded { nor }),
+            Some(other) => Err((nor, other)),
+        }
+    }
+
+    /// The device of words of such a flash, of which the shape is known. Of a number that something
+    /// else wrote an erase that is cut could make a coded word; where power is cut in no step it is
+    /// of any flash. Nothing is read, since a reading doesn't tell.
     pub fn known(nor: N) -> Coded<N>
         requires safe { IsCodedSafe (N.ecc nor) }
         ensures same { N.ecc result.nor ≡ N.ecc nor }
@@ -49,6 +77,16 @@ impl<N: EccNor + Drop> Coded<N> {
             Ok(()) => Ok(Coded { nor }),
             Err(cut) => Err((nor, cut)),
         }
+    }
+
+    /// Whether a first store may be made here: no more is written than the first two words of page
+    /// 0, all that a first start which was cut leaves. Data of something else read as torn, so by
+    /// its words alone a store can't tell them from none.
+    pub fn may_be_new(&self) -> bool
+        ensures { MatchBool result (MayBeNew (N.ecc self.now.nor))
+            (MayBeNew (N.ecc self.now.nor) → ⊥) }
+    {
+        may_be_new(&self.nor)
     }
 
     /// The flash, as it is.
@@ -81,7 +119,7 @@ impl<N: EccNor + Drop> Flash for Coded<N> {
     }
 
     fn word(&self, page: usize, at: usize) -> Word {
-        word_of_reading(self.nor.read(page, at))
+        word_of_reading(self.nor.shape(), self.nor.read(page, at))
     }
 
     fn run<'a>(&'a self, page: usize, at: usize, room: &'a mut [u64]) -> &'a [u64] {
@@ -90,7 +128,8 @@ impl<N: EccNor + Drop> Flash for Coded<N> {
     }
 
     fn program(&mut self, page: usize, at: usize, value: u64) -> Result<(), Cut> {
-        self.nor.program(page, at, coded_number(value))
+        let number = coded_number(self.nor.shape(), value);
+        self.nor.program(page, at, number)
     }
 
     fn erase(&mut self, page: usize) -> Result<(), Cut> {

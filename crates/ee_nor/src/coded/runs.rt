@@ -11,9 +11,11 @@ use crate::coded::words::word_of_reading;
 pub(crate) fn fill_run<N: EccNor>(nor: &N, page: usize, at: usize, room: &mut [u64])
     requires page_in_range { page < page_count (N.ecc nor.now).size }
     requires places_in_range { at + length room.old ≤ (N.ecc nor.now).size.words }
-    ensures { room.new ≡ run_of_codes (ecc_page (N.ecc nor.now) page) at (length room.old) }
+    ensures { let ecc = N.ecc nor.now in
+        room.new ≡ run_of_codes ecc.size (ecc_page ecc page) at (length room.old) }
 {
+    let shape = nor.shape();
     for (word, number) in room.iter_mut().enumerate() {
-        *number = word_of_reading(nor.read(page, at + word)).number();
+        *number = word_of_reading(shape, nor.read(page, at + word)).number();
     }
 }

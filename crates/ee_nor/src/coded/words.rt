@@ -1,34 +1,31 @@
 //! A number of a store as a coded word, and the word that a number of the flash is.
-ghost use Rattle.std.specs.Prelude.{◌≡◌, ◌<◌, ◌^◌};
+ghost use Rattle.std.specs.Prelude.{◌≡◌, ◌<◌, ◌^◌, Some};
 ghost use Rattle.ee_nor.specs.Coded.Code.{IsPayload};
-ghost use Rattle.ee_nor.specs.Coded.Coded.{coded_number as coded_number_of, coded_word, number_of_payload, word_read};
+ghost use Rattle.ee_nor.specs.Coded.Coded.{coded_number as coded_number_of, held_payload, mark_payload as mark_payload_of, number_of_payload, payload_of_number, word_read};
 
 use crate::coded::code::{decode, encode};
-use ee_flash::Word;
+use ee_flash::{Shape, Word};
 
-/// The coded word of a number: of one that a store writes, else of some other.
+/// Both halves of the mark, and the high half of all that stands in a header.
+const HEADER_HALF: u64 = 0xAAAA_AAAA;
+
+/// The coded word of a number on a device of this shape: of a number that a store writes, else of
+/// some other. The mark says the shape.
 ///
 /// Source: ours.
-pub fn coded_number(number: u64) -> u64
-    ensures { result ≡ coded_number_of number }
+pub fn coded_number(shape: Shape, number: u64) -> u64
+    ensures { result ≡ coded_number_of shape number }
 {
-    let value = (number >> 32) as u32;
-    let low = (number & 0xffff_ffff) as u32;
-    let kind = low >> 16;
-    let address = (low & 0xffff) as u16;
-    if kind < 2 && address > 0 {
-        encode(value, kind, address)
-    } else {
-        encode(low, 0, 0)
-    }
+    encode(payload_of(shape, number))
 }
 
-/// The word that a reading is: torn where there is none, erased where it is `u64::MAX`, held where
-/// it is coded; else torn.
+/// The word that a reading is on a device of this shape: torn where there is none, erased where it
+/// is `u64::MAX`, held where it is the coded word of a number; else torn, as the mark of another
+/// shape is.
 ///
 /// Source: ours.
-pub fn word_of_reading(reading: Option<u64>) -> Word
-    ensures { result ≡ word_read reading }
+pub fn word_of_reading(shape: Shape, reading: Option<u64>) -> Word
+    ensures { result ≡ word_read shape reading }
 {
     let Some(number) = reading else {
         return Word::Torn;
@@ -37,21 +34,59 @@ pub fn word_of_reading(reading: Option<u64>) -> Word
         return Word::Erased;
     }
     match decode(number) {
-        Some(payload) => Word::Held(number_of(payload)),
+        Some(payload) => word_of_payload(shape, payload),
         None => Word::Torn,
     }
 }
 
-/// The number that has this payload.
+/// The word of a payload: held where it is a number's.
+fn word_of_payload(shape: Shape, payload: u64) -> Word
+    requires { IsPayload payload }
+    ensures { result ≡ held_payload shape (Some payload) }
+{
+    let number = number_of(payload);
+    if payload_of(shape, number) == payload {
+        Word::Held(number)
+    } else {
+        Word::Torn
+    }
+}
+
+/// The payload of a number.
+#[tactic(auto, unfolding(crate::specs::Coded::Coded::payload_of_number))]
+fn payload_of(shape: Shape, number: u64) -> u64
+    ensures value { result ≡ payload_of_number shape number }
+    ensures fits { IsPayload result }
+{
+    let value = number >> 32;
+    let low = number & 0xffff_ffff;
+    if low < 0x2_0000 && low & 0xffff > 0 {
+        return value * 0x2_0000 + low;
+    }
+    if low == HEADER_HALF {
+        return mark_payload(shape);
+    }
+    low * 0x2_0000
+}
+
+/// The payload of the mark.
+fn mark_payload(shape: Shape) -> u64
+    ensures { result ≡ mark_payload_of shape }
+{
+    (shape.pages() as u64 * 0x1_0000 + shape.words() as u64) * 0x2_0000 + 0x1_0000
+}
+
+/// The number that a payload is of, if it is of any.
+#[tactic(auto, unfolding(crate::specs::Coded::Coded::number_of_payload))]
 fn number_of(payload: u64) -> u64
     requires { IsPayload payload }
     ensures { result ≡ number_of_payload payload }
 {
     let value = payload >> 17;
     let low = payload & 0x1_ffff;
-    if low == 0 {
-        0xAAAA_AAAA_0000_0000 + value
-    } else {
-        value * 0x1_0000_0000 + low
+    match low {
+        0 => HEADER_HALF * 0x1_0000_0000 + value,
+        0x1_0000 => HEADER_HALF * 0x1_0000_0000 + HEADER_HALF,
+        _ => value * 0x1_0000_0000 + low,
     }
 }

@@ -96,18 +96,6 @@ is_unset image text name new_image line store settings opened spelled done =
 
 -- ---- the causes for which nothing is forgotten
 
-pub not_forgotten : (settings : List Setting) (size : Size) (state : State) (name : List ℕ)
-    (numbers : Numbers) (fault : Fault)
-    → IsNumbersOf settings name numbers → IsForgettingRefusal size state numbers.address fault
-    → IsUnsettingRefused settings size state name fault
-not_forgotten settings size state name numbers fault h refused =
-    inr
-    (inl (
-      h.1,
-      h.2,
-      subst (λ (ns : Numbers). IsForgettingRefusal size state ns.address fault) (sym h.3) refused,
-    ))
-
 pub is_unsetting_refused_in : (image text name : List ℕ) (store : Device) (settings : List Setting)
     (fault : Fault)
     → IsOpened image store → SpellsSettings text settings

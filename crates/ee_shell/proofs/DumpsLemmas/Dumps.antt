@@ -143,7 +143,12 @@ whole_import_lem Pairs size dump device formed import whole = record {
 pub one_device_lem : (form : Form) (device other : Device) (dump : List ℕ) → IsFormed device
     → IsFormed other → device.size ≡ other.size → device.wear ≡ other.wear → IsDump form device dump
     → IsDump form other dump
-    → other ≡ record device { cuts = other.cuts; cuts_left = other.cuts_left; on = other.on }
+    → other ≡ record device {
+      cuts = other.cuts;
+      cuts_left = other.cuts_left;
+      fuse = other.fuse;
+      on = other.on;
+    }
 one_device_lem form device other dump formed right size wear is suits =
     search (rules, words_injective, whole_of, one_image)
 

@@ -41,7 +41,12 @@ OneDevice =
     (form : Form) (device other : Device) (dump : List ℕ) → IsFormed device → IsFormed other
     → device.size ≡ other.size → device.wear ≡ other.wear → IsDump form device dump
     → IsDump form other dump
-    → other ≡ record device { cuts = other.cuts; cuts_left = other.cuts_left; on = other.on }
+    → other ≡ record device {
+      cuts = other.cuts;
+      cuts_left = other.cuts_left;
+      fuse = other.fuse;
+      on = other.on;
+    }
 
 -- the dump of a device has the length of its size
 abbrev pub DumpsAreRead : Type 0

@@ -12,15 +12,16 @@ use Rattle.ee_pages.proofs.Public.{legal_is_good}
 use Rattle.ee_pages.specs.Legal.{IsLegal}
 use Rattle.ee_pages.specs.Meaning as meaning
 use Rattle.ee_pages.specs.Meaning.{Change, Map, map_after, changed_by}
-use Rattle.ee_core.proofs.Public.{forget-at, forget-other, put-at, put-other, cut_clearing, cut_map, cut_making, still_none, legal_on, lists_are_there_lem, changed_by-append, goes}
+use Rattle.ee_core.proofs.Public.{forget-at, forget-other, put-at, put-other, cut_clearing, cut_map, legal_stays, cut_making, still_none, legal_on, lists_are_there_lem, changed_by-append, goes}
 use Rattle.ee_core.specs.Calls.{IsCutClean}
 use Rattle.ee_core.specs.Changes.{IsCutChange, IsCutMaking}
 use Rattle.ee_core.specs.Emptying.{IsCutClear}
 use Rattle.ee_core.specs.Points.{Point, closed_point, with_power_on}
 use Rattle.ee_core.specs.Finished.{IsStore}
-use Rattle.ee_core.specs.Openings.{IsCutOpening, Opens}
+use Rattle.ee_core.specs.Openings.{IsCutOpening, IsFormatted, Opens}
 use Rattle.ee_core.specs.Puts.{HasAll, IsEachOnce, each_forgotten, puts_of}
 use Rattle.ee_core.specs.Runs.{Call, WroteAll, Cleared as DidClear, Follows, changes_of_call, is_cut}
+use Rattle.ee_core.specs.Starts.{IsCutStart, IsStartable, StartFails, Starts}
 use Rattle.ee_core.specs.State.{state_of}
 use Rattle.ee_core.specs.declared.change.Put as listed
 use Rattle.ee_core.specs.declared.opening.OpenFault.TheVariants as opening
@@ -28,12 +29,12 @@ use Rattle.ee_core.specs.declared.variables.ClearFault.TheVariants as clear
 use Rattle.ee_core.specs.declared.variables.ForgetFault.TheVariants as forget
 use Rattle.ee_core.specs.declared.variables.WriteAllFault.TheVariants as all
 use Rattle.ee_core.specs.declared.variables.WriteFault.TheVariants as write
-use Rattle.ee_store.specs.PowerCuts.Events.{AreTurns, Happens, Idles, IsCalled, IsEmptied, IsLookedFor, IsTurn, Reopens, Turn, WasDone, call_of_event, tells_of_a_cut, serves_after}
+use Rattle.ee_store.specs.PowerCuts.Events.{AreTurns, Happens, Idles, IsCalled, IsEmptied, IsLookedFor, IsTurn, Reopens, StartsUp, Turn, WasDone, call_of_event, tells_of_a_cut, serves_after}
 use Rattle.ee_store.specs.PowerCuts.Outcome.{IsValueIn, WasKept, is_scan_fault, kept_by}
 use Rattle.ee_store.specs.declared.power_cuts.event.Answer.{Answer}
 use Rattle.ee_store.specs.declared.power_cuts.event.Answer.TheVariants.{Cleaned, Cleared, Done, NotCleared, NotForgotten, NotOpened, NotWritten, Off, Opened, Refused, Value}
 use Rattle.ee_store.specs.declared.power_cuts.event.Event.{Event}
-use Rattle.ee_store.specs.declared.power_cuts.event.Event.TheVariants.{Clean, Clear, Forget, Get, Put, PutAll, Reopen}
+use Rattle.ee_store.specs.declared.power_cuts.event.Event.TheVariants.{Clean, Clear, Forget, Get, Put, PutAll, Reopen, Start}
 
 -- ---- a change that met a cut
 
@@ -318,11 +319,57 @@ reopen_turn serving (NotOpened (opening.Scan fault)) found old new fails looked 
     search (rules, legal_is_good, legal_on)
 reopen_turn _ _ _ _ _ reopens _ = absurd reopens
 
+-- a start does what a reopening does, where it opens or fails as one
+as_reopened : (serving : Bool) (answer : Answer) (found : Option Bool) (old new : Device)
+    → Does serving Reopen answer found old new → Does serving Start answer found old new
+as_reopened serving answer found old new did = record {
+  cuts_are = did.cuts_are;
+  serves = did.serves;
+  legal = did.legal;
+  no_scan_fault = did.no_scan_fault;
+  value = tt;
+  map_is = did.map_is;
+}
+
+not_startable : (device : Device) → IsLegal device → ¬ IsStartable (with_power_on device)
+not_startable device legal = legal_stays (with_power_on device) (legal_on device legal)
+
+first_store : (serving : Bool) (found : Option Bool) (old new : Device)
+    → IsStartable (with_power_on old) → IsFormatted (with_power_on old) new
+    → Does serving Start Opened found old new
+first_store serving found old new startable formatted =
+    let never : ¬ IsLegal old = λ legal. not_startable old legal startable in
+    search rules
+
+first_store_cut : (serving : Bool) (found : Option Bool) (old new : Device)
+    → IsCutStart (with_power_on old) new → Does serving Start (NotOpened opening.Cut) found old new
+first_store_cut serving found old new cut =
+    let never : ¬ IsLegal old = λ legal. not_startable old legal cut.was_startable in
+    search rules
+
+start_turn : (serving : Bool) (answer : Answer) (found : Option Bool) (old new : Device)
+    → StartsUp answer old new → found ≡ None → Does serving Start answer found old new
+start_turn serving Opened found old new (inl first) looked =
+    first_store serving found old new first.0 first.1
+start_turn serving Opened found old new (inr opens) looked =
+    as_reopened serving Opened found old new (reopened serving found old new opens looked)
+start_turn serving (NotOpened opening.Cut) found old new (inl cut) looked =
+    first_store_cut serving found old new cut
+start_turn serving (NotOpened opening.Cut) found old new (inr cut) looked =
+    as_reopened serving (NotOpened opening.Cut) found old new
+    (reopening_cut serving found old new cut looked)
+start_turn serving (NotOpened (opening.Scan fault)) found old new fails looked =
+    as_reopened serving (NotOpened (opening.Scan fault)) found old new
+    (reopen_turn serving (NotOpened (opening.Scan fault)) found old new (fails.1, fails.2) looked)
+start_turn _ _ _ _ _ starts _ = absurd starts
+
 does : (serving : Bool) (event : Event) (answer : Answer) (found : Option Bool) (old new : Device)
     → Happens serving event answer old new → IsLookedFor event answer found new
     → Does serving event answer found old new
 does serving Reopen answer found old new happens looked =
     reopen_turn serving answer found old new happens looked
+does serving Start answer found old new happens looked =
+    start_turn serving answer found old new happens looked
 does true (Put address value) answer found old new happens looked =
     put_turn address value answer found old new happens looked
 does true (PutAll puts) answer found old new happens looked =

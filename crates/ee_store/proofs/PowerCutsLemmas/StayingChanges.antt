@@ -5,8 +5,7 @@ use Rattle.std.specs.Prelude.{slice_index_or}
 use Rattle.std.proofs.lemmas.List.Elements.{All-head, All-tail}
 use Rattle.ee_flash.specs.Device.{Device}
 use Rattle.ee_pages.specs.Legal.{IsLegal}
-use Rattle.ee_pages.specs.Meaning as meaning
-use Rattle.ee_pages.specs.Meaning.{Change, Map, map_after, changed_by}
+use Rattle.ee_pages.specs.Meaning.{Change, Map, changed_by}
 use Rattle.ee_pages.specs.Pending.{address_of}
 use Rattle.ee_core.proofs.Public.{forget-other, changed_by-append, changed_by-other, forgotten_has, lists_are_there_lem, names-puts, apart}
 use Rattle.ee_core.specs.Calls.{WritesAll}
@@ -122,12 +121,6 @@ stays address (turn ∷ turns) map others =
     ∙ elsewhere address turn.event turn.answer turn.found map
     (All-head (λ (one : Turn). event_asks_change_of address one.event ≡ false) turn turns
     others)
-
--- a change that is there is there still, where its address has the same value
-still : (change : Change) (map after : Map) → HasChange change map
-    → after (address_of change) ≡ map (address_of change) → HasChange change after
-still (meaning.Put _ _) _ _ has same = same ∙ has
-still (meaning.Forget _) _ _ has same = same ∙ has
 
 -- turns are those before one of them, that one, and those behind it
 parted : (turns later : List Turn) (turn : Turn) (old new : Point)

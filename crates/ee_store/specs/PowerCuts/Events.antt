@@ -9,6 +9,7 @@ use Rattle.ee_core.specs.Openings.{OpenFails, Opens}
 use Rattle.ee_core.specs.Points.{Point, closed_point, with_power_on}
 use Rattle.ee_core.specs.Puts.{HasAll}
 use Rattle.ee_core.specs.Runs.{Call, Wrote, WroteAll, Forgot, DidRead, Cleared as DidClear, Cleaned as DidClean, Follows}
+use Rattle.ee_core.specs.Starts.{StartFails, Starts}
 use Rattle.ee_core.specs.State.{state_of}
 use Rattle.ee_core.specs.declared.variables.ClearFault.TheVariants as clear
 use Rattle.ee_core.specs.declared.opening.OpenFault.TheVariants as opening
@@ -18,7 +19,7 @@ use Rattle.ee_core.specs.declared.variables.WriteFault.TheVariants as write
 use Rattle.ee_store.specs.declared.power_cuts.event.Answer.{Answer}
 use Rattle.ee_store.specs.declared.power_cuts.event.Answer.TheVariants.{Cleaned, Cleared, Done, NotCleared, NotForgotten, NotOpened, NotWritten, Off, Opened, Refused, Value}
 use Rattle.ee_store.specs.declared.power_cuts.event.Event.{Event}
-use Rattle.ee_store.specs.declared.power_cuts.event.Event.TheVariants.{Clean, Clear, Forget, Get, Put, PutAll, Reopen}
+use Rattle.ee_store.specs.declared.power_cuts.event.Event.TheVariants.{Clean, Clear, Forget, Get, Put, PutAll, Reopen, Start}
 
 -- An event with its answer, and whether the image right after it has the change, if
 -- power was cut in one.
@@ -56,15 +57,23 @@ Reopens Opened old new = Opens (with_power_on old) new
 Reopens (NotOpened fault) old new = OpenFails (with_power_on old) fault new
 Reopens answer old new = ⊥
 
+-- power is turned on, and the store of the image opened, or the first one made
+abbrev pub StartsUp : Answer → Device → Device → Type 0
+StartsUp Opened old new = Starts (with_power_on old) new
+StartsUp (NotOpened fault) old new = StartFails (with_power_on old) fault new
+StartsUp answer old new = ⊥
+
 -- without an open store on a device that is on, nothing is done
 abbrev pub Idles : Answer → Device → Device → Type 0
 Idles Off old new = new ≡ old
 Idles answer old new = ⊥
 
 -- What the event is answered, and what it leaves, by whether a store is open on a device that is
--- on: a reopening opens; each other event makes its call, or is answered that it is off.
+-- on: a reopening opens, and so does a start; each other event makes its call, or is answered that
+-- it is off.
 abbrev pub Happens : Bool → Event → Answer → Device → Device → Type 0
 Happens serving Reopen answer old new = Reopens answer old new
+Happens serving Start answer old new = StartsUp answer old new
 Happens true event answer old new = IsCalled (call_of_event event answer) old new
 Happens false event answer old new = Idles answer old new
 
@@ -77,7 +86,7 @@ tells_of_a_cut (NotCleared clear.Cut) = true
 tells_of_a_cut (NotOpened opening.Cut) = true
 tells_of_a_cut answer = false
 
--- A store is open on a device that is on from an opening to the next answer with a cut, or to an
+-- A store is open on a device that is on from an opening or a start to the next answer with a cut, or to an
 -- opening that fails.
 abbrev pub serves_after : Bool → Answer → Bool
 serves_after serving Opened = true

@@ -1,16 +1,17 @@
 -- What is kept of the changes that events ask for: those that were answered as done, and of those
 -- in which power was cut the ones that were found.
-use Rattle.std.specs.Prelude.{◌≡◌, ◌==◌, ◌++◌, ℕ, Bool, true, false, Option, Some, List, [], ◌∷◌}
+use Rattle.std.specs.Prelude.{◌≡◌, ◌⊎◌, ◌==◌, ◌++◌, ℕ, Bool, true, false, Option, Some, List, [], ◌∷◌}
 use Rattle.std.specs.List.{All, Contains, flat_map}
 use Rattle.ee_flash.specs.Device.{Device}
 use Rattle.ee_pages.specs.Legal.{IsLegal}
 use Rattle.ee_pages.specs.Meaning as meaning
 use Rattle.ee_pages.specs.Meaning.{Change, Map, changed_by}
 use Rattle.ee_pages.specs.Pending.{address_of}
-use Rattle.ee_core.specs.Points.{Point}
+use Rattle.ee_core.specs.Points.{Point, closed_point}
 use Rattle.ee_core.specs.Changes.{HasChange}
 use Rattle.ee_core.specs.Puts.{each_forgotten, is_put, puts_of}
-use Rattle.ee_core.specs.State.{state_of}
+use Rattle.ee_core.specs.Starts.{IsStartable}
+use Rattle.ee_core.specs.State.{formatted_state, state_of}
 use Rattle.ee_core.specs.declared.opening.OpenFault.TheVariants.{Scan}
 use Rattle.ee_store.specs.PowerCuts.Events.{AreTold, AreTurns, Turn, WasDone}
 use Rattle.ee_store.specs.declared.power_cuts.event.Answer.{Answer}
@@ -61,6 +62,15 @@ pub record WasKept (turns : List Turn) (old new : Device) : Type 0 where
   pub legal : IsLegal new
   pub map_is : (state_of new).map ≡ changed_by (kept_changes turns) (state_of old).map
 
+-- What was kept, from a device on which no value was ever stored: each value read is that of its
+-- point, from a map with none; and the image is legal and means the changes that were kept, or
+-- there are none yet, and the device can still be started.
+pub record WasKeptFromNone (turns : List Turn) (new : Device) : Type 0 where
+  pub values : AreValuesFrom formatted_state.map turns
+  pub stands : (IsStartable new × (kept_changes turns ≡ []))
+      ⊎ (IsLegal new
+      × ((state_of new).map ≡ changed_by (kept_changes turns) formatted_state.map))
+
 -- These events, on a device on which no store is open, got these answers and kept entries,
 -- and left this device.
 pub record Drives (old : Device) (events : List Event) (log : List Answer) (kept : List Bool)
@@ -69,6 +79,7 @@ pub record Drives (old : Device) (events : List Event) (log : List Answer) (kept
   pub told : AreTold turns events log kept
   pub done : WasDone turns old new
   pub changes_kept : IsLegal old → WasKept turns old new
+  pub from_none : IsStartable old → WasKeptFromNone turns new
 
 -- Whatever is cut, and however often, no change that was answered is lost, and each that
 -- a cut left is known.
@@ -76,6 +87,13 @@ abbrev pub NoAnsweredChangeIsLost : Type 0
 NoAnsweredChangeIsLost =
     (turns : List Turn) (old new : Point) → AreTurns turns old new → IsLegal old.device
     → WasKept turns old.device new.device
+
+-- So it is with a device on which no value was ever stored, however often power is cut in starting
+-- it.
+abbrev pub NoneIsLostFromNone : Type 0
+NoneIsLostFromNone =
+    (turns : List Turn) (old : Device) (new : Point) → AreTurns turns (closed_point old) new
+    → IsStartable old → WasKeptFromNone turns new.device
 
 -- the event asks for a change of the address; a clear does of each
 abbrev pub event_asks_change_of : ℕ → Event → Bool

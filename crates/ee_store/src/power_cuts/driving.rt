@@ -13,7 +13,7 @@ ghost use Rattle.ee_store.specs.PowerCuts.Outcome.{Drives};
 use crate::power_cuts::event::{Answer, Driven, Event};
 use ee_codec::Address;
 use ee_core::{
-    ClearFault, ForgetFault, Off, Put, Store, Variables, WriteAllFault, WriteFault, open,
+    ClearFault, ForgetFault, Off, Put, Store, Variables, WriteAllFault, WriteFault, open, start,
 };
 use ee_flash::Flash;
 use ee_pages::{latest, next_live, scan};
@@ -86,6 +86,7 @@ impl<F: Flash + Drop> Bench<F> {
         match self {
             Bench::Bare(flash) => match *event {
                 Event::Reopen => reopen(flash),
+                Event::Start => start_up(flash),
                 _ => (Bench::Bare(flash), Note::of(Answer::Off)),
             },
             Bench::Open(store) => match *event {
@@ -96,6 +97,7 @@ impl<F: Flash + Drop> Bench<F> {
                 Event::Clear => clear(store),
                 Event::Clean => clean(store),
                 Event::Reopen => reopen(store.into_flash()),
+                Event::Start => start_up(store.into_flash()),
             },
         }
     }
@@ -210,6 +212,19 @@ fn reopen<F: Flash + Drop>(flash: F) -> (Bench<F>, Note)
     }
 }
 
+/// Turns power on and starts the store.
+fn start_up<F: Flash + Drop>(flash: F) -> (Bench<F>, Note)
+    ensures { (old : Point) → old.device ≡ F.device flash
+        → IsTurn (turn_of Event.Start result.1) old (point_of_bench F.device result.0) }
+{
+    let mut device = flash;
+    device.power_on();
+    match start(device) {
+        Ok(started) => (Bench::Open(started), Note::of(Answer::Opened)),
+        Err((device, fault)) => (Bench::Bare(device), Note::of(Answer::NotOpened(fault))),
+    }
+}
+
 /// The value that the image gives an address, whether power is on or off.
 fn value_in<F: Flash>(flash: &F, address: Address) -> Option<u32>
     requires { IsLegal (F.device flash.now) }
@@ -247,11 +262,11 @@ fn has_all<F: Flash>(flash: &F, puts: &[Put]) -> bool
 
 /// Drives a store by events, one after another, through power cuts and openings. No store
 /// is open at the start, whether the device is on or off. Without an open store, or on a
-/// device that is off, all but `Reopen` are answered `Off`. Memory for the answers is taken
+/// device that is off, all but `Reopen` and `Start` are answered `Off`. Memory for the answers is taken
 /// before the first event.
 ///
-/// From any legal image no change that was answered as done is lost, and of each that met a cut
-/// `kept` says whether the image has it.
+/// From any legal image, and from a device on which no value was ever stored, no change that was
+/// answered as done is lost, and of each that met a cut `kept` says whether the image has it.
 ///
 /// Source: ours.
 ///

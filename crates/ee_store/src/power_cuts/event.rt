@@ -23,6 +23,8 @@ pub enum Event<'a> {
     Clean,
     /// The device is given back, if a store is open; power is turned on, and the store is opened.
     Reopen,
+    /// As `Reopen`, and a device on which no value was ever stored gets its first store.
+    Start,
 }
 
 /// What an event is answered.

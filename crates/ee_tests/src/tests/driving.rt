@@ -38,11 +38,12 @@ fn puts(rt: &impl Abort) -> [Put; 2] {
     ]
 }
 
-fn worked_events(address: Address, puts: &[Put]) -> [Event<'_>; 11] {
+fn worked_events(address: Address, puts: &[Put]) -> [Event<'_>; 12] {
     [
         Event::Get { address },
         Event::Reopen,
         Event::Get { address },
+        Event::Start,
         Event::Put { address, value: 13 },
         Event::Clean,
         Event::Clean,
@@ -54,10 +55,11 @@ fn worked_events(address: Address, puts: &[Put]) -> [Event<'_>; 11] {
     ]
 }
 
-const WORKED_ANSWERS: [Answer; 11] = [
+const WORKED_ANSWERS: [Answer; 12] = [
     Answer::Off,
     Answer::Opened,
     Answer::Value(Some(12)),
+    Answer::Opened,
     Answer::Done(Written::Appended),
     Answer::Cleaned(true),
     Answer::Cleaned(false),

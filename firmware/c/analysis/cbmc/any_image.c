@@ -152,6 +152,20 @@ static void rescue_any(void) {
     else is_off();
 }
 
+/* Which word an opening is refused for, if for one. */
+static void foreign_word(void) {
+    const meaning it = means(0);
+    const _Bool low = KIND == EE_PAIRS && has_low, is_told = !it.legal && refusal() == EE_FOREIGN;
+    uint32_t page = 98, place = 99;
+    const ee_result status = ee_foreign_word(&flash, &page, &place);
+    has_status(status, is_told ? EE_OK : EE_NOTHING);
+    takes_at_most(0, 0);
+    HOLDS(reads <= PER_WORD * 3 * 2 * PAGES * WORDS, "no more reads than ee.h says");
+    if (!is_on || !is_told) HOLDS(page == 98 && place == 99, "it writes nothing otherwise");
+    else if (low) HOLDS(page == low_page && place == low_place, "it is the first that no store wrote");
+    else HOLDS(page == it.page && place == it.place, "it is the first that may not stand there");
+}
+
 /* ---- The calls on a legal image. */
 
 static void opens(void) {
@@ -182,6 +196,21 @@ static void read(const meaning *it) {
     const ee_result status = ee_read(&store, watched[1], &found);
     const _Bool answered = looked(status, before[1].some ? EE_OK : EE_NOTHING);
     HOLDS(found == (answered ? before[1].value : 7), "it gives the value, and writes none otherwise");
+    HOLDS(reads <= PER_WORD * SLOTS, "no more reads than ee.h says");
+}
+
+/* Two values, also of one address. */
+static void load(const meaning *it) {
+    ee_value values[2] = {{watched[1], 7}, {watched[2], 8}};
+    uint32_t loaded = 9;
+    const ee_result expected = is_wrong(watched[1]) || is_wrong(watched[2]) ? EE_WRONG_NUMBER : EE_OK;
+    const ee_result status = ee_load(&store, values, 2, &loaded);
+    const _Bool answered = looked(status, expected);
+    for (uint32_t at = 0; at < 2; at++) {
+        const said wanted = before[at + 1];
+        HOLDS(values[at].value == (answered && wanted.some ? wanted.value : 7 + at), "it gives what has a value that, and no more");
+    }
+    HOLDS(loaded == (answered ? (uint32_t)before[1].some + before[2].some : 9), "it counts them");
     HOLDS(reads <= PER_WORD * SLOTS, "no more reads than ee.h says");
 }
 
@@ -275,22 +304,24 @@ int main(void) {
     if (CALL == 1) first_start();
     if (CALL == 2) refused();
     if (CALL == 3) rescue_any();
-    if (CALL < 4) return 0;
+    if (CALL == 4) foreign_word();
+    if (CALL < 5) return 0;
     meaning it;
-    any_legal_image(CALL == 5 || CALL == 6, &it);
-    if (CALL > 6) make_store(&it);
+    any_legal_image(CALL == 6 || CALL == 7, &it);
+    if (CALL > 7) make_store(&it);
     const uint32_t value = nondet_u32();
     switch (CALL) {
-    case 4: opens(); break;
-    case 5: rescue(&it); break;
-    case 6: bad_words(&it); break;
-    case 7: read(&it); break;
-    case 8: next(&it); break;
-    case 9: count(&it); break;
-    case 10: clean(&it); break;
-    case 11: write(&it, value); break;
-    case 12: write_all(&it, value); break;
-    case 13: forget(&it); break;
+    case 5: opens(); break;
+    case 6: rescue(&it); break;
+    case 7: bad_words(&it); break;
+    case 8: read(&it); break;
+    case 9: load(&it); break;
+    case 10: next(&it); break;
+    case 11: count(&it); break;
+    case 12: clean(&it); break;
+    case 13: write(&it, value); break;
+    case 14: write_all(&it, value); break;
+    case 15: forget(&it); break;
     default: forget_all(&it); break;
     }
     return 0;

@@ -9,6 +9,7 @@
 static uint64_t number[2 * PAGES][WORDS]; /* all ones of a torn one */
 static _Bool torn[2 * PAGES][WORDS];
 static _Bool has_low; /* a pair that sums to less than all ones, which no store wrote */
+static uint32_t low_page, low_place; /* the first one */
 
 static void see(void) {
     has_low = 0;
@@ -19,7 +20,7 @@ static void see(void) {
                 torn[page][place] = unreadable[page][place];
             } else {
                 torn[page][place] = first == ONES ? second != ONES : second != ~first;
-                has_low |= second < ONES - first;
+                if (!has_low && second < ONES - first) has_low = 1, low_page = page, low_place = place;
             }
             number[page][place] = torn[page][place] ? ONES : first;
         }
@@ -47,15 +48,26 @@ static _Bool is_change(uint64_t what) {
     return address != 0 && address != 65535 && (uint16_t)(what >> 16) <= 1;
 }
 
-/* The live set of an image, its generation, and how many slots are used; whether the image is legal. Where `with_bad`, a used slot
- * may hold any number. */
+/* The live set of an image, its generation, and how many slots are used; whether the image is legal, and the first word of the live
+ * set that may not stand there: 0, 0 where there is none, since that one commits the set. Where `with_bad`, a used slot may hold any
+ * number. */
 typedef struct meaning {
     _Bool legal;
-    uint32_t side, generation, fill;
+    uint32_t side, generation, fill, page, place;
 } meaning;
 
+/* Whether a word of the live set may stand in its place. */
+static _Bool may_stand(const meaning *it, uint32_t in_set, uint32_t place) {
+    const uint32_t page = it->side * PAGES + in_set, slots_before = in_set * (WORDS - 4);
+    const _Bool begun = it->fill >= slots_before, commits = in_set == 0 && place < 2;
+    if (is_erased(page, place) || commits) return 1;
+    if (place >= 4) return slots_before + place - 4 < it->fill;
+    if (place == 0) return begun && (torn[page][0] || number[page][0] == GENERATION_0 + it->generation);
+    return place < 3 && begun && may_be_marked(page, place);
+}
+
 static meaning means(_Bool with_bad) {
-    meaning it = {0, 0, 0, 0};
+    meaning it = {0, 0, 0, 0, 0, 0};
     see();
     const uint32_t first = generation_of(0), second = generation_of(1);
     if (first == second) return it;
@@ -64,19 +76,11 @@ static meaning means(_Bool with_bad) {
     while (it.fill < SLOTS && (slot_torn(it.side, it.fill) || is_change(slot(it.side, it.fill)) ||
                                (with_bad && slot(it.side, it.fill) != ONES)))
         it.fill++;
-    it.legal = with_bad || !(KIND == EE_PAIRS && has_low);
-    for (uint32_t at = it.fill; at < SLOTS; at++) it.legal &= !slot_torn(it.side, at) && slot(it.side, at) == ONES;
-    for (uint32_t in_set = 0; in_set < PAGES; in_set++) {
-        const uint32_t page = it.side * PAGES + in_set;
-        const _Bool begun = it.fill >= in_set * (WORDS - 4);
-        if (in_set > 0) {
-            const _Bool has_generation = torn[page][0] || number[page][0] == GENERATION_0 + it.generation;
-            it.legal &= is_erased(page, 0) || (begun && has_generation);
-            it.legal &= is_erased(page, 1) || (begun && may_be_marked(page, 1));
-        }
-        it.legal &= is_erased(page, 2) || (begun && may_be_marked(page, 2));
-        it.legal &= is_erased(page, 3);
-    }
+    _Bool fits = 1;
+    for (uint32_t in_set = 0; in_set < PAGES; in_set++)
+        for (uint32_t place = 0; place < WORDS; place++)
+            if (fits && !may_stand(&it, in_set, place)) fits = 0, it.page = it.side * PAGES + in_set, it.place = place;
+    it.legal = fits && (with_bad || !(KIND == EE_PAIRS && has_low));
     return it;
 }
 

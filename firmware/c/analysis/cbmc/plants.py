@@ -16,8 +16,7 @@ PLANTS = {
         "maybe_u32_some((uint32_t)(number >> 32u) & 0x7FFFFFFFu)",
         "one value in two loses its top bit", "read-words-1x5-0-1-nothing"),
     "commits-first": (
-        r"(    const CopyingPlaceOrCut filled_result = fill_set\([^;]*;\n.*?filled = [^;]*;\n)"
-        r"(    if \(commit\(.*?\n    \}\n)", r"\2\1",
+        r"(    if \(fill_set\([^;{]*\{\n[^}]*\}\n)(    if \(commit\([^}]*\}\n)", r"\2\1",
         "a move commits its set before that is filled", "write-words-1x5-0-1-steps"),
     "erases-live": (
         r"first_page\(flash, side_other\(layout->side\)\)(;\n[^}]*?erase_other\()",
@@ -60,6 +59,20 @@ PLANTS = {
     "rescues-older": (
         r"first_generation < second_generation", r"first_generation > second_generation",
         "a rescue takes the older of two sets", "rescue-words-1x5-1-1-steps"),
+    "loads-older": (
+        r"(if \(maybe_said\.some)(\) \{\s+const MaybeU32 said_2)",
+        r"\1 && !entries.items[at].value.some\2",
+        "a load takes the value of an older page", "load-words-2x5-0-2-nothing"),
+    "loads-unasked": (
+        r"(here\[at\]\.value = )wanted\[at\]\.value\.some \? (wanted\[at\]\.value\.value) : [^;]*;",
+        r"\1\2;", "a load writes over a default", "load-pairs-1x5-0-1-nothing"),
+    "told-of-set": (
+        r"found\.value\.page = first_page\(device, live\.value\.first\) \+ ", r"found.value.page = ",
+        "the page of a foreign word is counted from its set's first",
+        "foreign_word-words-1x5-nothing"),
+    "low-untold": (
+        r"(\{ found = )first_low\(device\)(; \})", r"\1(MaybeLowPair){ .some = false }\2",
+        "a pair that no store wrote isn't told", "foreign_word-pairs-1x5-nothing"),
     "window-behind": (
         r"numbers_window\(device, page, at, len\)", r"numbers_window(device, page, at - 1u, len)",
         "several words at once are looked at a place before", "read-words-1x5-0-1-nothing-window"),

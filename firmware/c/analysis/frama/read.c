@@ -1,5 +1,5 @@
-/* A read on a store over PAGES pages in a set and WORDS words in a page, for Frama-C's Eva: whatever the words of the flash say, is it
- * asked only for pages and places that it has? */
+/* A read and a load on a store over PAGES pages in a set and WORDS words in a page, for Frama-C's Eva: whatever the words of the flash
+ * say, is it asked only for pages and places that it has? */
 #include "ee.h"
 #include "__fc_builtin.h"
 #include <stddef.h>
@@ -48,9 +48,8 @@ static const ee_flash flash = {.pages = PAGES, .page_words = WORDS, .word = word
     .words = words};
 static ee_store store;
 
-static void read_with(uint32_t side, uint32_t fill) {
+static void store_with(uint32_t side, uint32_t fill) {
     struct ee_kept *const kept = &store.memory.parts.store;
-    uint32_t value;
     kept->flash.power = &store.memory.parts.power;
     kept->flash.shape.pages = PAGES;
     kept->flash.shape.words = WORDS;
@@ -60,10 +59,27 @@ static void read_with(uint32_t side, uint32_t fill) {
     kept->known.layout.current = side * PAGES + (fill == 0 ? 0 : (fill - 1) / SLOTS);
     store.memory.parts.power.flash = &flash;
     store.memory.parts.power.idle = &store;
+}
+
+static void read_with(uint32_t side, uint32_t fill) {
+    uint32_t value;
+    store_with(side, fill);
     ee_read(&store, any16, &value);
+}
+
+static void load_with(uint32_t side, uint32_t fill) {
+    ee_value values[2] = {{any16, any32}, {any16, any32}};
+    uint32_t loaded;
+    store_with(side, fill);
+    ee_load(&store, values, 2, &loaded);
 }
 
 void reads(void) {
     for (uint32_t side = 0; side < 2; side++)
         for (uint32_t fill = 0; fill <= PAGES * SLOTS; fill++) read_with(side, fill);
+}
+
+void loads(void) {
+    for (uint32_t side = 0; side < 2; side++)
+        for (uint32_t fill = 0; fill <= PAGES * SLOTS; fill++) load_with(side, fill);
 }

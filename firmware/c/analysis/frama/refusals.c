@@ -34,14 +34,15 @@ static const uint64_t *not_called_words(void *given, uint32_t page, uint32_t pla
 
 static void is_refused(const ee_flash *flash) {
     ee_store store;
-    uint32_t count;
+    uint32_t count, place;
     ee_store *const given = any ? &store : NULL;
     ee_result status;
-    switch (Frama_C_interval(0, 4)) {
+    switch (Frama_C_interval(0, 5)) {
     case 0: status = ee_start(given, flash); break;
     case 1: status = ee_open(given, flash); break;
     case 2: status = ee_format(given, flash); break;
     case 3: status = ee_rescue(given, flash); break;
+    case 4: status = ee_foreign_word(flash, any ? &count : NULL, any ? &place : NULL); break;
     default: status = ee_bad_words(flash, any ? &count : NULL); break;
     }
     //@ check refused: status == EE_NULL || status == EE_WRONG_SHAPE;

@@ -95,14 +95,14 @@ pub enum Unfit {
     ReadSize,
     /// `ERASE_SIZE` is no multiple of what the flash writes and reads at a time.
     EraseSize,
-    /// A flash that writes less than 8 bytes at a time holds pairs, and one that writes more holds words.
-    Kind,
     /// The store doesn't begin where a sector of the flash does.
     Offset,
     /// The range is no even number of sectors, 2 to 128.
     Length,
     /// A sector has less than 5 words.
     Sector,
+    /// A flash that writes less than 8 bytes at a time holds pairs, and one that writes more holds words.
+    Kind,
     /// The store would end beyond the flash, or beyond 4 GiB.
     Capacity,
 }

@@ -49,9 +49,7 @@ pub trait Ecc<F: ReadNorFlash> {
 
     /// It is called before these bytes are erased. A reader that keeps torn words, since a cache may hide the error of a second
     /// read, forgets those in them.
-    fn erases(&self, bytes: Range<u32>) {
-        let _ = bytes;
-    }
+    fn erases(&self, _bytes: Range<u32>) {}
 }
 
 /// How a read ended that didn't fail.
@@ -124,19 +122,11 @@ impl<F: NorFlash> NorDriver<F> {
 }
 
 impl<F: NorFlash, E: Ecc<F>> NorDriver<F, E> {
-    /// How many bytes of the flash a word of the store takes: 8, 16 or 32.
-    pub const WORD_BYTES: usize = match F::WRITE_SIZE {
-        8 => 8,
-        32 => 32,
-        _ => 16,
-    };
-
     /// How many bytes are programmed at once: those of a word, or of a number of a pair.
-    const UNIT: usize = if F::WRITE_SIZE < 8 {
-        8
-    } else {
-        Self::WORD_BYTES
-    };
+    const UNIT: usize = if F::WRITE_SIZE < 8 { 8 } else { F::WRITE_SIZE };
+
+    /// How many bytes of the flash a word of the store takes: 8, 16 or 32.
+    pub const WORD_BYTES: usize = Self::UNIT << (F::WRITE_SIZE < 8) as usize;
 
     /// The same for a flash that is read in another way, as one with ECC is on an STM32.
     ///
@@ -159,24 +149,20 @@ impl<F: NorFlash, E: Ecc<F>> NorDriver<F, E> {
         if (kind == Kind::Words) != (F::WRITE_SIZE >= 8) {
             return Err(Unfit::Kind);
         }
-        let page = (shape.words() * Self::WORD_BYTES).div_ceil(F::ERASE_SIZE);
-        let stride = page.checked_mul(F::ERASE_SIZE).ok_or(Unfit::Capacity)?;
-        let size = stride.checked_mul(2 * shape.pages());
-        let end = size.and_then(|size| size.checked_add(offset as usize));
-        match (end, u32::try_from(stride)) {
-            (Some(end), Ok(stride)) if end <= flash.capacity() && u32::try_from(end).is_ok() => {
-                let flash = RefCell::new(flash);
-                Ok(NorDriver {
-                    flash,
-                    ecc,
-                    kind,
-                    offset,
-                    stride,
-                    shape,
-                })
-            }
-            _ => Err(Unfit::Capacity),
+        let stride = (shape.words() * Self::WORD_BYTES).next_multiple_of(F::ERASE_SIZE) as u64;
+        let size = stride.saturating_mul(2 * shape.pages() as u64);
+        let end = size.saturating_add(offset.into());
+        if end > flash.capacity() as u64 || end > u32::MAX.into() {
+            return Err(Unfit::Capacity);
         }
+        Ok(NorDriver {
+            flash: RefCell::new(flash),
+            ecc,
+            kind,
+            offset,
+            stride: stride as u32,
+            shape,
+        })
     }
 
     /// The shape of a store in these bytes: each sector is a page, of as many words as fit, 512 at most. The first half of
@@ -192,11 +178,9 @@ impl<F: NorFlash, E: Ecc<F>> NorDriver<F, E> {
         if length % F::ERASE_SIZE != 0 || sectors % 2 != 0 {
             return Err(Unfit::Length);
         }
+        Shape::new(sectors / 2, PAGE_WORDS).ok_or(Unfit::Length)?;
         let words = (F::ERASE_SIZE / Self::WORD_BYTES).min(PAGE_WORDS);
-        match Shape::new(1, words) {
-            Some(_) => Shape::new(sectors / 2, words).ok_or(Unfit::Length),
-            None => Err(Unfit::Sector),
-        }
+        Shape::new(sectors / 2, words).ok_or(Unfit::Sector)
     }
 
     /// The flash, to be used for what stands elsewhere in it.
@@ -212,18 +196,13 @@ impl<F: NorFlash, E: Ecc<F>> NorDriver<F, E> {
     // Whether a store fits sizes of this flash, and this byte.
     fn check_sizes(offset: u32) -> Result<(), Unfit> {
         let (write, read, sector) = (F::WRITE_SIZE, F::READ_SIZE, F::ERASE_SIZE);
-        if !matches!(write, 1 | 2 | 4 | 8 | 16 | 32) {
-            return Err(Unfit::WriteSize);
-        }
-        if read == 0 || write.max(8) % read != 0 {
-            return Err(Unfit::ReadSize);
-        }
-        if sector == 0 || sector % write != 0 || sector % read != 0 {
-            return Err(Unfit::EraseSize);
-        }
-        match offset as usize % sector {
-            0 => Ok(()),
-            _ => Err(Unfit::Offset),
+        match sector {
+            _ if !matches!(write, 1 | 2 | 4 | 8 | 16 | 32) => Err(Unfit::WriteSize),
+            _ if read == 0 || Self::UNIT % read != 0 => Err(Unfit::ReadSize),
+            0 => Err(Unfit::EraseSize),
+            _ if sector % write != 0 || sector % read != 0 => Err(Unfit::EraseSize),
+            _ if offset as usize % sector != 0 => Err(Unfit::Offset),
+            _ => Ok(()),
         }
     }
 
@@ -232,46 +211,33 @@ impl<F: NorFlash, E: Ecc<F>> NorDriver<F, E> {
         self.offset + page as u32 * self.stride + (Self::UNIT * at) as u32
     }
 
-    // Reads the bytes of one word of a page, or of several from there on.
-    fn look(
-        &self,
-        page: usize,
-        at: usize,
-        bytes: &mut [u8],
-    ) -> Result<Reading, NorError<F::Error>> {
-        let byte = self.byte(page, at);
+    // Whether these bytes, of one word of a page or of several from there on, are whole.
+    fn look(&self, page: usize, at: usize, bytes: &mut [u8]) -> Result<bool, NorError<F::Error>> {
         let mut flash = borrowed(&self.flash);
-        let read = self.ecc.read_bytes(&mut flash, byte, bytes);
-        read.map_err(NorError::Flash)
+        let read = self.ecc.read_bytes(&mut flash, self.byte(page, at), bytes);
+        Ok(read.map_err(NorError::Flash)? == Reading::Whole)
     }
 
     // The word that stands in these bytes: a number, or a value, its complement, and zeros. One that no store wrote is 0.
     fn word_in(bytes: &[u8]) -> Word {
-        let value = number(bytes, 0);
+        let value = number(bytes);
         if Self::UNIT == 8 {
             return Word::from(value);
         }
-        let word = word_of(value, number(bytes, 8));
+        let check = number(&bytes[8..]);
+        let word = word_of(value, check);
         let rest = if word == Word::Erased { 0xff } else { 0 };
-        match bytes[16..].iter().all(|byte| *byte == rest) {
-            _ if is_low(value, number(bytes, 8)) => Word::Held(0),
+        match bytes[16..Self::UNIT].iter().all(|byte| *byte == rest) {
+            _ if is_low(value, check) => Word::Held(0),
             true => word,
             false => Word::Torn,
         }
     }
-
-    fn torn(&self) -> Word {
-        match self.kind {
-            Kind::Words => Word::Torn,
-            _ => Word::Held(TORN),
-        }
-    }
 }
 
-fn number(bytes: &[u8], from: usize) -> u64 {
-    let mut number = [0; 8];
-    number.copy_from_slice(&bytes[from..from + 8]);
-    u64::from_le_bytes(number)
+// The number that these bytes begin with.
+fn number(bytes: &[u8]) -> u64 {
+    u64::from_le_bytes(bytes.first_chunk().copied().unwrap_or_default())
 }
 
 impl<F: NorFlash, E: Ecc<F>> Driver for NorDriver<F, E> {
@@ -288,29 +254,24 @@ impl<F: NorFlash, E: Ecc<F>> Driver for NorDriver<F, E> {
     fn word(&self, page: usize, at: usize) -> Result<Word, Self::Error> {
         let mut bytes = [0; 32];
         let bytes = &mut bytes[..Self::UNIT];
-        match self.look(page, at, bytes)? {
-            Reading::Whole => Ok(Self::word_in(bytes)),
-            Reading::Torn => Ok(self.torn()),
+        match self.kind {
+            _ if self.look(page, at, bytes)? => Ok(Self::word_in(bytes)),
+            Kind::Words => Ok(Word::Torn),
+            _ => Ok(Word::Held(TORN)),
         }
     }
 
     fn read_run(&self, page: usize, at: usize, room: &mut [u64]) -> Result<(), Self::Error> {
-        let most = if self.ecc.reads_runs() {
-            BLOCK / Self::UNIT
-        } else {
-            1
-        };
+        let most = BLOCK / Self::UNIT;
         let mut bytes = [0; BLOCK];
-        for (from, run) in (at..).step_by(most).zip(room.chunks_mut(most)) {
+        for (at, run) in (at..).step_by(most).zip(room.chunks_mut(most)) {
             let bytes = &mut bytes[..run.len() * Self::UNIT];
-            let is_whole = self.look(page, from, bytes)? == Reading::Whole;
+            let are_whole = self.ecc.reads_runs() && self.look(page, at, bytes)?;
             for (place, number) in run.iter_mut().enumerate() {
-                let word = match (is_whole, most) {
-                    (true, _) => Self::word_in(&bytes[place * Self::UNIT..][..Self::UNIT]),
-                    (false, 1) => self.torn(),
-                    (false, _) => self.word(page, from + place)?,
+                *number = match are_whole {
+                    true => Self::word_in(&bytes[place * Self::UNIT..]).number(),
+                    false => self.word(page, at + place)?.number(),
                 };
-                *number = word.number();
             }
         }
         Ok(())
@@ -336,11 +297,10 @@ impl<F: NorFlash, E: Ecc<F>> Driver for NorDriver<F, E> {
         let erased = NorFlash::erase(self.flash.get_mut(), from, behind);
         erased.map_err(NorError::Flash)?;
         let units = self.shape.words() * Self::WORD_BYTES / Self::UNIT;
-        let mut room = [0; 16];
-        for from in (0..units).step_by(room.len()) {
-            let count = room.len().min(units - from);
-            self.read_run(page, from, &mut room[..count])?;
-            if room[..count].iter().any(|number| *number != u64::MAX) {
+        for from in (0..units).step_by(16) {
+            let room = &mut [0; 16][..16.min(units - from)];
+            self.read_run(page, from, room)?;
+            if room.iter().any(|number| *number != u64::MAX) {
                 return Err(NorError::ReadBack);
             }
         }

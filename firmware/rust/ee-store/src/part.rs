@@ -2,10 +2,11 @@
 
 use crate::driver::{Driver, Kind};
 use crate::ee_flash::{Cut, Flash, Shape, Word};
-use crate::ee_nor::{self as proved, LowPair, Nor};
+use crate::ee_nor::{LowPair, Nor, Pairs};
 use crate::ee_pages::{blank_to, is_blank};
 use crate::error::{DriverError, Step};
 use core::cell::{Cell, RefCell};
+use core::ops::{Deref, Range};
 
 /// A driver, which is on until it fails or a place outside it is asked for.
 ///
@@ -52,21 +53,18 @@ impl<D: Driver> Part<D> {
 
     /// The first word of a pair of numbers that no store wrote.
     pub(crate) fn low_pair(&self) -> Option<LowPair> {
-        if self.driver.kind() == Kind::Words {
-            return None;
+        match self.driver.kind() {
+            Kind::Words => None,
+            _ => Pairs::of(Numbers::of(self, ROOM)).err().map(|it| it.1),
         }
-        let pairs = proved::Pairs::of(Numbers::of(self, ROOM));
-        pairs.err().map(|(_, low)| low)
     }
 
     /// Whether a first store may be made here: of pairs only where no more is written than a first start that was cut leaves. It
     /// programs the first two words of page 0, and erases that page where it was cut before: such an erase leaves anything there
     /// if it clears the cells first, and else no others.
     pub(crate) fn may_be_new(&self) -> bool {
-        match self.driver.kind() {
-            Kind::Words => true,
-            kind => !holds_more(self, kind == Kind::PairsClearing),
-        }
+        let kind = self.driver.kind();
+        kind == Kind::Words || !holds_more(self, kind == Kind::PairsClearing)
     }
 
     // Whether there is such a word on a part that is on. Where it is outside the part goes off.
@@ -79,13 +77,8 @@ impl<D: Driver> Part<D> {
     }
 
     // The answer of a driver that was asked for this: where it failed the part is off from here on.
-    fn told<T>(
-        &self,
-        answer: Result<T, D::Error>,
-        step: Step,
-        page: usize,
-        at: usize,
-    ) -> Result<T, Cut> {
+    fn told<T>(&self, asked: (Step, usize, usize), answer: Result<T, D::Error>) -> Result<T, Cut> {
+        let (step, page, at) = asked;
         answer.map_err(|error| {
             self.turn_off();
             self.failed.set(Some(DriverError {
@@ -98,13 +91,16 @@ impl<D: Driver> Part<D> {
         })
     }
 
-    // Programs a word, or a number of one.
+    // Words of a page from a place on, or numbers of pairs, where the driver has so many in memory.
+    fn window(&self, page: usize, at: usize, count: usize) -> Option<&[u64]> {
+        let window = self.driver.window(page, at, count);
+        window.filter(|words| words.len() == count)
+    }
+
+    // Programs a word, or a number of one. `program` leads here, and saw that the part is on and has the word.
     fn program_at(&mut self, page: usize, at: usize, word: usize, value: u64) -> Result<(), Cut> {
-        if !self.has(page, word) {
-            return Err(Cut);
-        }
         let answer = self.driver.program(page, at, value);
-        self.told(answer, Step::Program, page, word)
+        self.told((Step::Program, page, word), answer)
     }
 }
 
@@ -112,18 +108,11 @@ impl<D: Driver> Part<D> {
 pub fn holds_more<F: Flash>(flash: &F, clears_first: bool) -> bool {
     let shape = flash.shape();
     let from = if clears_first { shape.words() } else { 2 };
-    if blank_to(flash, 0, from) != shape.words() {
-        return true;
+    let mut holds = blank_to(flash, 0, from) != shape.words();
+    for page in 1..2 * shape.pages() {
+        holds = holds || !is_blank(flash, page);
     }
-    // It never begins past its end, which a range would test again: that costs firmware code.
-    let mut page = 1;
-    while page != 2 * shape.pages() {
-        if !is_blank(flash, page) {
-            return true;
-        }
-        page += 1;
-    }
-    false
+    holds
 }
 
 impl<D: Driver> Flash for Part<D> {
@@ -145,33 +134,30 @@ impl<D: Driver> Flash for Part<D> {
             return Word::Torn;
         }
         if self.driver.kind() != Kind::Words {
-            return proved::Pairs::known(Numbers::of(self, 2)).word(page, at);
+            return Pairs::known(Numbers::of(self, 2)).word(page, at);
         }
         let answer = self.driver.word(page, at);
-        match self.told(answer, Step::Read, page, at) {
+        match self.told((Step::Read, page, at), answer) {
             Ok(Word::Held(number)) => Word::from(number),
             Ok(word) => word,
             Err(Cut) => Word::Torn,
         }
     }
 
+    // What the room has when the part is off counts for nothing.
     fn run<'a>(&'a self, page: usize, at: usize, room: &'a mut [u64]) -> &'a [u64] {
         let count = room.len();
-        // What the room has when the part is off counts for nothing.
         if count == 0 || !self.has(page, at + count - 1) {
             return room;
         }
         if self.driver.kind() != Kind::Words {
-            // They stand in the room: in memory there are two numbers for each.
-            proved::Pairs::known(Numbers::of(self, 2 * count)).run(page, at, room);
-            return room;
-        }
-        let window = self.driver.window(page, at, count);
-        if let Some(words) = window.filter(|words| words.len() == count) {
+            Pairs::known(Numbers::of(self, 2 * count)).run(page, at, room);
+        } else if let Some(words) = self.window(page, at, count) {
             return words;
+        } else {
+            let answer = self.driver.read_run(page, at, room);
+            let _ = self.told((Step::Read, page, at), answer);
         }
-        let answer = self.driver.read_run(page, at, room);
-        let _ = self.told(answer, Step::Read, page, at);
         room
     }
 
@@ -179,8 +165,9 @@ impl<D: Driver> Flash for Part<D> {
     #[inline(never)]
     fn program(&mut self, page: usize, at: usize, value: u64) -> Result<(), Cut> {
         match self.driver.kind() {
+            _ if !self.has(page, at) => Err(Cut),
             Kind::Words => self.program_at(page, at, at, value),
-            _ => proved::Pairs::known(Numbers::of(self, 2)).program(page, at, value),
+            _ => Pairs::known(Numbers::of(self, 2)).program(page, at, value),
         }
     }
 
@@ -190,7 +177,7 @@ impl<D: Driver> Flash for Part<D> {
             return Err(Cut);
         }
         let answer = self.driver.erase(page);
-        self.told(answer, Step::Erase, page, 0)
+        self.told((Step::Erase, page, 0), answer)
     }
 
     // As of `wear`: a cut adds nothing.
@@ -213,73 +200,51 @@ impl<D: Driver> Flash for Part<D> {
 const ROOM: usize = 32;
 
 /// A part that is lent, to be read alone or to be changed too.
-trait Lent {
+trait Lent: Deref<Target = Part<Self::Driver>> {
     type Driver: Driver;
 
-    fn part(&self) -> &Part<Self::Driver>;
-
-    fn part_mut(&mut self) -> Option<&mut Part<Self::Driver>>;
-}
-
-impl<D: Driver> Lent for &Part<D> {
-    type Driver = D;
-
-    fn part(&self) -> &Part<D> {
-        self
-    }
-
-    fn part_mut(&mut self) -> Option<&mut Part<D>> {
+    fn part_mut(&mut self) -> Option<&mut Part<Self::Driver>> {
         None
     }
 }
 
+impl<D: Driver> Lent for &Part<D> {
+    type Driver = D;
+}
+
 impl<D: Driver> Lent for &mut Part<D> {
     type Driver = D;
-
-    fn part(&self) -> &Part<D> {
-        self
-    }
 
     fn part_mut(&mut self) -> Option<&mut Part<D>> {
         Some(self)
     }
 }
 
-/// The numbers of a part, as the proved words take them. Its flash was looked through when it was opened, and by the proofs each
-/// step and each cut keeps what that saw; so it is not looked through again. Of one that was rescued the proofs hold as long as
-/// no erase of a page with a word that no store wrote is cut.
+/// The numbers of a part, as the proved words take them, who ask for none outside it. Its flash was looked through when it was
+/// opened, and by the proofs each step and each cut keeps what that saw; so it is not looked through again. Of one that was rescued
+/// the proofs hold as long as no erase of a page with a word that no store wrote is cut.
 struct Numbers<P> {
     part: P,
-    /// How many numbers are read at once, and those that were: their page, the place of the first, and how many.
+    /// How many numbers are read at once, and those that were: their page and their places.
     count: usize,
-    read: RefCell<(usize, usize, usize, [u64; ROOM])>,
+    read: RefCell<(usize, Range<usize>, [u64; ROOM])>,
 }
 
 impl<P: Lent> Numbers<P> {
     fn of(part: P, count: usize) -> Numbers<P> {
-        let read = RefCell::new((0, 0, 0, [0; ROOM]));
-        Numbers {
-            part,
-            count: count.min(ROOM),
-            read,
-        }
-    }
-
-    // A number that was read with others before.
-    fn kept(&self, page: usize, at: usize) -> Option<u64> {
-        let (its_page, from, count, numbers) = &*self.read.borrow();
-        let is_there = *its_page == page && at >= *from && at - from < *count;
-        is_there.then(|| numbers[at - from])
+        let count = count.min(ROOM);
+        let read = RefCell::new((0, 0..0, [0; ROOM]));
+        Numbers { part, count, read }
     }
 }
 
 impl<P: Lent> Nor for Numbers<P> {
     fn shape(&self) -> Shape {
-        self.part.part().shape
+        self.part.shape
     }
 
     fn clears_first(&self) -> bool {
-        self.part.part().driver.kind() == Kind::PairsClearing
+        self.part.driver.kind() == Kind::PairsClearing
     }
 
     fn wear(&self, _page: usize) -> u64 {
@@ -287,49 +252,35 @@ impl<P: Lent> Nor for Numbers<P> {
     }
 
     fn is_on(&self) -> bool {
-        self.part.part().is_on()
+        self.part.is_on()
     }
 
-    // One that could not be read is 0, and counts for nothing.
+    // One that could not be read counts for nothing.
     fn read(&self, page: usize, at: usize) -> u64 {
-        if let Some(number) = self.kept(page, at) {
-            return number;
+        let (its_page, places, numbers) = &mut *self.read.borrow_mut();
+        if self.part.is_on() && (*its_page != page || !places.contains(&at)) {
+            let count = self.count.min(2 * self.part.shape.words() - at);
+            let answer = self.part.driver.read_run(page, at, &mut numbers[..count]);
+            let _ = self.part.told((Step::Read, page, at / 2), answer);
+            (*its_page, *places) = (page, at..at + count);
         }
-        let part = self.part.part();
-        if !part.has(page, at / 2) {
-            return 0;
-        }
-        let count = self.count.min(2 * part.shape.words() - at);
-        let mut numbers = [0; ROOM];
-        let answer = part.driver.read_run(page, at, &mut numbers[..count]);
-        let Ok(()) = part.told(answer, Step::Read, page, at / 2) else {
-            return 0;
-        };
-        *self.read.borrow_mut() = (page, at, count, numbers);
-        numbers[0]
+        numbers[at.wrapping_sub(places.start) % ROOM]
     }
 
     fn window(&self, page: usize, at: usize, count: usize) -> Option<&[u64]> {
-        let part = self.part.part();
-        if count == 0 || !part.has(page, (at + count - 1) / 2) {
-            return None;
+        match self.part.is_on() {
+            true => self.part.window(page, at, count),
+            false => None,
         }
-        let window = part.driver.window(page, at, count);
-        window.filter(|numbers| numbers.len() == count)
     }
 
     fn program(&mut self, page: usize, at: usize, number: u64) -> Result<(), Cut> {
-        match self.part.part_mut() {
-            Some(part) => part.program_at(page, at, at / 2, number),
-            None => Err(Cut),
-        }
+        let part = self.part.part_mut().ok_or(Cut)?;
+        part.program_at(page, at, at / 2, number)
     }
 
     fn erase(&mut self, page: usize) -> Result<(), Cut> {
-        match self.part.part_mut() {
-            Some(part) => part.erase(page),
-            None => Err(Cut),
-        }
+        self.part.part_mut().ok_or(Cut)?.erase(page)
     }
 
     fn cuts(&self) -> u64 {
@@ -340,9 +291,5 @@ impl<P: Lent> Nor for Numbers<P> {
         None
     }
 
-    fn power_on(&mut self) {
-        if let Some(part) = self.part.part_mut() {
-            part.power_on();
-        }
-    }
+    fn power_on(&mut self) {}
 }

@@ -1,4 +1,5 @@
 use crate::ee_codec::Address;
+use crate::ee_core::{Put, Rescued, Written};
 use core::fmt;
 
 /// A type of 32 bits or fewer that [`Store::read_as`](crate::Store::read_as) and [`Store::write_as`](crate::Store::write_as) take.
@@ -93,6 +94,27 @@ impl From<Address> for u16 {
 impl fmt::Display for Address {
     fn fmt(&self, f: &mut fmt::Formatter<'_>) -> fmt::Result {
         self.get().fmt(f)
+    }
+}
+
+impl fmt::Display for Put {
+    fn fmt(&self, f: &mut fmt::Formatter<'_>) -> fmt::Result {
+        write!(f, "address {} value {}", self.address, self.value)
+    }
+}
+
+impl fmt::Display for Rescued {
+    fn fmt(&self, f: &mut fmt::Formatter<'_>) -> fmt::Result {
+        write!(f, "{} bad words, {} values", self.bad_words, self.live)
+    }
+}
+
+impl fmt::Display for Written {
+    fn fmt(&self, f: &mut fmt::Formatter<'_>) -> fmt::Result {
+        f.write_str(match self {
+            Written::Appended => "appended",
+            Written::Moved => "moved",
+        })
     }
 }
 

@@ -2,7 +2,8 @@
 
 use ee_store::nor::{Ecc, NorDriver, Plain, Reading};
 use ee_store::{
-    Address, DriverError, Error, Kind, NorError, OpenError, Shape, Step, Store, Unfit, Written,
+    Address, Driver, DriverError, Error, Kind, NorError, OpenError, Shape, Step, Store, Unfit,
+    Word, Written,
 };
 use embedded_storage::nor_flash::{
     ErrorType, NorFlash, NorFlashError, NorFlashErrorKind, ReadNorFlash,
@@ -206,6 +207,7 @@ fn a_range_has_a_shape() {
         assert_eq!(shape_of::<4, 4096>(4096, end), Err(Unfit::Length));
     }
     assert_eq!(shape_of::<4, 64>(0, 128), Err(Unfit::Sector));
+    assert_eq!(shape_of::<4, 64>(0, 130 * 64), Err(Unfit::Length));
 }
 
 #[test]
@@ -233,20 +235,52 @@ fn a_store_over_a_range() {
 #[test]
 fn foreign_units_are_refused() {
     for fill in [0x00, 0x2a, 0x7f] {
-        let flash = Units(vec![fill; 160]);
+        let flash = Units::<16>(vec![fill; 160]);
         let refused = Store::over(flash, 0..160, Kind::Words).err();
         assert_eq!(refused, Some(OpenError::NoLiveSet), "{fill:#x}");
     }
 }
 
-/// A flash that writes 16 bytes at a time, and is never written.
-struct Units(Vec<u8>);
+/// A unit of 32 bytes is a value, its complement and zeros, or all ones; with another bit behind the first two it is torn.
+#[test]
+fn units_of_32_bytes() {
+    let shape = Shape::new(1, 5).unwrap();
+    let word_of = |bytes: [u8; 32]| {
+        let flash = Units::<32>([&bytes[..], &[0xff; 288]].concat());
+        let driver = NorDriver::new(flash, 0, shape, Kind::Words, Plain).unwrap();
+        driver.word(0, 0).unwrap()
+    };
+    let mut whole = [0; 32];
+    whole[..16].copy_from_slice(&(u128::from(!7u64) << 64 | 7).to_le_bytes());
+    assert_eq!(word_of(whole), Word::Held(7));
+    assert_eq!(word_of([0xff; 32]), Word::Erased);
+    for place in 16..32 {
+        for mut bytes in [whole, [0xff; 32]] {
+            bytes[place] ^= 4;
+            assert_eq!(word_of(bytes), Word::Torn);
+        }
+    }
+}
 
-impl ErrorType for Units {
+/// An erase looks at its own page alone, whatever stands behind it.
+#[test]
+fn an_erase_looks_at_its_page() {
+    let shape = Shape::new(1, 20).unwrap();
+    let flash = Units::<8>(vec![0; 320]);
+    let mut driver = NorDriver::new(flash, 0, shape, Kind::Words, Plain).unwrap();
+    for page in [0, 1] {
+        assert_eq!(driver.erase(page), Ok(()));
+    }
+}
+
+/// A flash that writes so many bytes at a time. It is never written, and erased only where they are 8.
+struct Units<const W: usize>(Vec<u8>);
+
+impl<const W: usize> ErrorType for Units<W> {
     type Error = Broken;
 }
 
-impl ReadNorFlash for Units {
+impl<const W: usize> ReadNorFlash for Units<W> {
     const READ_SIZE: usize = 1;
 
     fn read(&mut self, offset: u32, bytes: &mut [u8]) -> Result<(), Broken> {
@@ -259,12 +293,14 @@ impl ReadNorFlash for Units {
     }
 }
 
-impl NorFlash for Units {
-    const WRITE_SIZE: usize = 16;
-    const ERASE_SIZE: usize = 80;
+impl<const W: usize> NorFlash for Units<W> {
+    const WRITE_SIZE: usize = W;
+    const ERASE_SIZE: usize = 5 * W;
 
-    fn erase(&mut self, _from: u32, _to: u32) -> Result<(), Broken> {
-        unreachable!("nothing is erased")
+    fn erase(&mut self, from: u32, to: u32) -> Result<(), Broken> {
+        assert_eq!(W, 8, "nothing is erased");
+        self.0[from as usize..to as usize].fill(0xff);
+        Ok(())
     }
 
     fn write(&mut self, _offset: u32, _bytes: &[u8]) -> Result<(), Broken> {

@@ -20,6 +20,10 @@ fn same<T: Display + Format>(error: T) {
     assert_eq!(shown(&error), error.to_string());
 }
 
+fn is_shown<T: Display + Format>(answer: &T, text: &str) {
+    assert_eq!((&*shown(answer), &*answer.to_string()), (text, text));
+}
+
 const UNFITS: [Unfit; 8] = [
     Unfit::WriteSize,
     Unfit::ReadSize,
@@ -67,6 +71,9 @@ fn errors_are_shown() {
         Error::Spent,
         Error::Duplicate(3),
         Error::Absent,
+        Error::TooLong,
+        Error::TooShort(3),
+        Error::Hurt,
         Error::Unsteady,
     ] {
         same::<Error<Locked>>(error);
@@ -77,11 +84,10 @@ fn errors_are_shown() {
 
 #[test]
 fn answers_are_shown() {
-    assert_eq!(shown(&Written::Appended), "appended");
-    assert_eq!(shown(&Written::Moved), "moved");
     let (address, bad_words, live) = (Address::at(65534), 1, 2);
-    assert_eq!(shown(&address), "65534");
-    assert_eq!(shown(&Put { address, value: 7 }), "address 65534 value 7");
-    let rescued = Rescued { bad_words, live };
-    assert_eq!(shown(&rescued), "1 bad words, 2 values");
+    is_shown(&address, "65534");
+    is_shown(&Written::Appended, "appended");
+    is_shown(&Written::Moved, "moved");
+    is_shown(&Put { address, value: 7 }, "address 65534 value 7");
+    is_shown(&Rescued { bad_words, live }, "1 bad words, 2 values");
 }

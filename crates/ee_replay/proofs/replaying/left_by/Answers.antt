@@ -1,6 +1,6 @@
 use Rattle.std.proofs.Common.{◌∙◌, ap, subst, sym}
 use Rattle.ee_flash.specs.Device.{Device}
-use Rattle.ee_flash.specs.Memory.{Memory, device_of}
+use Rattle.ee_flash.specs.Memory.{device_of}
 use Rattle.ee_core.specs.Finished.{IsStore}
 use Rattle.ee_core.specs.Points.{open_point}
 use Rattle.ee_replay.specs.Serving.{IsTraced}
@@ -10,9 +10,7 @@ use Rattle.ee_replay.proofs.replaying.left_by.Goals as goal
 
 pub returns-clause-run : goal.returns-clause-run
 returns-clause-run g c = λ old script traced start proper stays.
-    let at =
-    c.into_store-store.ensures
-    ∙ ap (λ (memory : Memory). memory.device) c.settle_to_count.ensures in
+    let at = c.into_store-store.ensures ∙ c.settle_to_count.ensures in
     let there =
     subst
     (λ (device : Device).

@@ -1,4 +1,4 @@
-//! As much of `embedded-storage` 0.3 as `ee-store` uses, by its documentation.
+//! As much of `embedded-storage` 0.3 as `ee-store` and a flash for it use, by its documentation.
 #![no_std]
 #![forbid(unsafe_code)]
 
@@ -22,6 +22,18 @@ pub mod nor_flash {
         OutOfBounds,
         /// Another one.
         Other,
+    }
+
+    impl NorFlashError for NorFlashErrorKind {
+        fn kind(&self) -> NorFlashErrorKind {
+            *self
+        }
+    }
+
+    impl NorFlashError for core::convert::Infallible {
+        fn kind(&self) -> NorFlashErrorKind {
+            match *self {}
+        }
     }
 
     /// What has errors.
@@ -55,5 +67,50 @@ pub mod nor_flash {
 
         /// Writes bytes, which were erased before.
         fn write(&mut self, offset: u32, bytes: &[u8]) -> Result<(), Self::Error>;
+    }
+
+    /// Whether a flash has bytes that are to be read, and they are whole reads.
+    pub fn check_read<F: ReadNorFlash>(
+        flash: &F,
+        offset: u32,
+        length: usize,
+    ) -> Result<(), NorFlashErrorKind> {
+        check(flash, offset as usize, length, F::READ_SIZE)
+    }
+
+    /// Whether a flash has bytes that are to be erased, and they are whole sectors.
+    pub fn check_erase<F: NorFlash>(
+        flash: &F,
+        from: u32,
+        to: u32,
+    ) -> Result<(), NorFlashErrorKind> {
+        match to.checked_sub(from) {
+            Some(length) => check(flash, from as usize, length as usize, F::ERASE_SIZE),
+            None => Err(NorFlashErrorKind::OutOfBounds),
+        }
+    }
+
+    /// Whether a flash has bytes that are to be written, and they are whole writes.
+    pub fn check_write<F: NorFlash>(
+        flash: &F,
+        offset: u32,
+        length: usize,
+    ) -> Result<(), NorFlashErrorKind> {
+        check(flash, offset as usize, length, F::WRITE_SIZE)
+    }
+
+    fn check<F: ReadNorFlash>(
+        flash: &F,
+        offset: usize,
+        length: usize,
+        unit: usize,
+    ) -> Result<(), NorFlashErrorKind> {
+        if length > flash.capacity() || offset > flash.capacity() - length {
+            return Err(NorFlashErrorKind::OutOfBounds);
+        }
+        match offset % unit == 0 && length % unit == 0 {
+            true => Ok(()),
+            false => Err(NorFlashErrorKind::NotAligned),
+        }
     }
 }

@@ -1,4 +1,4 @@
-use Rattle.std.proofs.Common.{sym, ◌∙◌}
+use Rattle.std.proofs.Common.{refl, sym, ◌∙◌}
 use Rattle.ee_fakes.specs.Listed.{state_of_list}
 use Rattle.ee_fakes.proofs.Leaving.{after_whole_erase, whole_page}
 use Rattle.ee_fakes.proofs.list.ListFlash.whole_erase.Goals as goal
@@ -10,4 +10,4 @@ returns g c =
     whole_page flash.shape flash.cells.items c.args.page
     (sym flash.cells.ok.0 ∙ flash.cells_length) c.requires in
     after_whole_erase c.args.page (state_of_list flash) (state_of_list c.erase_page.new.self)
-    (state_of_list c.wear_out.new.self) blank c.erase_page.ensures c.wear_out.ensures
+    (state_of_list c.wear_out.new.self) blank refl c.erase_page.ensures c.wear_out.ensures

@@ -16,4 +16,4 @@ returns-in-Cut-clause-cut g c =
     c.in_ok-begin.ensures.begun c.cut_erase.ensures in
     inl
     (IsCutIn-erase c.args.page (device_of_list flash) _ c.in-Cut.list c.in_ok-begin.ensures.on
-    in_range refl left)
+    in_range refl refl left)

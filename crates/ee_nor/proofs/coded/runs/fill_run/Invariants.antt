@@ -6,4 +6,4 @@ use Rattle.ee_nor.proofs.coded.runs.fill_run.Given as goal
 
 abbrev pub invariant-loop-word : goal.invariant-loop-word
 invariant-loop-word g l = (k : ℕ) → k < l.word → get_or l.room k 0
-    ≡ number_of (word_of_ecc (ecc_in (ecc_page (g.N.EccNor.ecc l.fn.nor) l.fn.page) (l.fn.at + k)))
+    ≡ number_of (word_of_ecc (g.N.EccNor.ecc l.fn.nor).size (ecc_in (ecc_page (g.N.EccNor.ecc l.fn.nor) l.fn.page) (l.fn.at + k)))

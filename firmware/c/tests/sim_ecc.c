@@ -1,0 +1,170 @@
+/* Tests the flash with error correction of sim/: what its code corrects, tells and miscorrects, and what a cut leaves. Then a store
+ * over it, cut in random steps, of which it counts what a product would see. Over words a cut can make a number that nobody wrote: the
+ * test fails where the flash doesn't show that, since then it would show nothing of other kinds either. `sim_ecc [CUTS]` */
+#include "../sim/sim_ecc.c"
+
+#define CHECK(holds)                                                                                                           \
+    do {                                                                                                                       \
+        if (!(holds)) {                                                                                                        \
+            fprintf(stderr, "%s:%d: %s\n", __FILE__, __LINE__, #holds);                                                        \
+            exit(1);                                                                                                           \
+        }                                                                                                                      \
+    } while (0)
+
+enum { MATRICES = 20, ADDRESSES = 6, FEW = 10000 };
+
+static sim_ecc part;
+static ee_flash flash;
+static ee_store store;
+static uint64_t dice;
+
+static uint32_t below(uint32_t limit) {
+    dice = dice * UINT64_C(6364136223846793005) + 1442695040888963407u;
+    return (uint32_t)(dice >> 33) % limit;
+}
+
+static void turn(sim_ecc_word *cells, int cell) {
+    if (cell < NUMBER_CELLS) cells->number ^= (uint64_t)1 << cell;
+    else cells->check ^= (uint8_t)(1 << (cell - NUMBER_CELLS));
+}
+
+/* One wrong cell is corrected and two are told, wherever they are; of three some pass as another number. How many did. */
+static unsigned check_code(uint64_t seed) {
+    unsigned passed = 0;
+    sim_ecc_new(&part, 1, 5, seed);
+    uint64_t number = seed % 4 ? picked(&part) : 0, value;
+    sim_ecc_word whole = {number, check_of(&part, number)};
+    CHECK(read_cells(&part, whole, &value) == 0 && value == number);
+    for (int first = 0; first < CELLS; first++) {
+        sim_ecc_word cells = whole;
+        turn(&cells, first);
+        CHECK(read_cells(&part, cells, &value) == 0 && value == number);
+        for (int second = first + 1; second < CELLS; second++) {
+            turn(&cells, second);
+            CHECK(read_cells(&part, cells, &value) == EE_TORN);
+            turn(&cells, (second + 1) % CELLS);
+            passed += read_cells(&part, cells, &value) == 0 && value != number;
+            turn(&cells, (second + 1) % CELLS);
+            turn(&cells, second);
+        }
+    }
+    return passed;
+}
+
+/* An erased word of which a cell was set reads as all ones by a correction, and is told as torn. */
+static void check_erased(void) {
+    for (int cell = 0; cell < CELLS; cell++) {
+        uint64_t value;
+        sim_ecc_word cells = {UINT64_MAX, 0xff};
+        CHECK(read_cells(&part, cells, &value) == 0 && value == UINT64_MAX);
+        turn(&cells, cell);
+        CHECK(read_cells(&part, cells, &value) == EE_TORN);
+    }
+}
+
+/* What a cut leaves of a program, and of an erase behind it: cells go one way, and together as they should. */
+static void check_cut(sim_ecc_tear tear) {
+    for (uint64_t seed = 0; seed < 500; seed++) {
+        sim_ecc_new(&part, 1, 5, seed);
+        flash = sim_ecc_flash(&part);
+        uint64_t asked = picked(&part) >> 1, left, together = tear == SIM_ECC_HALVES ? 0xffff : UINT64_MAX;
+        sim_ecc_cut(&part, 1, tear);
+        CHECK(flash.program(&part, 0, 3, asked) != 0 && part.cuts == 1 && !part.is_on);
+        left = part.words[0][3].number;
+        CHECK((left & asked) == asked && (part.words[0][3].check | check_of(&part, asked)) == part.words[0][3].check);
+        for (int half = 0; tear != SIM_ECC_CELLS && half < 64; half += 16) {
+            uint64_t cells = together << half;
+            CHECK((left & cells) == (asked & cells) || (left & cells) == cells);
+        }
+        part.is_on = 1;
+        sim_ecc_cut(&part, 1, tear);
+        CHECK(flash.erase(&part, 0) != 0 && part.cuts == 2);
+        CHECK((part.words[0][3].number & left) == left && part.words[0][2].number == UINT64_MAX);
+    }
+}
+
+/* The values that addresses 1 to ADDRESSES have, by their number; 0 for none. */
+typedef struct values {
+    uint32_t of[ADDRESSES + 1];
+} values;
+
+/* Opens the store, or makes one of what its slots say. */
+typedef ee_result opening(ee_store *, const ee_flash *);
+
+/* Makes a call, and says what it makes of the values where it is done, and how the store is opened where it is cut. */
+static ee_result call(values *made, opening **next) {
+    uint16_t address = (uint16_t)(1 + below(ADDRESSES)), other = (uint16_t)(1 + address % ADDRESSES);
+    uint32_t value = 1 | (below(2) ? below(100) : (uint32_t)(dice >> 32));
+    *next = ee_start;
+    switch (below(16)) {
+    case 0: return ee_clean(&store);
+    case 1: *next = ee_rescue; return ee_rescue(&store, &flash);
+    case 2: {
+        ee_value list[2] = {{.address = address, .value = value}, {.address = other, .value = value ^ 2}};
+        made->of[address] = value, made->of[other] = value ^ 2;
+        return ee_write_all(&store, list, 2);
+    }
+    case 3:
+        made->of[address] = 0;
+        return ee_forget(&store, address);
+    default: made->of[address] = value; return ee_write(&store, address, value);
+    }
+}
+
+/* Whether the store has these values, and no others. */
+static int has(const values *wanted) {
+    uint32_t value, count = 0;
+    for (uint16_t address = 0; ee_next(&store, &address, &value) == EE_OK; count++)
+        if (address > ADDRESSES || wanted->of[address] != value) return 0;
+    for (int address = 1; address <= ADDRESSES; address++) count -= wanted->of[address] != 0;
+    return count == 0;
+}
+
+/* Calls of a kind, rescues too, a cut in each few steps: how many openings behind a cut answered EE_FOREIGN or refused otherwise,
+ * and how many found a value that is neither the one before the call nor the one that it gives. Behind each a new part is taken. */
+static void check_store(uint32_t kind, sim_ecc_tear tear, unsigned long cuts, unsigned long counts[3]) {
+    values before = {{0}}, made;
+    part.is_on = 0;
+    for (unsigned long cut = 0; cut < cuts; cut++) {
+        if (!part.is_on) {
+            sim_ecc_new(&part, 1 + cut % 2, 24, cut);
+            flash = sim_ecc_flash(&part);
+            flash.kind = kind;
+            CHECK(ee_start(&store, &flash) == EE_OK);
+            memset(&before, 0, sizeof before);
+        }
+        ee_result status = EE_OK;
+        opening *next;
+        sim_ecc_cut(&part, 1 + below(12), tear);
+        while (made = before, status = call(&made, &next), part.is_on)
+            if (status == EE_OK) before = made;
+        CHECK(status == EE_DRIVER);
+        part.is_on = 1;
+        status = next(&store, &flash);
+        int is_before = status == EE_OK && has(&before), is_made = status == EE_OK && has(&made);
+        if (is_made && !is_before) before = made;
+        counts[0] += status == EE_FOREIGN;
+        counts[1] += status != EE_OK && status != EE_FOREIGN;
+        counts[2] += status == EE_OK && !is_before && !is_made;
+        part.is_on = is_before || is_made;
+    }
+}
+
+int main(int argc, char **argv) {
+    static const char *const names[] = {"cells", "half words", "words"};
+    unsigned long cuts = argc > 1 ? strtoul(argv[1], NULL, 10) : FEW;
+    unsigned passed = 0;
+    for (uint64_t seed = 0; seed < MATRICES; seed++) passed += check_code(seed);
+    CHECK(passed > MATRICES * 1000);
+    check_erased();
+    for (int tear = SIM_ECC_CELLS; tear <= SIM_ECC_WHOLE; tear++) {
+        unsigned long counts[3] = {0};
+        check_cut((sim_ecc_tear)tear);
+        check_store(EE_WORDS, (sim_ecc_tear)tear, cuts, counts);
+        printf("words, cut by %s: of %lu cuts %lu EE_FOREIGN, %lu refused otherwise, %lu with a wrong value\n", names[tear], cuts,
+               counts[0], counts[1], counts[2]);
+        if (tear == SIM_ECC_WHOLE) CHECK(counts[0] + counts[1] + counts[2] == 0);
+        if (tear == SIM_ECC_CELLS) CHECK(counts[0] > cuts / 20 && counts[2] > 0);
+    }
+    return 0;
+}
