@@ -4,6 +4,7 @@ anything is written."""
 import errno
 import fcntl
 import os
+import pty
 import re
 import resource
 import signal
@@ -481,6 +482,35 @@ def new_image(place, _):
     expect(sorted([*INPUTS, "first", "link", "second"]), place.names(), "files")
 
 
+def typed(place, words, *given):
+    """What a terminal shows of a run that is given this there: what is typed, and what is said."""
+    child, terminal = pty.fork()
+    if child == 0:
+        os.chdir(place.folder)
+        os.execv(place.program, [place.program, *words])
+    os.write(terminal, b"".join(given))
+    shown = b""
+    try:
+        while piece := os.read(terminal, 4096):
+            shown += piece
+    except OSError:  # how Linux tells the end
+        pass
+    os.close(terminal)
+    return os.waitstatus_to_exitcode(os.waitpid(child, 0)[1]), shown.decode().replace("\r", "")
+
+
+def at_a_terminal(place, _):
+    """Who is to type a script there is told that, and how it ends. A refusal is explained. No one is
+    told that by a pipe."""
+    status, shown = typed(place, [], b"w 1 10\n", b"\x04")
+    waits = "ee: reads a script, a command a line, as w 1 10; Ctrl-D ends it\n"
+    expect((0, True, True), (status, waits in shown, "\nok\n" in shown), shown)
+    status, shown = typed(place, ["run", "image", "bad"])
+    expect((3, True), (status, 'ee: script line 2\n  the line is "w 2 6 "\n' in shown), shown)
+    status, _, said = place.run([], input=b"w 1 10\n")
+    expect((0, b""), (status, said), "by a pipe")
+
+
 def refused(place, cause):
     """A refused command leaves the file as it was: its text, its time and its place."""
     before = [os.stat(place.path(name)) for name in ("image", "script")]
@@ -596,6 +626,7 @@ def usual_checks():
         (output_as_image, ["format"]),
         (output_to_image, WRITERS),
         (new_image, ["format"]),
+        (at_a_terminal, ["try"]),
         (refused, REFUSED),
     ]
 

@@ -255,9 +255,9 @@ fn verdict(transfers: u64, limit: u64, cycles: u64) -> &'static str {
     }
 }
 
-/// The lines of all sizes, and whether one is enough.
+/// The lines of all sizes, with the fewest pages that are enough, and whether some are.
 fn told(asked: &Asked, words: u64, cycles: u64) -> (String, bool) {
-    let (mut text, mut some) = (String::new(), false);
+    let (mut text, mut fewest) = (String::new(), None);
     for pages in 1..=64 {
         let slots = pages * (words - 4);
         let _ = write!(text, "pages {pages} slots {slots} ");
@@ -269,7 +269,9 @@ fn told(asked: &Asked, words: u64, cycles: u64) -> (String, bool) {
                 let (erases, least) = ((transfers + 1) / 2, transfers / 2);
                 let limit = limit(asked.changes, pages, words);
                 let verdict = verdict(transfers, limit, cycles);
-                some |= verdict == "enough";
+                if verdict == "enough" {
+                    fewest = fewest.or(Some(pages));
+                }
                 let _ = writeln!(
                     text,
                     "transfers {transfers} erases {erases} least {least} limit {limit} {verdict}"
@@ -277,7 +279,10 @@ fn told(asked: &Asked, words: u64, cycles: u64) -> (String, bool) {
             }
         }
     }
-    (text, some)
+    if let Some(pages) = fewest {
+        let _ = writeln!(text, "fewest pages {pages}");
+    }
+    (text, fewest.is_some())
 }
 
 /// A script of one address, made any number of times.

@@ -206,6 +206,8 @@ def changes(place):
         sizes.append(
             f"pages {pages} slots {slots} transfers {moved} erases {erases} least {least} limit {limit} {verdict}\n"
         )
+    fewest = [line.split()[1] for line in sizes if line.endswith(" enough\n")][:1]
+    sizes += [f"fewest pages {pages}\n" for pages in fewest]
     expect(place, f"size {WORDS} script {cycles} {runs}", "".join(sizes))
 
 

@@ -48,7 +48,12 @@ PARTS = {
         ["firmware/targets"],
         ["firmware/targets", "--write"],
     ),
-    "cli": Part("the program in plain Rust", ["cli/test"], (), ["cli/check"]),
+    "cli": Part(
+        "the program in plain Rust, its completion and its page",
+        ["cli/test"],
+        ["cli/shells"],
+        ["cli/check"],
+    ),
     "page": Part(
         "the sum of the sources of web/ee.html",
         ["web/build", "--current"],

@@ -11,6 +11,11 @@ use std::path::{Path, PathBuf};
 pub struct HostRuntime;
 
 impl HostRuntime {
+    /// Standard input.
+    pub fn stdin(&self) -> io::Stdin {
+        io::stdin()
+    }
+
     /// Standard error.
     pub fn stderr(&self) -> io::Stderr {
         io::stderr()

@@ -1,6 +1,6 @@
 -- How large a part must be for a script that is made many times over: what each number of
 -- pages in a set comes to.
-use Rattle.std.specs.Prelude.{◌≡◌, ◌<◌, ◌≤◌, ℕ, ◌+◌, ◌-◌, ◌/◌, ◌&&◌, Bool, false, nat_le, nat_lt, if◌then◌else◌, List, [], ◌∷◌, ◌++◌, length, decimal, codes}
+use Rattle.std.specs.Prelude.{◌≡◌, ◌<◌, ◌≤◌, ℕ, ◌+◌, ◌-◌, ◌/◌, ◌&&◌, Bool, false, nat_le, nat_lt, if◌then◌else◌, List, [], ◌∷◌, ◌++◌, length, decimal, codes, Option, Some, None}
 use Rattle.std.specs.List.{list_any}
 use Rattle.ee_flash.specs.Device.{Device}
 use Rattle.ee_flash.specs.Endurance.{AreTaken, erases_of, least_wear, programs}
@@ -124,6 +124,18 @@ size_lines words cycles changes pages (demand ∷ demands) =
     line_of (sizing_text words cycles changes pages demand)
     ++ size_lines words cycles changes (pages + 1) demands
 
+-- the fewest pages that are enough, of demands of which the first is that of so many pages
+abbrev pub fewest_enough : ℕ → ℕ → List Demand → Option ℕ
+fewest_enough cycles pages [] = None
+fewest_enough cycles pages (demand ∷ demands) =
+    if is_enough cycles demand then Some pages else fewest_enough cycles (pages + 1) demands
+
+-- the line that names them, where there are some
+abbrev pub fewest_text : Option ℕ → List ℕ
+fewest_text None = []
+fewest_text (Some pages) =
+    line_of (joined_fields (codes "fewest" ∷ codes "pages" ∷ decimal pages ∷ []))
+
 -- what the trace demands of fresh sets, each of a page more, of which the first has so many
 abbrev pub AreDemands : ℕ → List Change → ℕ → List Demand → Type 0
 AreDemands words trace pages [] = Unit {0}
@@ -132,8 +144,8 @@ AreDemands words trace pages (demand ∷ demands) =
     × AreDemands words trace (pages + 1) demands
 
 -- The changes of the script, made so many times, demand this of the sets of 1 to 64
--- pages; a line is told of each, whose numbers of erases no store has fewer of, and
--- whether one of them is enough.
+-- pages; a line is told of each, whose numbers of erases no store has fewer of, the
+-- fewest pages that are enough, and whether there are some.
 pub record IsSized (words : ℕ) (text : List ℕ) (cycles runs : ℕ) (told : List ℕ)
     (some_enough : Bool) : Type 0 where
   pub trace : List Change
@@ -143,6 +155,7 @@ pub record IsSized (words : ℕ) (text : List ℕ) (cycles runs : ℕ) (told : L
   pub each_size : length demands ≡ 64
   pub wears : EachWears words (repeated_trace runs trace) 1 demands
   pub text_is : told ≡ size_lines words cycles (length (repeated_trace runs trace)) 1 demands
+      ++ fewest_text (fewest_enough cycles 1 demands)
   pub enough_is : some_enough ≡ list_any (is_enough cycles) demands
 
 -- why no size is told: the script's first bad line, as of a trace; or memory ran out

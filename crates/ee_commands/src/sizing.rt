@@ -4,7 +4,7 @@ ghost use Rattle.std.specs.List.{list_any};
 ghost use Rattle.ee_flash.specs.Size.{size_of, slot_count};
 ghost use Rattle.ee_text.specs.Line.{line_of};
 ghost use Rattle.ee_plan.specs.Planner.Rounds.{repeated_trace};
-ghost use Rattle.ee_commands.specs.Sizing.{AreDemands, EachWears, IsSized, IsSizingFault, erases_for, fitting_text, is_enough, least_for, limit_for, not_fitting_text, numbers_text, size_lines, sizing_text, verdict};
+ghost use Rattle.ee_commands.specs.Sizing.{AreDemands, EachWears, IsSized, IsSizingFault, erases_for, fewest_enough, fewest_text, fitting_text, is_enough, least_for, limit_for, not_fitting_text, numbers_text, size_lines, sizing_text, verdict};
 ghost use Rattle.ee_interface.specs.Causes.{NamesEach};
 
 use super::planning::read_trace;
@@ -26,7 +26,8 @@ const MOST_TRANSFERS: u64 = 4294967293;
 /// Source: ours.
 #[derive(Debug, Drop)]
 pub struct PartSizes<A: Allocator = Global> {
-    /// A line for each number of pages that a set can have, from 1 to 64.
+    /// A line for each number of pages that a set can have, from 1 to 64, and one that names the
+    /// fewest that are enough, where some are.
     pub text: Vec<u8, A>,
     /// Whether one of them is enough.
     pub some_enough: bool,
@@ -40,8 +41,9 @@ pub struct PartSizes<A: Allocator = Global> {
 /// for each change. `enough` says that E is `cycles` or less; in its place stands `spent`, where
 /// the generations don't suffice, `worn for any`, where M is above `cycles`, `worn for all`, where
 /// L is, and else `worn`. Or the line is `pages P slots C not fitting I`, I the first change that
-/// doesn't fit, counted through all rounds. Lines that read or clean count nothing. Memory is taken
-/// for two rounds, whatever `runs` is.
+/// doesn't fit, counted through all rounds. Lines that read or clean count nothing. Behind them
+/// stands `fewest pages P`, where P is enough and no fewer are. Memory is taken for two rounds,
+/// whatever `runs` is.
 ///
 /// Source: ours.
 ///
@@ -65,7 +67,8 @@ pub fn size_parts<A: Allocator + Copy>(
     let trace = read_trace(alloc, script)?;
     let rounds = rounds_of(alloc, trace, runs)?;
     let demands = demands_of(alloc, &rounds, words)?;
-    let text = text_of_sizes(alloc, demands.as_slice(), words, cycles, rounds.changes())?;
+    let mut text = text_of_sizes(alloc, demands.as_slice(), words, cycles, rounds.changes())?;
+    push_fewest(&mut text, fewest_of(demands.as_slice(), cycles))?;
     let some_enough = is_some_enough(demands.as_slice(), cycles);
     Ok(PartSizes { text, some_enough })
 }
@@ -128,6 +131,33 @@ fn text_of_sizes<A: Allocator + Copy>(
         push_size(&mut text, *demand, pages, words, cycles, changes)?;
     }
     Ok(text)
+}
+
+/// The fewest pages that are enough, where some are.
+fn fewest_of(demands: &[Demand], cycles: u32) -> Option<u32>
+    requires { length demands.now ≡ 64 }
+    ensures { result ≡ fewest_enough cycles 1 demands.now }
+{
+    let mut pages = 1;
+    for demand in demands {
+        if is_enough_for(*demand, cycles) {
+            return Some(pages);
+        }
+        pages += 1;
+    }
+    None
+}
+
+/// Writes the line of the fewest pages that are enough, where some are. After an error there may be
+/// a part of it.
+fn push_fewest<A: Allocator>(out: &mut Vec<u8, A>, fewest: Option<u32>) -> Result<(), AllocError>
+    ensures { OnOk result (out.new.items ≡ out.old.items ++ fewest_text fewest) }
+{
+    let Some(pages) = fewest else {
+        return Ok(());
+    };
+    push_number_behind(out, b"fewest pages ", pages as u64)?;
+    out.extend_from_slice(b"\n")
 }
 
 /// Writes the line of a size. After an error there may be a part of it.

@@ -4,7 +4,8 @@
 //! # What a contract sees
 //!
 //! `specs/Script`: which lines spell which commands, and what a run answers. `specs/CommandLine`:
-//! which words ask for which job. `specs/Fault.antt`: each fault's line and status.
+//! which words ask for which job, and what is wrong in others. `specs/Fault.antt`: each fault's line
+//! and status.
 //!
 //! # What is proved
 //!
@@ -13,7 +14,8 @@
 //! line by line, in whatever pieces it comes, by a run of what serves it, or what is met first is
 //! named: a bad line, or a read that failed (`answered`, `fault`, `bad`). `laws`: each text is the
 //! script of one list of commands or has one first bad line. `job` reads exactly the rows of the
-//! table of commands (`found`, `only`). `read_whole` gives all that a reader had left, and
+//! table of commands (`found`, `only`), and `why_no_job` and `why_no_line` name the first word of
+//! others that isn't what it is to be. `read_whole` gives all that a reader had left, and
 //! `write_whole` says how long a front went out (`whole`, `all`, `front`, `short`).
 //!
 //! # What is only tested

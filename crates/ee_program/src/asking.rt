@@ -1,7 +1,7 @@
 //! What is asked of the program by its words, and what is said where it is refused.
 use crate::explain::{
-    help_asked, push_help, push_line_cause, push_remedy, push_unknown_name, push_words_cause,
-    why_bad_line,
+    help_asked, path_of, push_dump_length, push_entry, push_help, push_line_cause, push_remedy,
+    push_unknown_name, push_words_cause, why_bad_line,
 };
 use crate::files::FileLocks;
 use crate::running::{bad_command_line, eprint_bytes, out_of_memory, print, read_file, tell, work};
@@ -17,11 +17,22 @@ const EXPLAIN: &str = "--explain";
 /// The word in front of a command that asks to write no file.
 const DRY_RUN: &str = "--dry-run";
 
-/// What the words in front of a command ask for.
+/// What somebody reads at a terminal who gives a script there.
+const WAITS: &[u8] = b"ee: reads a script, a command a line, as w 1 10; Ctrl-D ends it\n";
+
+/// Which standard streams are a terminal.
+#[derive(Clone, Copy, Debug)]
+pub struct Terminals {
+    pub input: bool,
+    pub error: bool,
+}
+
+/// What the words in front of a command ask for, and whether somebody types the script.
 #[derive(Clone, Copy)]
 struct Options {
     explains: bool,
     is_dry: bool,
+    is_typed: bool,
 }
 
 /// Does what the words ask for, and gives the status that the program ends with: 0 done, 2 bad
@@ -30,16 +41,20 @@ struct Options {
 /// Files are read whole, in the order in which they are named, before anything is decided. An image
 /// is written only after all work succeeded, and its file is closed before anything is printed.
 pub fn run<R: FileLocks + Input + Print + Eprint + AllocGlobal>(rt: &R, words: &[String]) -> u8 {
-    run_for(rt, words, false)
+    let terminals = Terminals {
+        input: false,
+        error: false,
+    };
+    run_for(rt, words, terminals)
 }
 
 /// The same. Behind the line of a refusal stands what explains it, where somebody reads it at a
 /// terminal or asks for it by a word `--explain` in front of the command. Where `--dry-run` stands
-/// there no file is written.
+/// there no file is written. Who is to type a script at a terminal is told that.
 pub fn run_for<R: FileLocks + Input + Print + Eprint + AllocGlobal>(
     rt: &R,
     words: &[String],
-    is_terminal: bool,
+    terminals: Terminals,
 ) -> u8 {
     let mut texts: Vec<&str> = Vec::new(rt.alloc());
     for word in words {
@@ -50,8 +65,12 @@ pub fn run_for<R: FileLocks + Input + Print + Eprint + AllocGlobal>(
     let (explains_first, words) = split_option(EXPLAIN, texts.as_slice());
     let (is_dry, words) = split_option(DRY_RUN, words);
     let (explains, words) = split_option(EXPLAIN, words);
-    let explains = is_terminal || explains_first || explains;
-    do_words(rt, words, Options { explains, is_dry })
+    let options = Options {
+        explains: terminals.error || explains_first || explains,
+        is_dry,
+        is_typed: terminals.input && terminals.error,
+    };
+    do_words(rt, words, options)
 }
 
 /// The words behind an option, and whether it is given.
@@ -62,37 +81,54 @@ fn split_option<'w, 'a>(option: &str, words: &'w [&'a str]) -> (bool, &'w [&'a s
     }
 }
 
-/// Does what the words ask for, and explains a refusal, if that is wanted.
+/// Does what the words ask for, or prints the help of a command. Explains a refusal, if that is
+/// wanted.
 fn do_words<R: FileLocks + Input + Print + Eprint + AllocGlobal>(
     rt: &R,
     words: &[&str],
     options: Options,
 ) -> u8 {
+    if let Some(name) = help_asked(words) {
+        return tell_help(rt, name);
+    }
     match job(words) {
         None => refuse_words(rt, words, options.explains),
-        Some(job) => match work(rt, options.is_dry, &job) {
-            Ok(()) => 0,
-            Err(fault) => {
-                let status = tell(rt, &fault);
-                if options.explains {
-                    explain(rt, &job, &fault);
-                }
-                status
-            }
-        },
+        Some(job) => do_job(rt, &job, options),
     }
 }
 
-/// Says that words are no command line, and why, if that is to be explained. Where they ask for the
-/// help of a command it is printed. Gives the status.
-fn refuse_words<R: Print + Eprint + AllocGlobal>(rt: &R, words: &[&str], explains: bool) -> u8 {
-    let mut text = Vec::new(rt.alloc());
-    if let Some(name) = help_asked(words) {
-        return match push_help(&mut text, name) {
-            Ok(()) => print_help(rt, &text),
-            Err(AllocError) => out_of_memory(rt),
-        };
+/// Whether a job reads a script of standard input.
+fn is_try(job: &Job<'_>) -> bool {
+    match *job {
+        Job::Try { .. } => true,
+        _ => false,
     }
+}
+
+/// Does a job, and explains a fault, if that is wanted. Gives the status.
+fn do_job<R: FileLocks + Input + Print + Eprint + AllocGlobal>(
+    rt: &R,
+    job: &Job<'_>,
+    options: Options,
+) -> u8 {
+    if options.is_typed && is_try(job) {
+        eprint_bytes(rt, WAITS);
+    }
+    match work(rt, options.is_dry, job) {
+        Ok(()) => 0,
+        Err(fault) => {
+            let status = tell(rt, &fault);
+            if options.explains {
+                explain(rt, job, &fault);
+            }
+            status
+        }
+    }
+}
+
+/// Says that words are no command line, and why, if that is to be explained. Gives the status.
+fn refuse_words<R: Eprint + AllocGlobal>(rt: &R, words: &[&str], explains: bool) -> u8 {
+    let mut text = Vec::new(rt.alloc());
     let status = bad_command_line(rt);
     if explains && push_words_cause(&mut text, words).is_ok() {
         eprint_bytes(rt, &text);
@@ -100,9 +136,13 @@ fn refuse_words<R: Print + Eprint + AllocGlobal>(rt: &R, words: &[&str], explain
     status
 }
 
-/// Prints a help, and gives the status.
-fn print_help<R: Print + Eprint + AllocGlobal>(rt: &R, text: &[u8]) -> u8 {
-    match print(rt, text) {
+/// Prints the help of a command, and gives the status.
+fn tell_help<R: Print + Eprint + AllocGlobal>(rt: &R, name: &str) -> u8 {
+    let mut text = Vec::new(rt.alloc());
+    if push_help(&mut text, name).is_err() {
+        return out_of_memory(rt);
+    }
+    match print(rt, &text) {
         Ok(()) => 0,
         Err(fault) => tell(rt, &fault),
     }
@@ -116,8 +156,9 @@ fn explain<R: Files + Eprint + AllocGlobal>(rt: &R, job: &Job<'_>, fault: &Fault
             file: File::Script,
             line,
         } => push_script_line(rt, &mut text, job, line),
-        Fault::UnknownName => push_unknown_name(&mut text, name_of(job)),
-        _ => push_remedy(&mut text, fault),
+        Fault::DumpLength => push_dump_length(&mut text, job),
+        Fault::UnknownName => push_unknown_name(&mut text, job, name_of(job)),
+        _ => push_entry_or_remedy(rt, &mut text, job, fault),
     };
     if told.is_ok() {
         eprint_bytes(rt, &text);
@@ -132,6 +173,44 @@ fn name_of<'a>(job: &Job<'a>) -> &'a str {
     }
 }
 
+/// The file of settings or values of which a fault names an entry, and its number.
+fn entry_of(fault: &Fault) -> Option<(File, u64)> {
+    match *fault {
+        Fault::BadName(entry)
+        | Fault::BadField(entry)
+        | Fault::BadRange(entry)
+        | Fault::SameAddress(entry) => Some((File::Settings, entry)),
+        Fault::BadValue(entry)
+        | Fault::UnknownValue(entry)
+        | Fault::ValueOutOfRange { entry, .. }
+        | Fault::FullAt(entry)
+        | Fault::SpentAt(entry) => Some((File::Values, entry)),
+        _ => None,
+    }
+}
+
+/// Writes the name of the entry that a fault is about, if it is about one, and what to do.
+fn push_entry_or_remedy<R: Files + AllocGlobal>(
+    rt: &R,
+    out: &mut Vec<u8>,
+    job: &Job<'_>,
+    fault: &Fault,
+) -> Result<(), AllocError> {
+    let Some((file, number)) = entry_of(fault) else {
+        return push_remedy(out, job, fault);
+    };
+    let Some(path) = path_of(job, file) else {
+        return push_remedy(out, job, fault);
+    };
+    let Ok(text) = read_file(rt, file, path) else {
+        return push_remedy(out, job, fault);
+    };
+    match toml::table_from_slice(rt.alloc(), &text) {
+        Ok(table) => push_entry(out, job, fault, &table, number),
+        Err(_) => push_remedy(out, job, fault),
+    }
+}
+
 /// Writes why a line of a job's script is bad, where the script is in a file.
 fn push_script_line<R: Files + AllocGlobal>(
     rt: &R,
@@ -139,18 +218,14 @@ fn push_script_line<R: Files + AllocGlobal>(
     job: &Job<'_>,
     number: u64,
 ) -> Result<(), AllocError> {
-    let path = match *job {
-        Job::Run { script, .. }
-        | Job::Plan { script, .. }
-        | Job::Check { script, .. }
-        | Job::Size { script, .. } => script,
-        _ => return Ok(()),
+    let Some(path) = path_of(job, File::Script) else {
+        return Ok(());
     };
     let Ok(script) = read_file(rt, File::Script, path) else {
         return Ok(());
     };
     let (line, is_ended) = line_at(&script, number);
-    push_line_cause(out, line, why_bad_line(line, is_ended))
+    push_line_cause(out, path, line, why_bad_line(line, is_ended))
 }
 
 /// The line of this number, counted from 1, without its line feed, and whether it has one.

@@ -5,13 +5,13 @@
 //! # What a contract sees
 //!
 //! What the system gives and takes no contract can say. `specs/Files/Saving.antt` has what an error
-//! of the system is to a saving, `specs/Explain/Explaining.antt` the causes of a refusal.
+//! of the system is to a saving, `specs/Explain/Explaining.antt` the causes in a line's bytes.
 //!
 //! # What is proved
 //!
 //! That nothing goes wrong by itself and each call ends; that a new file gets its text whole, and
 //! how it is compared with the old one; and that a cause is told exactly where it applies
-//! (`why_no_job`, `unended`, `with_return`, `spaced`, `upper_case`).
+//! (`unended`, `with_return`, `spaced`, `upper_case`).
 //!
 //! # What is only tested
 //!
@@ -27,6 +27,6 @@ pub mod explain;
 pub mod files;
 mod running;
 
-pub use asking::{run, run_for};
+pub use asking::{Terminals, run, run_for};
 pub use files::FileLocks;
 pub use running::{bad_command_line, out_of_memory};

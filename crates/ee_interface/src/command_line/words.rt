@@ -368,7 +368,7 @@ fn count_of(word: &str) -> Option<u32>
 
 /// The base that a word spells: a multiple of 8.
 #[tactic(auto, unfolding(crate::specs::CommandLine::Job::IsBase))]
-fn base_of(word: &str) -> Option<u32>
+pub(super) fn base_of(word: &str) -> Option<u32>
     ensures found { IfSome result (λ base. IsBase base × HasBase word.now base) }
     ensures only { (base : ℕ) → IsBase base → HasBase word.now base → result ≡ Some base }
 {

@@ -1,27 +1,8 @@
--- Why words are no command line, and why a line of a script is bad.
-use Rattle.std.specs.Prelude.{◌≡◌, ◌⊎◌, ◌++◌, ◌∷◌, ◌&&◌, ◌||◌, ◌==◌, ℕ, nat_le, Bool, true, false, List, [], codes}
+-- Why a line of a script is bad, by its bytes.
+use Rattle.std.specs.Prelude.{◌≡◌, ◌++◌, ◌∷◌, ◌&&◌, ◌||◌, ◌==◌, ℕ, nat_le, Bool, true, false, List, []}
 use Rattle.std.specs.List.{list_any}
-use Rattle.std.specs.Borrow.{Bor}
 use Rattle.ee_interface.specs.Script.Command.{IsCommand, command_text}
 use Rattle.ee_interface.specs.declared.script.command.Command.{Command}
-
--- a command that takes words has this name
-unfoldable pub IsCommandName : List ℕ → Type 0
-IsCommandName name =
-    (name ≡ codes "try") ⊎ (name ≡ codes "format") ⊎ (name ≡ codes "import")
-    ⊎ (name ≡ codes "export") ⊎ (name ≡ codes "import-hex") ⊎ (name ≡ codes "export-hex")
-    ⊎ (name ≡ codes "run") ⊎ (name ≡ codes "list") ⊎ (name ≡ codes "get") ⊎ (name ≡ codes "set")
-    ⊎ (name ≡ codes "unset") ⊎ (name ≡ codes "apply") ⊎ (name ≡ codes "verify")
-    ⊎ (name ≡ codes "header") ⊎ (name ≡ codes "stale") ⊎ (name ≡ codes "tidy")
-    ⊎ (name ≡ codes "plan") ⊎ (name ≡ codes "check")
-    ⊎ (name ≡ codes "size") ⊎ (name ≡ codes "inspect") ⊎ (name ≡ codes "wear")
-    ⊎ (name ≡ codes "states") ⊎ (name ≡ codes "clean") ⊎ (name ≡ codes "rescue")
-    ⊎ (name ≡ codes "forget-all")
-
--- the first word is such a name
-abbrev pub StartsWithCommand : List (Bor (List ℕ)) → Type 0
-StartsWithCommand [] = ⊥
-StartsWithCommand (word ∷ words) = IsCommandName word.now
 
 -- the line is a command's
 abbrev pub IsCommandLine : List ℕ → Type 0

@@ -1,53 +1,9 @@
-//! Why words are no command line, and why a line is none of a script.
+//! Why a line is none of a script, by its bytes.
 ghost use Rattle.std.specs.Prelude.{◌≡◌, ◌≢◌, ◌↔◌, IsTrue, true, false};
-ghost use Rattle.ee_program.specs.Explain.Explaining.{IsCommandLine, IsCommandName, IsSpaced, IsUnended, IsUpperCase, IsWithReturn, StartsWithCommand, has_capital, has_loose_space, is_upper};
+ghost use Rattle.ee_program.specs.Explain.Explaining.{IsCommandLine, IsSpaced, IsUnended, IsUpperCase, IsWithReturn, has_capital, has_loose_space, is_upper};
 ghost use Rattle.ee_program.specs.declared.explain.causes.LineCause.TheVariants.{Spaced, Unended, UpperCase, WithReturn};
-ghost use Rattle.ee_program.specs.declared.explain.causes.WordsCause.TheVariants.{NoRow};
 
 use ee_interface::script::read_command;
-
-/// Why words are no command line.
-///
-/// Source: ours.
-#[derive(Clone, Copy, Debug, PartialEq, Eq)]
-pub enum WordsCause {
-    /// No command that takes words has the name that the first of them is.
-    NoCommand,
-    /// The others are in no row of their command.
-    NoRow,
-}
-
-/// Why words that are no command line are none.
-///
-/// Source: ours.
-pub fn why_no_job(words: &[&str]) -> WordsCause
-    ensures { result ≡ NoRow ↔ StartsWithCommand words.now }
-{
-    let Some((name, _)) = words.split_first() else {
-        return WordsCause::NoCommand;
-    };
-    if is_command_name(name) {
-        WordsCause::NoRow
-    } else {
-        WordsCause::NoCommand
-    }
-}
-
-/// Whether a command that takes words has this name.
-#[tactic(auto, unfolding(crate::specs::Explain::Explaining::IsCommandName))]
-pub(crate) fn is_command_name(word: &str) -> bool
-    ensures { IsTrue result ↔ IsCommandName word.now }
-{
-    match word {
-        "try" | "format" | "import" | "export" | "import-hex" | "export-hex" | "run" | "list" => {
-            true
-        }
-        "get" | "set" | "unset" | "apply" | "verify" | "header" | "stale" | "tidy" => true,
-        "plan" | "check" | "size" | "inspect" | "wear" | "states" | "clean" | "rescue" => true,
-        "forget-all" => true,
-        _ => false,
-    }
-}
 
 /// Why a line of a script is bad.
 ///

@@ -1,21 +1,22 @@
 //! What to do at each fault, in a line.
 use ee_interface::{Fault, File};
 
-/// What to do at a fault.
+/// What to do at a fault. A word in capitals stands for a path, `Np` for the number of a line: what
+/// shows it fills in what the job names.
 pub(crate) fn remedy_of(fault: &Fault) -> &'static str {
     match fault {
         Fault::CannotRead(_) => "look whether the file is there and may be read: ls -l FILE",
-        Fault::TooLong(_) =>
+        Fault::TooLong(File::Script) =>
             "cut the script in pieces, and run these one after another: split -l 500000 SCRIPT",
-        Fault::CannotWriteImage | Fault::CannotWriteDump => {
-            "look for room and the right to write: df . && ls -l FILE"
-        }
+        Fault::TooLong(_) => "look whether it is the right file: ls -l FILE",
+        Fault::CannotWriteImage => "look for room and the right to write: df . && ls -l IMAGE",
+        Fault::CannotWriteDump => "look for room and the right to write: df . && ls -l DUMP",
         Fault::ImageChanged => "another run wrote or writes the image: type the command again",
         Fault::CannotWriteOutput =>
             "the image was written: don't run the script again for its report",
         Fault::OutputIsWritten => "send the output to another file: > my.report",
         Fault::BadLine { file, .. } => remedy_of_line(*file),
-        Fault::BadShape(_) => "the first line is `ee P W`, P 1 to 64, W 5 to 512",
+        Fault::BadShape(_) => "the first line is `ee P W`, P 1 to 64, W 5 to 512: head -n 1 FILE",
         Fault::Unformatted => "make an empty store: ee format P W IMAGE",
         Fault::NoLiveSet | Fault::TwoLive | Fault::Foreign { .. } => {
             "look at it, then keep what can be kept: ee inspect IMAGE && ee rescue IMAGE"
@@ -30,10 +31,10 @@ pub(crate) fn remedy_of(fault: &Fault) -> &'static str {
 /// The same of a bad line of this file.
 fn remedy_of_line(file: File) -> &'static str {
     match file {
-        File::Script => "look at the line with its ends: sed -n Np SCRIPT | cat -A",
-        File::Dump => "the HEX was changed or cut off there: export it again",
+        File::Dump =>
+            "the HEX was changed or cut off there: export it again, or look: sed -n Np FILE",
         File::Certificate => "take the certificate out of a report: sed -n '/^slots/,$p' my.report",
-        _ => "look at the line: sed -n Np FILE | cat -A",
+        _ => "look at the line with its ends: sed -n Np FILE | cat -A",
     }
 }
 
@@ -57,7 +58,7 @@ fn remedy_of_work(fault: &Fault) -> &'static str {
         Fault::Full | Fault::FullAt(_) => "forget what no setting has: ee tidy IMAGE SETTINGS",
         Fault::Spent | Fault::SpentAt(_) => "no move is left: take a new part, or format the image",
         Fault::DumpLength =>
-            "give the P and W of the part, 16 * P * W bytes, or 32 * P * W with --pairs",
+            "look how long it is, 16 * P * W, or 32 * P * W with --pairs: ls -l DUMP",
         Fault::LowPair { .. } => "try it with no --pairs and twice the W, or another first byte",
         Fault::TornWord { .. } => "take it away, where it waits: ee clean IMAGE",
         Fault::Base => "give as BASE where the part's first byte is",
