@@ -24,7 +24,8 @@ use std::alloc::Allocator;
 ///
 /// The first that applies: `DumpLength`, where the dump has not `16 × pages × words` bytes, or
 /// twice as many for pairs; `LowPair`, the first two numbers that sum to less than `u64::MAX`;
-/// `Misplaced`, the first word that tells another shape (`first_misplaced`). `Memory` can come in place of any answer but `DumpLength`.
+/// `Misplaced`, the first word that tells another shape. `Memory` can come in place of any answer
+/// but `DumpLength`.
 pub fn import_image<A: Allocator + Copy>(
     alloc: A,
     shape: Shape,

@@ -56,8 +56,8 @@ pub fn write_sparse_hex<A: Allocator + Copy>(
     size: usize,
     bytes: &[u8],
 ) -> Result<Vec<u8, A>, AllocError>
-    requires { 0 < size }
-    requires { base + length bytes.now ≤ 2 ^ 32 }
+    requires some { 0 < size }
+    requires fits { base + length bytes.now ≤ 2 ^ 32 }
     ensures { IfOk result (λ text. text.items ≡ sparse_text size base bytes.now) }
 {
     let mut out = Vec::new(alloc);
