@@ -1,5 +1,5 @@
 -- Words that tell another shape: a device has none, or one first.
-use Rattle.std.proofs.Common.{◌≡◌, ◌⊎◌, ◌×◌, inl, inr, refl, sym, ap, ◌∙◌, subst, true, false, ℕ, ◌+◌, ◌<◌, ◌≤◌, List, length, get_or, arith, rules}
+use Rattle.std.proofs.Common.{◌≡◌, ◌⊎◌, inl, inr, refl, sym, ap, ◌∙◌, subst, true, false, ℕ, ◌+◌, ◌<◌, ◌≤◌, List, [], length, get_or, arith, rules}
 use Rattle.std.proofs.lemmas.Bool.{cases_Bool, cases_lt, true≢false}
 use Rattle.std.proofs.lemmas.List.{get_or_past}
 use Rattle.ee_flash.specs.Device.{Device, IsFormed, page_at, word_at}

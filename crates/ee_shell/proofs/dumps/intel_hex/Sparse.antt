@@ -134,7 +134,8 @@ get_left (x ∷ xs) ys zero less = refl
 get_left (x ∷ xs) ys (suc i) less = get_left xs ys i (omega arith)
 
 get_right : (xs ys : List ℕ) (i j : ℕ) → i ≡ length xs + j → get_or (xs ++ ys) i 0 ≡ get_or ys j 0
-get_right [] ys i j is = ap (λ (n : ℕ). get_or ys n 0) is
+get_right [] ys i j is =
+    let same : i ≡ j = omega (arith, is) in ap (λ (n : ℕ). get_or ys n 0) same
 get_right (x ∷ xs) ys zero j is = absurd (omega arith)
 get_right (x ∷ xs) ys (suc i) j is = get_right xs ys i j (omega arith)
 
@@ -280,7 +281,7 @@ all_both P [] ys left right = right
 all_both P (x ∷ xs) ys left right = (left.0, all_both P xs ys left.1 right)
 
 bytes_both : (xs ys : List ℕ) → IsBytes xs → IsBytes ys → IsBytes (xs ++ ys)
-bytes_both [] ys left right = right
+bytes_both [] ys left right i = right i
 bytes_both (x ∷ xs) ys left right zero = left 0
 bytes_both (x ∷ xs) ys left right (suc i) = bytes_both xs ys (λ j. left (suc j)) right i
 
@@ -518,9 +519,11 @@ word_met size count (byte ∷ bytes) word others some more count_is word_is othe
     }
 
 drop_both : (n m : ℕ) (xs : List ℕ) → drop (n + m) xs ≡ drop m (drop n xs)
-drop_both zero m xs = refl
-drop_both (suc n) m [] = sym (drop-nil m)
-drop_both (suc n) m (x ∷ xs) = drop_both n m xs
+drop_both zero m xs = let same : 0 + m ≡ m = omega arith in ap (λ (k : ℕ). drop k xs) same
+drop_both (suc n) m [] = drop-nil (suc n + m) ∙ sym (drop-nil m)
+drop_both (suc n) m (x ∷ xs) =
+    let same : suc n + m ≡ suc (n + m) = omega arith in
+    ap (λ (k : ℕ). drop k (x ∷ xs)) same ∙ drop_both n m xs
 
 -- the lines of records and of the end
 abbrev lines_to_end : List Record → List ℕ

@@ -2,7 +2,7 @@ use Rattle.std.proofs.Common.{inl, rules}
 use Rattle.std.proofs.lemmas.Result.{err_from_is_err_and}
 use Rattle.ee_flash.specs.Memory.{device_of}
 use Rattle.ee_image_store.proofs.Public.{formed_of}
-use Rattle.ee_shell.proofs.PartLemmas.Causes.{import_memory, imported_good, one_import_fault}
+use Rattle.ee_shell.proofs.PartLemmas.Causes.{import_memory, imported_good, misplaced_told, one_import_fault}
 use Rattle.ee_shell.proofs.part.dump.import_image.Goals as goal
 
 pub returns-in-Err-clause-fault : goal.returns-in-Err-clause-fault
@@ -18,6 +18,16 @@ returns-in-Err-clause-names g c = λ cause some applies.
     one_import_fault c.args.form c.args.shape c.args.dump.now cause c.import_fault.result some
     applies
     (returns-in-Err-clause-fault g c)
+
+pub returns-in-Some-clause-fault : goal.returns-in-Some-clause-fault
+returns-in-Some-clause-fault g c =
+    misplaced_told c.args.form c.args.shape c.args.dump.now (device_of c.in-Ok.flash) c.in-Some.page
+    c.in-Some.at (formed_of c.in-Ok.flash) c.in-Ok.ensures.read c.in-Some.ensures.found
+
+pub returns-in-Some-clause-names : goal.returns-in-Some-clause-names
+returns-in-Some-clause-names g c = λ cause some applies.
+    one_import_fault c.args.form c.args.shape c.args.dump.now cause _ some applies
+    (returns-in-Some-clause-fault g c)
 
 pub returns-in_err-text_of-clause-fault : goal.returns-in_err-text_of-clause-fault
 returns-in_err-text_of-clause-fault g c =

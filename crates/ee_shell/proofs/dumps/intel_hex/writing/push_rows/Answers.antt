@@ -6,7 +6,7 @@ pub loop-rest-preserved : goal.loop-rest-preserved
 loop-rest-preserved g c =
     let some : 0 < length c.loop-rest.rest.now = first_of (omega arith, search rules) in
     record {
-      text = one_row_more c.loop-rest.out.now.items c.push_upper.new.out.items
+      text = one_row_more c.loop-rest.out.items c.push_upper.new.out.items
           c.push_record.new.out.items
           (c.args.out.now.items ++ text_left None c.args.from c.args.bytes.now)
           c.loop-rest.rest.now c.split_at.result.0.now c.split_at.result.1.now
@@ -22,6 +22,6 @@ loop-rest-preserved g c =
 pub returns : goal.returns
 returns g c =
     let none : length c.loop-rest.rest.now ≡ 0 = first_of (omega arith, search rules) in
-    all_written_so c.loop-rest.out.now.items c.loop-rest.rest.now
+    all_written_so c.loop-rest.out.items c.loop-rest.rest.now
     (c.args.out.now.items ++ text_left None c.args.from c.args.bytes.now)
     c.loop-rest.told c.loop-rest.place c.loop-rest.invariant.text none
