@@ -1,5 +1,5 @@
 -- Words that tell another shape: a device has none, or one first.
-use Rattle.std.proofs.Common.{◌≡◌, ◌⊎◌, inl, inr, refl, sym, ap, ◌∙◌, subst, true, false, ℕ, ◌+◌, ◌<◌, ◌≤◌, List, [], length, get_or, arith, rules}
+use Rattle.std.proofs.Common.{◌≡◌, inl, inr, sym, ap, ◌∙◌, subst, false, ℕ, ◌+◌, ◌<◌, ◌≤◌, List, [], length, get_or, arith, rules}
 use Rattle.std.proofs.lemmas.Bool.{cases_Bool, cases_lt, true≢false}
 use Rattle.std.proofs.lemmas.List.{get_or_past}
 use Rattle.ee_flash.specs.Device.{Device, IsFormed, page_at, word_at}
@@ -79,15 +79,19 @@ pub one_misplaced : (device : Device) (page at other place : ℕ) → IsFirstMis
     → IsFirstMisplaced device other place → (other ≡ page) × (place ≡ at)
 one_misplaced device page at other place first second =
     let same : other ≡ page =
-    omega
-    (arith, not_before device page at other place first second,
-    not_before device other place page at second first) in
+    omega (
+      arith,
+      not_before device page at other place first second,
+      not_before device other place page at second first,
+    ) in
     let here : IsMisplacedIn device page place =
     subst (λ (p : ℕ). IsMisplacedIn device p place) same second.here in (
       same,
-      omega
-          (arith, place_not_before device page at place first.here here,
-          place_not_before device page place at here first.here),
+      omega (
+        arith,
+        place_not_before device page at place first.here here,
+        place_not_before device page place at here first.here,
+      ),
     )
 
 -- a device in place has none

@@ -53,7 +53,10 @@ fn tells_another_shape(at: usize, word: Word) -> bool
         };
     }
     if at < HEADER_WORDS {
-        return matches!(read_slot(word), Slot::Element { .. } | Slot::Forgotten { .. });
+        return matches!(
+            read_slot(word),
+            Slot::Element { .. } | Slot::Forgotten { .. }
+        );
     }
     matches!(read_mark(word), MarkRead::Present)
 }

@@ -1,7 +1,7 @@
 -- A text without the erased words reads back, and how it grows.
-use Rattle.std.proofs.Common.{◌≡◌, ◌≢◌, ◌⊎◌, ℕ, Bool, zero, suc, ◌+◌, ◌-◌, ◌==◌, ◌<◌, ◌≤◌, min, true, false, List, [], ◌∷◌, ◌++◌, length, get_or, take, drop, refl, sym, ap, ◌∙◌, subst, arith, inl, inr, None, rules, length-append}
+use Rattle.std.proofs.Common.{◌≡◌, ◌≢◌, ◌⊎◌, ℕ, Bool, zero, suc, ◌+◌, ◌-◌, ◌==◌, ◌<◌, ◌≤◌, min, true, false, List, [], ◌∷◌, ◌++◌, length, get_or, take, drop, refl, sym, ap, ◌∙◌, subst, arith, inl, inr, None, length-append}
 use Rattle.std.specs.Prelude.{if◌then◌else◌}
-use Rattle.std.specs.List.{AllByRecursion, flat_map, list_all}
+use Rattle.std.specs.List.{AllByRecursion, flat_map}
 use Rattle.std.proofs.lemmas.Bool.{true≢false, cases_Bool, ne_eqb, eq-eqb, cases_eq, cases_lt}
 use Rattle.std.proofs.lemmas.List.Folds.{list_all_at, list_all_more}
 use Rattle.std.proofs.lemmas.List.{append-nil, append_assoc, nil_from_length, length-take, length-take-le, length-drop, take_all, take-append-drop}
@@ -9,7 +9,7 @@ use Rattle.std.proofs.lemmas.List.Concat.{flat_map-append}
 use Rattle.std.proofs.Math.Seq.{drop-nil, take-add}
 use Rattle.hex.specs.Hex.{IsBytes}
 use Rattle.ee_shell.specs.Dumps.intel_hex.Record.{Record, AreLinesOf}
-use Rattle.ee_shell.specs.Dumps.intel_hex.Text.{AgreeWithin, IsByteAt, IsHexOf, Says, all_placed, erased_byte, numbered_bytes, placed_bytes, upper_after}
+use Rattle.ee_shell.specs.Dumps.intel_hex.Text.{AgreeWithin, IsByteAt, IsHexOf, Says, all_placed, numbered_bytes, placed_bytes, upper_after}
 use Rattle.ee_shell.specs.Dumps.intel_hex.Written.{ByteRun, end_record, is_erased_word, joined, record_line, rows, run_records, runs, sparse_text, words_in}
 use Rattle.ee_shell.proofs.dumps.intel_hex.Written.{IsInside, IsSaid, all_no_end, all_written, end_is_written, is_bytes_drop, is_bytes_take, line_again, lines_again, numbered_at, numbered_parts, numbered_says, rows_inside, rows_placed}
 
@@ -296,11 +296,13 @@ joined_fits : (place : ℕ) (bytes : List ℕ) (found : List ByteRun) → IsByte
 joined_fits place bytes [] all ends fit = (record { bytes = all; ends = ends }, tt)
 joined_fits place bytes (run ∷ found) all ends fit =
     elim (cases_eq run.place (place + length bytes)) [
-      | inl here ↦ rw (eq-eqb run.place (place + length bytes) here)
-          (record {
-            bytes = bytes_both bytes run.bytes all fit.0.bytes;
-            ends = omega (arith, fit.0.ends, length-append bytes run.bytes, here);
-          }, fit.1)
+      | inl here ↦ rw (eq-eqb run.place (place + length bytes) here) (
+        record {
+          bytes = bytes_both bytes run.bytes all fit.0.bytes;
+          ends = omega (arith, fit.0.ends, length-append bytes run.bytes, here);
+        },
+        fit.1,
+      )
       | inr there ↦ rw (ne_eqb run.place (place + length bytes) there)
           (record { bytes = all; ends = ends }, fit)
     ]
@@ -363,10 +365,10 @@ sparse_texts_read_back_lem size base bytes some all fits =
       as_long = refl;
       bytes_are =
           λ i less.
-              subst (λ (pairs : List (ℕ × ℕ)). IsByteAt pairs (base + i) (get_or bytes i 0)) (sym said)
-              (subst (λ (l : List ℕ). IsByteAt (held base words) (base + i) (get_or l i 0)) whole
-              (held_at base words i
-              (subst (λ (l : List ℕ). i < length l) (sym whole) less)));
+          subst (λ (pairs : List (ℕ × ℕ)). IsByteAt pairs (base + i) (get_or bytes i 0)) (sym said)
+          (subst (λ (l : List ℕ). IsByteAt (held base words) (base + i) (get_or l i 0)) whole
+          (held_at base words i
+          (subst (λ (l : List ℕ). i < length l) (sym whole) less)));
     }
 
 -- ---- how the text grows
@@ -440,16 +442,16 @@ joined_twice place bytes word (run ∷ found) =
     omega (arith, length-append bytes word) in
     elim (cases_eq run.place (place + length bytes + length word)) [
       | inl here ↦ rw (
-          eq-eqb run.place (place + length bytes + length word) here,
-          eq-eqb run.place (place + length (bytes ++ word)) (here ∙ same),
-          eq-eqb (place + length bytes) (place + length bytes) refl,
-        ) (ap (λ (l : List ℕ). record { place = place; bytes = l } ∷ found)
+        eq-eqb run.place (place + length bytes + length word) here,
+        eq-eqb run.place (place + length (bytes ++ word)) (here ∙ same),
+        eq-eqb (place + length bytes) (place + length bytes) refl,
+      ) (ap (λ (l : List ℕ). record { place = place; bytes = l } ∷ found)
           (sym (append_assoc bytes word run.bytes)))
       | inr there ↦ rw (
-          ne_eqb run.place (place + length bytes + length word) there,
-          ne_eqb run.place (place + length (bytes ++ word)) (λ e. there (e ∙ sym same)),
-          eq-eqb (place + length bytes) (place + length bytes) refl,
-        ) refl
+        ne_eqb run.place (place + length bytes + length word) there,
+        ne_eqb run.place (place + length (bytes ++ word)) (λ e. there (e ∙ sym same)),
+        eq-eqb (place + length bytes) (place + length bytes) refl,
+      ) refl
     ]
 
 words_enough : (most other size : ℕ) (bytes : List ℕ) → 0 < size → length bytes ≤ most

@@ -98,11 +98,7 @@ fn is_erased(word: &[u8]) -> bool
 /// Writes the rows of bytes, or a part of them after an error: the upper address in front of the
 /// first and where it changes.
 #[tactic(auto, using(crate::proofs::dumps::intel_hex::Written::one_row_more, crate::proofs::dumps::intel_hex::Written::all_written_so))]
-fn push_rows<A: Allocator>(
-    out: &mut Vec<u8, A>,
-    from: u64,
-    bytes: &[u8],
-) -> Result<(), AllocError>
+fn push_rows<A: Allocator>(out: &mut Vec<u8, A>, from: u64, bytes: &[u8]) -> Result<(), AllocError>
     requires { from + length bytes.now ≤ 2 ^ 32 }
     ensures { OnOk result (out.new.items ≡ out.old.items
         ++ flat_map record_line (rows (length bytes.now) None from bytes.now)) }

@@ -1,4 +1,4 @@
-use Rattle.std.proofs.Common.{◌∙◌, [], arith, length, rules, sym}
+use Rattle.std.proofs.Common.{◌∙◌, [], arith, rules, sym}
 use Rattle.ee_shell.proofs.dumps.intel_hex.Sparse.{sparse_erased, sparse_held, sparse_left, sparse_written}
 use Rattle.ee_shell.proofs.dumps.intel_hex.writing.write_sparse_hex.Goals as goal
 
