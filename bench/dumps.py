@@ -16,6 +16,7 @@ PAGES, WORDS = 64, 512
 SIZES = [(1, 5), (1, 6), (2, 7), (1, 256), (PAGES, WORDS)]
 BASES = [0, 8, 0xFFF8, 0x10000, 0x0807F000]
 ALL_ONES = b"\xff" * 8
+MARK = 0xAAAAAAAAAAAAAAAA
 MOST_NUMBER = (1 << 64) - 1
 # The most bytes that are read of a file, and the seconds that this may take.
 MOST_BYTES = 1 << 24
@@ -29,12 +30,29 @@ def expect(place, words, wanted):
     trying.expect(wanted, (status, (printed + said).decode()), words)
 
 
-def random_dump(chance, pages, words):
-    """The bytes of a part: words with bytes of every kind, and erased ones."""
-    word = lambda: chance.choice(
-        [ALL_ONES, chance.randbytes(8), bytes([chance.randrange(256)]) * 8]
-    )
-    return b"".join(word() for _ in range(2 * pages * words))
+def tells_shape(number, at):
+    """Whether a word at this place of its page tells that another shape wrote it: an element or a
+    forgetting in a header, but for what a cut receive word may be, or a mark in a slot."""
+    if at > 3:
+        return number == MARK
+    may_be_cut = at == 0 and all(number >> 32 >> bit & 1 for bit in range(1, 32, 2))
+    return number >> 17 & 0x7FFF == 0 and 0 < number & 0xFFFF < 0xFFFF and not may_be_cut
+
+
+def random_dump(chance, pages, words, anywhere=False):
+    """The bytes of a part: words with bytes of every kind, and erased ones. Only with `anywhere`
+    they may tell another shape."""
+
+    def word(at):
+        while True:
+            kinds = [ALL_ONES, chance.randbytes(8), bytes([chance.randrange(256)]) * 8]
+            if anywhere and chance.randrange(12) == 0:
+                kinds = [MARK.to_bytes(8, "little"), b"\x05\x00\x01\x00" + chance.randbytes(4)]
+            drawn = chance.choice(kinds)
+            if anywhere or not tells_shape(int.from_bytes(drawn, "little"), at):
+                return drawn
+
+    return b"".join(word(at % words) for at in range(2 * pages * words))
 
 
 def paired(dump):
@@ -71,26 +89,37 @@ def image_of_pairs(dump, pages, words):
             int.from_bytes(dump[place : place + 8], "little") for place in (at, at + 8)
         )
         if number + other < MOST_NUMBER:
-            return divmod(at // 16, words)
+            return "pair", *divmod(at // 16, words)
         whole = number + other == MOST_NUMBER and number != MOST_NUMBER
         texts.append("-" if number == other == MOST_NUMBER else f"{number:016x}" if whole else "?")
     return image_text(texts, pages, words)
 
 
 # A form of a dump: what stands behind the commands' names, the bytes of a part with these words,
-# and the image of such bytes.
-Form = namedtuple("Form", "flag written read")
-FORMS = [Form("", bytes, image_of), Form(" --pairs", paired, image_of_pairs)]
+# the image of such bytes, and how many a word has.
+Form = namedtuple("Form", "flag written read size")
+FORMS = [Form("", bytes, image_of, 8), Form(" --pairs", paired, image_of_pairs, 16)]
+
+
+def judged(found):
+    """What was found, or the first word of an image that tells another shape."""
+    if not isinstance(found, bytes):
+        return found
+    for page, line in enumerate(found.decode().splitlines()[1:]):
+        for at, text in enumerate(line.split()[1:]):
+            if text not in "-?" and tells_shape(int(text, 16), at):
+                return "shape", page, at
+    return found
 
 
 def told_of(found):
-    """What an import says where this was found: an image, a bad line, or the page and the place of
-    numbers that are too low."""
+    """What an import says where this was found: an image, a bad line, or what is wrong with a word
+    of this page and place."""
     if isinstance(found, bytes):
         return 0, "imported\n"
-    return 3, f"ee: dump line {found}\n" if isinstance(
-        found, int
-    ) else "ee: dump pair {} {}\n".format(*found)
+    if isinstance(found, int):
+        return 3, f"ee: dump line {found}\n"
+    return 3, "ee: dump {} {} {}\n".format(*found)
 
 
 def record(address, kind, data):
@@ -110,6 +139,19 @@ def hex_of(dump, base, row=16):
         parts.append(record(place & 0xFFFF, 0, dump[at : at + count]))
         at += count
     return b"".join(parts) + record(0, 1, b"")
+
+
+def sparse_of(dump, base, size):
+    """A text of the words of these bytes that aren't erased, in runs."""
+    end, parts, run = record(0, 1, b""), [], b""
+    for at in range(0, len(dump) + size, size):
+        word = dump[at : at + size]
+        if word.strip(b"\xff"):
+            run += word
+        else:
+            parts.append(hex_of(run, base + at - len(run)).removesuffix(end))
+            run = b""
+    return b"".join(parts) + end
 
 
 def record_of(line):
@@ -159,7 +201,7 @@ def read_hex(text, base, size):
 def bytes_and_texts(place):
     """A part and its image, its bytes and its text are each other's."""
     chance = random.Random(1)
-    for (flag, written, read), (pages, words) in product(FORMS, SIZES):
+    for (flag, written, read, size), (pages, words) in product(FORMS, SIZES):
         dump = written(random_dump(chance, pages, words))
         image = read(dump, pages, words)
         place.put("image", image)
@@ -168,13 +210,15 @@ def bytes_and_texts(place):
         expect(place, f"import{flag} {pages} {words} dump again", (0, "imported\n"))
         place.same("again", image, f"import{flag} {pages} {words}")
         for base in BASES:
-            expect(place, f"export-hex{flag} image {base:08x} hex", (0, "exported\n"))
-            place.same("hex", hex_of(dump, base), f"export-hex{flag} {pages} {words} {base:x}")
+            for fill, text in ("", sparse_of(dump, base, size)), (" --fill", hex_of(dump, base)):
+                line = f"export-hex{flag}{fill} image {base:08x} hex{fill.strip()}"
+                expect(place, line, (0, "exported\n"))
+                place.same(f"hex{fill.strip()}", text, f"{line}, {pages} {words}")
             place.put(
                 "rows",
                 hex_of(dump, base, chance.choice([1, 7, 32, 255] if words < WORDS else [32, 255])),
             )
-            for name in ("hex", "rows"):
+            for name in ("hex", "hex--fill", "rows"):
                 expect(
                     place,
                     f"import-hex{flag} {pages} {words} {base:08X} {name} again",
@@ -187,7 +231,7 @@ def objcopy(place):
     """What objcopy writes is read, and it reads what is written."""
     chance, base = random.Random(2), 0x0807F000
     copy = lambda *words: subprocess.run(["objcopy", *words], cwd=place.folder, check=True)
-    for (flag, written, read), (pages, words) in product(FORMS, SIZES):
+    for (flag, written, read, _), (pages, words) in product(FORMS, SIZES):
         dump = written(random_dump(chance, pages, words))
         place.put("image", read(dump, pages, words))
         expect(place, f"export{flag} image dump", (0, "exported\n"))
@@ -196,7 +240,7 @@ def objcopy(place):
             place, f"import-hex{flag} {pages} {words} {base:08x} theirs again", (0, "imported\n")
         )
         place.same("again", place.get("image"), f"objcopy's HEX{flag}, {pages} {words}")
-        expect(place, f"export-hex{flag} image {base:08x} ours", (0, "exported\n"))
+        expect(place, f"export-hex{flag} --fill image {base:08x} ours", (0, "exported\n"))
         copy("-I", "ihex", "-O", "binary", "ours", "back")
         place.same("back", dump, f"what objcopy reads{flag}, {pages} {words}")
 
@@ -238,15 +282,15 @@ def mutated(chance, text):
 def broken_texts(place):
     """Changed texts are read as this file reads them, or have the bad line that it finds."""
     chance, base = random.Random(3), 0xFFD0
-    for (flag, written, read), number in product(FORMS, range(MUTATIONS)):
-        dump = written(random_dump(chance, 1, 6))
+    for (flag, written, read, _), number in product(FORMS, range(MUTATIONS)):
+        dump = written(random_dump(chance, 1, 6, chance.randrange(3) == 0))
         text = hex_of(dump, base, chance.choice([5, 16, 32]))
         for _ in range(chance.randrange(1, 3)):
             text = mutated(chance, text) or b"\n"
         place.put("hex", text)
         found = read_hex(text, base, len(dump))
         if isinstance(found, bytes):
-            found = read(found, 1, 6)
+            found = judged(read(found, 1, 6))
         expect(place, f"import-hex{flag} 1 6 {base:08x} hex image", told_of(found))
         if isinstance(found, bytes):
             place.same("image", found, f"text{flag} {number}")
@@ -280,8 +324,8 @@ def damaged_pairs(place):
     chance, base = random.Random(5), 0xFF40
     for number in range(MUTATIONS):
         pages, words = chance.choice(SIZES[:3])
-        dump = damaged(chance, paired(random_dump(chance, pages, words)))
-        found = image_of_pairs(dump, pages, words)
+        dump = damaged(chance, paired(random_dump(chance, pages, words, number % 4 == 0)))
+        found = judged(image_of_pairs(dump, pages, words))
         place.put("dump", dump)
         place.put("hex", hex_of(dump, base))
         expect(place, f"import --pairs {pages} {words} dump image", told_of(found))

@@ -39,6 +39,7 @@ format P W new
 export image dump
 import P W dump new
 export-hex image BASE hex
+export-hex --fill image BASE hex
 import-hex P W BASE hex new
 export --pairs image dump
 import --pairs P W dump new

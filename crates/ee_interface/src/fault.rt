@@ -123,6 +123,8 @@ pub enum Fault {
     /// The first word of the dump whose two numbers sum to less than all ones, by its
     /// page and its place.
     LowPair { page: usize, at: usize },
+    /// The first word of the dump that no store of the shape has there, by its page and its place.
+    Misplaced { page: usize, at: usize },
     /// The first torn word of the image, by its page and its place: no dump has one.
     TornWord { page: usize, at: usize },
     /// The part would reach past the addresses of 32 bits.
@@ -208,6 +210,7 @@ impl Fault {
             Fault::NoSizeEnough => "no size is enough",
             Fault::DumpLength => "dump length",
             Fault::LowPair { .. } => "dump pair ",
+            Fault::Misplaced { .. } => "dump shape ",
             Fault::TornWord { .. } => "torn word ",
             Fault::Base => "base",
             Fault::ValuesText => "values text",
@@ -234,6 +237,7 @@ impl Fault {
             Fault::Backwards(page) => Beside::Number(page as u64),
             Fault::Foreign { page, at }
             | Fault::LowPair { page, at }
+            | Fault::Misplaced { page, at }
             | Fault::TornWord { page, at } => Beside::Numbers(page as u64, at as u64),
             Fault::OutOfRange { min, max } | Fault::ValueOutOfRange { min, max, .. } => {
                 Beside::Numbers(min as u64, max as u64)
@@ -410,6 +414,7 @@ pub fn status_of(fault: &Fault) -> u8
         | Fault::SameAddress(_)
         | Fault::DumpLength
         | Fault::LowPair { .. }
+        | Fault::Misplaced { .. }
         | Fault::ValuesText
         | Fault::BadValue(_) => 3,
         Fault::OutputIsWritten

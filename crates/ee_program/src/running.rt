@@ -56,10 +56,11 @@ pub(crate) fn work<R: FileLocks + Input + Print + AllocGlobal>(
         } => import_hex_file(rt, is_dry, pairs, shape, base, dump, image),
         Job::ExportHex {
             pairs,
+            fill,
             image,
             base,
             dump,
-        } => export_hex_file(rt, is_dry, pairs, image, base, dump),
+        } => export_hex_file(rt, is_dry, pairs, fill, image, base, dump),
         Job::Inspect { image } => tell_inside(rt, image),
         Job::Run {
             indexed,
@@ -191,17 +192,19 @@ fn import_hex_file<R: FileLocks + Print + AllocGlobal>(
     write_new(rt, is_dry, image, imported, b"imported\n")
 }
 
-/// Writes the bytes of the part of an image as Intel HEX. The part begins at the base.
+/// Writes the bytes of the part of an image as Intel HEX, with `fill` of erased words too. The part
+/// begins at the base.
 fn export_hex_file<R: FileLocks + Print + AllocGlobal>(
     rt: &R,
     is_dry: bool,
     pairs: bool,
+    fill: bool,
     image: &str,
     base: u32,
     dump: &str,
 ) -> Result<(), Fault> {
     let text = read_file(rt, File::Image, image)?;
-    let lines = export_hex(rt.alloc(), form_of(pairs), &text, base);
+    let lines = export_hex(rt.alloc(), fill, form_of(pairs), &text, base);
     write_dump(rt, is_dry, dump, lines)
 }
 

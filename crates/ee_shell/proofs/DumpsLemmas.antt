@@ -1,6 +1,7 @@
 pub mod Words
 pub mod Pairs
 pub mod Torn
+pub mod Misplaced
 pub mod Dumps
 pub mod Growing
 pub mod Pairing

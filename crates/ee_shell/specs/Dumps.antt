@@ -4,4 +4,5 @@ pub mod Fault
 pub mod Reading
 pub mod Writing
 pub mod Laws
+pub mod Places
 pub mod intel_hex

@@ -17,7 +17,7 @@ pub fn parts(part: &mut Part) {
 
 /// Exports an image as Intel HEX, and takes what an import makes of that.
 fn through_hex(part: &mut Part) {
-    let hex = export_hex(part.alloc, Form::Words, part.image.as_slice(), BASE);
+    let hex = export_hex(part.alloc, false, Form::Words, part.image.as_slice(), BASE);
     part.take_text(hex);
     let hex = part.told.as_slice();
     let further = import_hex(part.alloc, part.shape, Form::Words, BASE, hex);

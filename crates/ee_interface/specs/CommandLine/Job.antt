@@ -15,7 +15,7 @@ pub data Row : Type 0 where
   Import : Bool → Size → List ℕ → List ℕ → Row
   Export : Bool → List ℕ → List ℕ → Row
   ImportHex : Bool → Size → ℕ → List ℕ → List ℕ → Row
-  ExportHex : Bool → List ℕ → ℕ → List ℕ → Row
+  ExportHex : Bool → Bool → List ℕ → ℕ → List ℕ → Row
   Inspect : List ℕ → Row
   Run : Bool → List ℕ → List ℕ → Row
   Get : List ℕ → List ℕ → List ℕ → Row
@@ -45,7 +45,7 @@ row_of (job.Format size image) = Format size image.now
 row_of (job.Import pairs size dump image) = Import pairs size dump.now image.now
 row_of (job.Export pairs image dump) = Export pairs image.now dump.now
 row_of (job.ImportHex pairs size base dump image) = ImportHex pairs size base dump.now image.now
-row_of (job.ExportHex pairs image base dump) = ExportHex pairs image.now base dump.now
+row_of (job.ExportHex pairs fill image base dump) = ExportHex pairs fill image.now base dump.now
 row_of (job.Inspect image) = Inspect image.now
 row_of (job.Run indexed image script) = Run indexed image.now script.now
 row_of (job.Get image settings name) = Get image.now settings.now name.now
@@ -99,9 +99,9 @@ unfoldable pub HasBase : List ℕ → ℕ → Type 0
 HasBase word base = decode_of word ≡ Ok (to_be_bytes w32 base)
 
 -- its size is within the limits, its value has 32 bits, its base is one, from which a part that is
--- imported ends within 32 bits, an image to export is not named `--pairs`, one to run on is not
--- named `--indexed`, one to forget all of is not named `--force`, settings to tell are not named
--- `--rust`, and cycles and runs are counts
+-- imported ends within 32 bits, an image to export is not named `--pairs`, nor as Intel HEX
+-- `--fill`, one to run on is not named `--indexed`, one to forget all of is not named `--force`,
+-- settings to tell are not named `--rust`, and cycles and runs are counts
 abbrev pub IsRow : Row → Type 0
 IsRow (Try size) = IsWithinLimits size
 IsRow (Format size image) = IsWithinLimits size
@@ -109,7 +109,8 @@ IsRow (Import pairs size dump image) = IsWithinLimits size
 IsRow (Export pairs image dump) = image ≢ codes "--pairs"
 IsRow (ImportHex pairs size base dump image) =
     IsWithinLimits size × IsBase base × EndsWithin pairs size base
-IsRow (ExportHex pairs image base dump) = image ≢ codes "--pairs" × IsBase base
+IsRow (ExportHex pairs fill image base dump) =
+    image ≢ codes "--pairs" × image ≢ codes "--fill" × IsBase base
 IsRow (Inspect image) = Unit {0}
 IsRow (Run indexed image script) = image ≢ codes "--indexed"
 IsRow (Get image settings name) = Unit {0}
@@ -167,8 +168,11 @@ AreWordsOf words (ImportHex pairs size base dump image) = (digits : List ℕ) ×
     ≡ codes "import-hex"
     ∷ with_flag pairs (codes "--pairs")
     (decimal size.pages ∷ decimal size.words ∷ digits ∷ dump ∷ image ∷ []))
-AreWordsOf words (ExportHex pairs image base dump) = (digits : List ℕ) × HasBase digits base
-    × (words ≡ codes "export-hex" ∷ with_flag pairs (codes "--pairs") (image ∷ digits ∷ dump ∷ []))
+AreWordsOf words (ExportHex pairs fill image base dump) = (digits : List ℕ) × HasBase digits base
+    × (words
+    ≡ codes "export-hex"
+    ∷ with_flag pairs (codes "--pairs")
+    (with_flag fill (codes "--fill") (image ∷ digits ∷ dump ∷ [])))
 AreWordsOf words (Inspect image) = words ≡ codes "inspect" ∷ image ∷ []
 AreWordsOf words (Run indexed image script) =
     words ≡ codes "run" ∷ with_flag indexed (codes "--indexed") (image ∷ script ∷ [])

@@ -17,9 +17,10 @@ ee: flash EEPROM emulation over images as text, proved
   ee import P W DUMP IMAGE                 makes an image of a part's bytes, and replaces the file
   ee export IMAGE DUMP                     writes those bytes
   ee import-hex P W BASE DUMP IMAGE        the same as import, from Intel HEX
-  ee export-hex IMAGE BASE DUMP            the same as export, as Intel HEX
+  ee export-hex IMAGE BASE DUMP            the words that aren't erased, as Intel HEX
   ee import[-hex] --pairs P W ...          the same with no ECC: each word beside its complement
   ee export[-hex] --pairs IMAGE ...        the same with no ECC
+  ee export-hex --fill IMAGE ...           the same as export-hex, with the erased words
   ee run IMAGE SCRIPT                      answers a script, and replaces the image
   ee run --indexed IMAGE SCRIPT            the same, with an index in memory
   ee list IMAGE [SETTINGS]                 tells what each address has

@@ -41,10 +41,11 @@ pub enum Job<'a> {
         dump: &'a str,
         image: &'a str,
     },
-    /// `export-hex IMAGE BASE DUMP` or `export-hex --pairs IMAGE BASE DUMP`: writes the bytes of
-    /// the image's part as Intel HEX, from BASE on, a multiple of 8.
+    /// `export-hex [--pairs] [--fill] IMAGE BASE DUMP`: writes the bytes of the image's part as
+    /// Intel HEX, from BASE on, a multiple of 8; `fill` says that erased words are written too.
     ExportHex {
         pairs: bool,
+        fill: bool,
         image: &'a str,
         base: u32,
         dump: &'a str,

@@ -64,6 +64,29 @@ fn split_flag<'w, 'a>(flag: &str, words: &'w [&'a str]) -> Option<(bool, &'w [&'
     }
 }
 
+/// The words behind `--pairs` and `--fill`, and whether each is given. None where one is given
+/// twice, or behind the other in another order.
+fn split_hex_flags<'w, 'a>(words: &'w [&'a str]) -> Option<(bool, bool, &'w [&'a str])>
+    ensures found { IfSome result (λ split. HaveNoFlag (codes "--pairs") (texts_of split.2.now)
+        × HaveNoFlag (codes "--fill") (texts_of split.2.now)
+        × (texts_of words.now ≡ with_flag split.0 (codes "--pairs")
+        (with_flag split.1 (codes "--fill") (texts_of split.2.now)))) }
+    ensures only { (pairs fill : Bool) (operands : List (List ℕ))
+        → HaveNoFlag (codes "--pairs") operands → HaveNoFlag (codes "--fill") operands
+        → texts_of words.now ≡ with_flag pairs (codes "--pairs")
+        (with_flag fill (codes "--fill") operands)
+        → IsSomeAnd result (λ split. (split.0 ≡ pairs) × (split.1 ≡ fill)
+        × (texts_of split.2.now ≡ operands)) }
+{
+    let (pairs, others) = split_flag("--pairs", words)?;
+    let (fill, others) = split_flag("--fill", others)?;
+    let (again, operands) = split_flag("--pairs", others)?;
+    if again {
+        return None;
+    }
+    Some((pairs, fill, operands))
+}
+
 /// The job of `run`.
 fn run_job<'a>(words: &[&'a str]) -> Option<Job<'a>>
     ensures found { SpellsGiven (codes "run" ∷ texts_of words.now) result }
@@ -109,10 +132,13 @@ fn export_hex_job<'a>(words: &[&'a str]) -> Option<Job<'a>>
     ensures found { SpellsGiven (codes "export-hex" ∷ texts_of words.now) result }
     ensures only { GivesSpelled (codes "export-hex" ∷ texts_of words.now) result }
 {
-    let (pairs, operands) = split_flag("--pairs", words)?;
+    let Some((pairs, fill, operands)) = split_hex_flags(words) else {
+        return None;
+    };
     match *operands {
         [image, base, dump] => Some(Job::ExportHex {
             pairs,
+            fill,
             image,
             base: base_of(base)?,
             dump,

@@ -60,6 +60,7 @@ fn remedy_of_work(fault: &Fault) -> &'static str {
         Fault::DumpLength =>
             "look how long it is, 16 * P * W, or 32 * P * W with --pairs: ls -l DUMP",
         Fault::LowPair { .. } => "try it with no --pairs and twice the W, or another first byte",
+        Fault::Misplaced { .. } => "give the P and W that the part's firmware has",
         Fault::TornWord { .. } => "take it away, where it waits: ee clean IMAGE",
         Fault::Base => "give as BASE where the part's first byte is",
         Fault::NotFitting(_) => "give more pages, or write fewer addresses",

@@ -4,7 +4,7 @@ use Rattle.std.specs.List.{All, flat_map}
 use Rattle.std.proofs.lemmas.List.{length-map, length-replicate}
 use Rattle.std.proofs.lemmas.List.Elements.{All-append, All-head, All-nil, All-replicate, All-tail}
 use Rattle.ee_flash.specs.Cells.{HasLengths, device_from}
-use Rattle.ee_flash.specs.Device.{Device, IsBelowAllOnes, IsFormed, all_ones}
+use Rattle.ee_flash.specs.Device.{Device, IsBelowAllOnes, IsFormed, all_ones, blank_device}
 use Rattle.ee_flash.specs.Formed.{IsFormed-pages_of}
 use Rattle.ee_flash.specs.Memory.{Memory, unused_memory}
 use Rattle.ee_flash.specs.Pages.{pages_of}
@@ -110,6 +110,28 @@ one_image device other formed right size words =
     ∙ ap (λ s. pages_of s (device_words device)) size
     ∙ ap (pages_of other.size) words
     ∙ joined_pages other.size other.image right.image_length right.page_lengths
+
+same_words : (form : Form) (size : Size) (device other : Device) (dump : List ℕ) → IsFormed device
+    → IsFormed other → IsSpelledBy form dump device → IsSpelledBy form dump other
+    → device_words device ≡ device_words other
+same_words Words size device other dump formed right spelled suits =
+    one_row Words device other dump formed right spelled suits
+same_words Pairs size device other dump formed right spelled suits =
+    one_row_of_words dump (device_words device) (device_words other) spelled suits
+
+-- bytes make one device
+pub imports_agree : (form : Form) (size : Size) (dump : List ℕ) (device other : Device)
+    → IsFormed device → IsFormed other → IsImport form size dump device
+    → IsImport form size dump other → device ≡ other
+imports_agree form size dump device other formed right made also =
+    let sizes : device.size ≡ other.size =
+    ap (λ (d : Device). d.size) made.never_used
+    ∙ sym (ap (λ (d : Device). d.size) also.never_used) in
+    made.never_used
+    ∙ ap (λ (pages : List (List Word)). record (blank_device size) { image = pages })
+    (one_image device other formed right sizes
+    (same_words form size device other dump formed right made.dump_is also.dump_is))
+    ∙ sym also.never_used
 
 -- ---- the laws
 

@@ -1,24 +1,25 @@
 -- There is one cause at most for which nothing moves, but for want of memory; and none
 -- where something did.
-use Rattle.std.proofs.Common.{◌≡◌, ◌≢◌, ◌⊎◌, inl, inr, ◌∙◌, refl, sym, ap, ℕ, List, length, Result, Ok, Err, IfErr, IfOk, MatchResult, rules}
+use Rattle.std.proofs.Common.{◌≡◌, ◌≢◌, ◌⊎◌, inl, inr, ◌∙◌, refl, sym, ap, subst, ℕ, List, length, Result, Ok, Err, IfErr, IfOk, MatchResult, rules}
 use Rattle.ee_flash.specs.Device.{Device, IsFormed}
 use Rattle.ee_flash.specs.Size.{Size}
 use Rattle.ee_image.specs.Text.{at_rest}
 use Rattle.ee_shell.specs.Dumps.Dump.{IsDump, IsFirstTorn, IsImport, dump_length}
 use Rattle.ee_shell.specs.Dumps.Fault.{HasLowPair, IsDumpFault, IsWriteFault}
+use Rattle.ee_shell.specs.Dumps.Places.{IsFirstMisplaced}
 use Rattle.ee_shell.specs.declared.dumps.form.Form.{Form}
 use Rattle.ee_shell.specs.declared.dumps.form.Form.TheVariants.{Words, Pairs}
 use Rattle.ee_shell.specs.declared.dumps.fault.DumpFault.{DumpFault}
 use Rattle.ee_shell.specs.declared.dumps.fault.DumpFault.TheVariants as dump
 use Rattle.ee_shell.specs.declared.dumps.fault.WriteFault.{WriteFault}
 use Rattle.ee_shell.specs.declared.dumps.fault.WriteFault.TheVariants as write
-use Rattle.ee_shell.proofs.DumpsLemmas.Public.{imports_are_read, no_torn, one_first, one_low_fault}
+use Rattle.ee_shell.proofs.DumpsLemmas.Public.{imports_agree, imports_are_read, no_torn, none_misplaced, one_first, one_low_fault, one_misplaced}
 use Rattle.ee_image_store.specs.Opening.{SpellsDevice}
 use Rattle.ee_image_store.proofs.Public.{one_file_fault, only_memory, reading_good, same_at_rest}
 use Rattle.ee_interface.specs.declared.fault.Fault.{Fault}
-use Rattle.ee_interface.specs.declared.fault.Fault.TheVariants.{Memory}
+use Rattle.ee_interface.specs.declared.fault.Fault.TheVariants.{Memory, Misplaced}
 use Rattle.ee_interface.specs.declared.fault.File.TheVariants.{Image}
-use Rattle.ee_shell.specs.Part.Faults.{IsDeviceFault, IsExportFault, IsImportFault, fault_of_dump, fault_of_write}
+use Rattle.ee_shell.specs.Part.Faults.{IsBytesFault, IsDeviceFault, IsExportFault, IsImportFault, IsShapeFault, fault_of_dump, fault_of_write}
 use Rattle.ee_shell.specs.Part.Moving.{IsExported, IsImported}
 
 -- the fault is the cause, or memory ran out
@@ -110,10 +111,10 @@ one_dump_fault : (form : Form) (size : Size) (bytes : List ℕ) (cause fault : D
     → (fault ≡ cause) ⊎ (fault ≡ dump.Memory) ⊎ (cause ≡ dump.Memory)
 one_dump_fault form size bytes cause fault h1 h2 = search (rules, low_long, one_low)
 
-pub one_import_fault : (form : Form) (size : Size) (bytes : List ℕ) (cause fault : Fault)
-    → cause ≢ Memory → IsImportFault form size bytes cause → IsImportFault form size bytes fault
+one_bytes_fault : (form : Form) (size : Size) (bytes : List ℕ) (cause fault : Fault)
+    → cause ≢ Memory → IsBytesFault form size bytes cause → IsBytesFault form size bytes fault
     → IsNamed fault cause
-one_import_fault form size bytes cause fault some h i = search (rules, one_dump_fault)
+one_bytes_fault form size bytes cause fault some h i = search (rules, one_dump_fault)
 
 -- there is a device with this dump
 abbrev pub IsADump : Form → Size → List ℕ → Type 0
@@ -125,11 +126,49 @@ dump_has_no_cause : (form : Form) (size : Size) (bytes : List ℕ) (cause : Dump
     → IsADump form size bytes → IsDumpFault form size bytes cause → cause ≡ dump.Memory
 dump_has_no_cause form size bytes cause h1 h2 = search rules
 
--- where there is one, nothing but memory was wanting
-pub import_lacks : (form : Form) (size : Size) (bytes : List ℕ) (fault : Fault)
-    → IsADump form size bytes → IsImportFault form size bytes fault → fault ≡ Memory
-import_lacks form size bytes fault is h =
+bytes_lack : (form : Form) (size : Size) (bytes : List ℕ) (fault : Fault)
+    → IsADump form size bytes → IsBytesFault form size bytes fault → fault ≡ Memory
+bytes_lack form size bytes fault is h =
     h.fault_is ∙ ap fault_of_dump (dump_has_no_cause form size bytes h.cause is h.applies)
+
+-- what makes a device of another shape is a dump
+shape_is : (form : Form) (size : Size) (bytes : List ℕ) (fault : Fault)
+    → IsShapeFault form size bytes fault → IsADump form size bytes
+shape_is form size bytes fault h = imports_are_read form size bytes h.device h.formed h.made
+
+one_shape_fault : (form : Form) (size : Size) (bytes : List ℕ) (cause fault : Fault)
+    → IsShapeFault form size bytes cause → IsShapeFault form size bytes fault → fault ≡ cause
+one_shape_fault form size bytes cause fault h i =
+    let same : h.device ≡ i.device =
+    imports_agree form size bytes h.device i.device h.formed i.formed h.made i.made in
+    let places : (i.page ≡ h.page) × (i.at ≡ h.at) =
+    one_misplaced i.device h.page h.at i.page i.at
+    (subst (λ (d : Device). IsFirstMisplaced d h.page h.at) same h.first) i.first in
+    i.fault_is ∙ ap (λ (p : ℕ). Misplaced p i.at) places.0 ∙ ap (Misplaced h.page) places.1
+    ∙ sym h.fault_is
+
+pub one_import_fault : (form : Form) (size : Size) (bytes : List ℕ) (cause fault : Fault)
+    → cause ≢ Memory → IsImportFault form size bytes cause → IsImportFault form size bytes fault
+    → IsNamed fault cause
+one_import_fault form size bytes cause fault some (inl h) (inl i) =
+    one_bytes_fault form size bytes cause fault some h i
+one_import_fault form size bytes cause fault some (inl h) (inr i) =
+    absurd (some (bytes_lack form size bytes cause (shape_is form size bytes fault i) h))
+one_import_fault form size bytes cause fault some (inr h) (inl i) =
+    inr (bytes_lack form size bytes fault (shape_is form size bytes cause h) i)
+one_import_fault form size bytes cause fault some (inr h) (inr i) =
+    inl (one_shape_fault form size bytes cause fault h i)
+
+-- no device of another shape has this dump
+abbrev pub HasNoOtherShape : Form → Size → List ℕ → Type 0
+HasNoOtherShape form size bytes = (fault : Fault) → IsShapeFault form size bytes fault → ⊥
+
+-- where there is one, and none of another shape, nothing but memory was wanting
+pub import_lacks : (form : Form) (size : Size) (bytes : List ℕ) (fault : Fault)
+    → IsADump form size bytes → HasNoOtherShape form size bytes
+    → IsImportFault form size bytes fault → fault ≡ Memory
+import_lacks form size bytes fault is no_other (inl h) = bytes_lack form size bytes fault is h
+import_lacks form size bytes fault is no_other (inr h) = absurd (no_other fault h)
 
 -- what was imported is one
 pub imported_is : (form : Form) (size : Size) (bytes image : List ℕ)
@@ -137,19 +176,45 @@ pub imported_is : (form : Form) (size : Size) (bytes image : List ℕ)
 imported_is form size bytes image is =
     imports_are_read form size bytes is.device is.spelled.formed is.made
 
+imported_in_shape : (form : Form) (size : Size) (bytes image : List ℕ)
+    → IsImported form size bytes image → HasNoOtherShape form size bytes
+imported_in_shape form size bytes image is fault h =
+    let same : h.device ≡ is.device =
+    imports_agree form size bytes h.device is.device h.formed is.spelled.formed h.made is.made in
+    none_misplaced is.device h.page h.at is.in_shape
+    (subst (λ (d : Device). IsFirstMisplaced d h.page h.at) same h.first)
+
 pub imported_good : (form : Form) (size : Size) (bytes image : List ℕ) (cause : Fault)
     → IsImported form size bytes image → cause ≢ Memory → IsImportFault form size bytes cause → ⊥
 imported_good form size bytes image cause is some h =
-    some (import_lacks form size bytes cause (imported_is form size bytes image is) h)
+    some
+    (import_lacks form size bytes cause (imported_is form size bytes image is)
+    (imported_in_shape form size bytes image is) h)
 
 -- memory may run out where a dump was read
 pub import_memory : (form : Form) (size : Size) (bytes : List ℕ) (device : Device) → IsFormed device
     → IsImport form size bytes device → IsImportFault form size bytes Memory
-import_memory form size bytes device formed made = record {
-  cause = dump.Memory;
-  applies = (imports_are_read form size bytes device formed made).0;
-  fault_is = refl;
-}
+import_memory form size bytes device formed made =
+    inl record {
+      cause = dump.Memory;
+      applies = (imports_are_read form size bytes device formed made).0;
+      fault_is = refl;
+    }
+
+-- the first word that tells another shape
+pub misplaced_told : (form : Form) (size : Size) (bytes : List ℕ) (device : Device) (page at : ℕ)
+    → IsFormed device → IsImport form size bytes device → IsFirstMisplaced device page at
+    → IsImportFault form size bytes (Misplaced page at)
+misplaced_told form size bytes device page at formed made first =
+    inr record {
+      device = device;
+      formed = formed;
+      made = made;
+      page = page;
+      at = at;
+      first = first;
+      fault_is = refl;
+    }
 
 -- ---- a device that was read, and then written as bytes, or not
 

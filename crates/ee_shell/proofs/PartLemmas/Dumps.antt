@@ -1,18 +1,19 @@
 -- What was exported is imported as it was, and the other way round.
-use Rattle.std.proofs.Common.{rules, ◌≡◌, ◌∙◌, sym, subst, ℕ, List}
+use Rattle.std.proofs.Common.{◌≡◌, ◌∙◌, sym, subst, ℕ, List}
 use Rattle.ee_flash.specs.Device.{Device}
 use Rattle.ee_flash.specs.Size.{Size}
 use Rattle.ee_shell.specs.Dumps.Dump.{IsDump, IsWholePage}
 use Rattle.ee_shell.specs.Dumps.Laws.{unworn_device}
+use Rattle.ee_shell.specs.Dumps.Places.{IsFirstMisplaced, IsInShape}
 use Rattle.ee_shell.specs.declared.dumps.form.Form.{Form}
 use Rattle.ee_shell.specs.declared.dumps.form.Form.TheVariants.{Words, Pairs}
-use Rattle.ee_shell.proofs.DumpsLemmas.Public.{dumps_are_read_lem, import_of_export_lem, whole_import_lem}
+use Rattle.ee_shell.proofs.DumpsLemmas.Public.{dumps_are_read_lem, import_of_export_lem, none_misplaced, whole_import_lem}
 use Rattle.ee_image_store.specs.Opening.{SpellsDevice}
 use Rattle.ee_interface.specs.declared.fault.Fault.{Fault}
 use Rattle.ee_interface.specs.declared.fault.Fault.TheVariants.{Memory}
 use Rattle.ee_shell.specs.Part.Faults.{IsImportFault}
 use Rattle.ee_shell.specs.Part.Moving.{IsExported, IsImported}
-use Rattle.ee_shell.proofs.PartLemmas.Causes.{IsADump, import_lacks, moved_dump}
+use Rattle.ee_shell.proofs.PartLemmas.Causes.{HasNoOtherShape, IsADump, import_lacks, moved_dump}
 use Rattle.ee_image_store.proofs.Public.{same_at_rest}
 
 -- the dump that was exported is that of each device that the image spells
@@ -39,13 +40,30 @@ exported_is form bytes device image spelled is = (
   (import_of_export_lem form device device bytes spelled.formed is).1,
 )
 
+-- no word of it tells another shape, if none of the image does
+pub exported_in_shape : (form : Form) (bytes : List ℕ) (device : Device) (image : List ℕ)
+    → SpellsDevice image device → IsDump form device bytes → IsInShape device
+    → HasNoOtherShape form device.size bytes
+exported_in_shape form bytes device image spelled is in_shape fault h =
+    let same : h.device ≡ unworn_device device =
+    (import_of_export_lem form device h.device bytes spelled.formed is).0 h.formed h.made in
+    none_misplaced (unworn_device device) h.page h.at in_shape
+    (subst (λ (d : Device). IsFirstMisplaced d h.page h.at) same h.first)
+
 pub import_again_lem : (form : Form) (image bytes : List ℕ) (device : Device)
     → SpellsDevice image device → IsExported form image bytes
-    → ((fault : Fault) → IsImportFault form device.size bytes fault → fault ≡ Memory)
+    → (IsInShape device → (fault : Fault) → IsImportFault form device.size bytes fault
+    → fault ≡ Memory)
     × ((other : List ℕ) → IsImported form device.size bytes other
     → SpellsDevice other (unworn_device device))
 import_again_lem form image bytes device spelled exported =
-    search (rules, dump_exported, import_lacks, exported_is, image_again)
+    let dump = dump_exported form image bytes device spelled exported in (
+      λ in_shape fault wrong.
+          import_lacks form device.size bytes fault
+          (exported_is form bytes device image spelled dump)
+          (exported_in_shape form bytes device image spelled dump in_shape) wrong,
+      λ other again. image_again form bytes other device image spelled dump again,
+    )
 
 pub export_of_import_lem : (image bytes : List ℕ) (size : Size) → IsImported Words size bytes image
     → IsExported Words image bytes

@@ -1,5 +1,5 @@
 -- There is one cause at most for which nothing moves by Intel HEX, but for want of memory.
-use Rattle.std.proofs.Common.{◌≡◌, ◌≢◌, ◌⊎◌, inl, inr, ◌∙◌, refl, sym, ap, subst, arith, ℕ, ◌+◌, ◌≤◌, ◌^◌, List, length, Result, Ok, Err, IfErr, IfOk, rules}
+use Rattle.std.proofs.Common.{◌≡◌, ◌≢◌, ◌⊎◌, inl, inr, ◌∙◌, refl, sym, ap, subst, arith, Bool, ℕ, ◌+◌, ◌≤◌, ◌^◌, List, length, Result, Ok, Err, IfErr, IfOk, rules}
 use Rattle.ee_flash.specs.Device.{Device, IsFormed}
 use Rattle.ee_flash.specs.Size.{Size}
 use Rattle.ee_image.specs.Text.{at_rest}
@@ -9,7 +9,6 @@ use Rattle.ee_shell.specs.declared.dumps.fault.WriteFault.TheVariants as write
 use Rattle.ee_shell.proofs.DumpsLemmas.Public.{dumps_are_read_lem, one_reading_lem, readings_are_good_lem}
 use Rattle.ee_shell.specs.Dumps.intel_hex.Fault.{IsBadHexLine, IsHexFault}
 use Rattle.ee_shell.specs.Dumps.intel_hex.Text.{IsHexOf}
-use Rattle.ee_shell.specs.Dumps.intel_hex.Written.{hex_text}
 use Rattle.ee_shell.specs.declared.dumps.intel_hex.fault.HexFault.{HexFault}
 use Rattle.ee_shell.specs.declared.dumps.intel_hex.fault.HexFault.TheVariants as hex
 use Rattle.ee_image_store.specs.Opening.{SpellsDevice}
@@ -19,9 +18,9 @@ use Rattle.ee_interface.specs.declared.fault.File.TheVariants.{Image}
 use Rattle.ee_image_store.proofs.Public.{one_file_fault, only_memory, reading_good, same_at_rest}
 use Rattle.ee_shell.specs.Part.Faults.{IsDeviceFault, IsImportFault}
 use Rattle.ee_interface.specs.Causes.{NamesEach}
-use Rattle.ee_shell.specs.Part.Hex.{PartFits, IsHexExportFault, IsHexExported, IsHexImportFault, IsHexImported, IsPlacedFault, IsHexTextFault, fault_of_hex}
+use Rattle.ee_shell.specs.Part.Hex.{PartFits, IsHexExportFault, IsHexExported, IsHexImportFault, IsHexImported, IsPlacedFault, IsHexTextFault, dump_text, fault_of_hex}
 use Rattle.ee_shell.specs.Part.Moving.{IsImported}
-use Rattle.ee_shell.proofs.PartLemmas.Causes.{IsADump, IsNamed, device_good, import_lacks, one_device_fault, same_size}
+use Rattle.ee_shell.proofs.PartLemmas.Causes.{HasNoOtherShape, IsADump, IsNamed, device_good, import_lacks, one_device_fault, same_size}
 
 -- ---- imports
 
@@ -98,13 +97,14 @@ module _ (form : Form) (size : Size) (base : ℕ) (text : List ℕ)
 
   -- where it is one, nothing but memory was wanting
   pub hex_lacks : (bytes : List ℕ) (cause : Fault) → IsHexOf text base (dump_length form size) bytes
-      → IsADump form size bytes → IsHexImportFault form size base text cause → cause ≡ Memory
-  hex_lacks bytes cause says is (inl h) = absurd (h.0 near)
-  hex_lacks bytes cause says is (inr (inl h)) =
+      → IsADump form size bytes → HasNoOtherShape form size bytes
+      → IsHexImportFault form size base text cause → cause ≡ Memory
+  hex_lacks bytes cause says is no_other (inl h) = absurd (h.0 near)
+  hex_lacks bytes cause says is no_other (inr (inl h)) =
       h.fault_is
       ∙ ap fault_of_hex (said_lacks text bytes base (dump_length form size) h.cause says h.applies)
-  hex_lacks bytes cause says is (inr (inr h)) =
-      import_lacks form size bytes cause is
+  hex_lacks bytes cause says is no_other (inr (inr h)) =
+      import_lacks form size bytes cause is no_other
       (subst (λ (l : List ℕ). IsImportFault form size l cause)
       (one_reading_lem text h.dump bytes base (dump_length form size) h.says says) h.wrong)
 
@@ -141,12 +141,13 @@ placed_good form device other base bytes cause same near is some (inl h) =
 placed_good form device other base bytes cause same near is some (inr h) =
     device_good form device other bytes cause same is some h.1
 
-pub hex_exported_good : (form : Form) (image : List ℕ) (base : ℕ) (text : List ℕ) (cause : Fault)
-    → IsHexExported form image base text → cause ≢ Memory → IsHexExportFault form image base cause
+pub hex_exported_good : (fill : Bool) (form : Form) (image : List ℕ) (base : ℕ) (text : List ℕ)
+    (cause : Fault)
+    → IsHexExported fill form image base text → cause ≢ Memory → IsHexExportFault form image base cause
     → ⊥
-hex_exported_good form image base text cause is some (inl h) =
+hex_exported_good fill form image base text cause is some (inl h) =
     reading_good image is.exported.device cause is.exported.spelled some h
-hex_exported_good form image base text cause is some (inr h) =
+hex_exported_good fill form image base text cause is some (inr h) =
     placed_good form h.0 is.exported.device base is.dump cause
     (same_at_rest image h.0 is.exported.device h.1 is.exported.spelled) is.fits
     is.exported.dump_is some h.2
@@ -198,14 +199,15 @@ no_memory_told form image base device spelled near =
     not_dumped form image base device Memory spelled near
     record { cause = write.Memory; applies = tt; fault_is = refl }
 
-pub is_told : (form : Form) (image : List ℕ) (base : ℕ) (device : Device) (bytes seen text : List ℕ)
+pub is_told : (fill : Bool) (form : Form) (image : List ℕ) (base : ℕ) (device : Device)
+    (bytes seen text : List ℕ)
     → SpellsDevice image device → PartFits form base device.size → IsDump form device bytes
-    → seen ≡ bytes → text ≡ hex_text base seen → IsHexExported form image base text
-is_told form image base device bytes seen text spelled near is same told = record {
+    → seen ≡ bytes → text ≡ dump_text fill form base seen → IsHexExported fill form image base text
+is_told fill form image base device bytes seen text spelled near is same told = record {
   dump = bytes;
   exported = record { device = device; spelled = spelled; dump_is = is };
   fits = near;
-  hex_is = told ∙ ap (hex_text base) same;
+  hex_is = told ∙ ap (dump_text fill form base) same;
 }
 
 -- the dump has room for its addresses

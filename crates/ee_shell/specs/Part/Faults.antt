@@ -1,8 +1,10 @@
 -- Why nothing moves.
 use Rattle.std.specs.Prelude.{◌≡◌, ◌⊎◌, ℕ, List}
 use Rattle.ee_flash.specs.Size.{Size}
-use Rattle.ee_flash.specs.Device.{Device}
+use Rattle.ee_flash.specs.Device.{Device, IsFormed}
+use Rattle.ee_shell.specs.Dumps.Dump.{IsImport}
 use Rattle.ee_shell.specs.Dumps.Fault.{IsDumpFault, IsWriteFault}
+use Rattle.ee_shell.specs.Dumps.Places.{IsFirstMisplaced}
 use Rattle.ee_shell.specs.declared.dumps.form.Form.{Form}
 use Rattle.ee_shell.specs.declared.dumps.fault.DumpFault.{DumpFault}
 use Rattle.ee_shell.specs.declared.dumps.fault.DumpFault.TheVariants as dump
@@ -11,7 +13,7 @@ use Rattle.ee_shell.specs.declared.dumps.fault.WriteFault.TheVariants as write
 use Rattle.ee_image_store.specs.Opening.{SpellsDevice}
 use Rattle.ee_image_store.specs.FileFaults.{IsReadingFault}
 use Rattle.ee_interface.specs.declared.fault.Fault.{Fault}
-use Rattle.ee_interface.specs.declared.fault.Fault.TheVariants.{DumpLength, LowPair, Memory, TornWord}
+use Rattle.ee_interface.specs.declared.fault.Fault.TheVariants.{DumpLength, LowPair, Memory, Misplaced, TornWord}
 
 -- ---- as they are told
 
@@ -27,10 +29,25 @@ fault_of_write write.Memory = Memory
 -- ---- the causes
 
 -- why bytes are no dump of a part of this size
-pub record IsImportFault (form : Form) (size : Size) (bytes : List ℕ) (fault : Fault) : Type 0 where
+pub record IsBytesFault (form : Form) (size : Size) (bytes : List ℕ) (fault : Fault) : Type 0 where
   pub cause : DumpFault
   pub applies : IsDumpFault form size bytes cause
   pub fault_is : fault ≡ fault_of_dump cause
+
+-- why the device that bytes make is of another shape
+pub record IsShapeFault (form : Form) (size : Size) (bytes : List ℕ) (fault : Fault) : Type 0 where
+  pub device : Device
+  pub formed : IsFormed device
+  pub made : IsImport form size bytes device
+  pub page : ℕ
+  pub at : ℕ
+  pub first : IsFirstMisplaced device page at
+  pub fault_is : fault ≡ Misplaced page at
+
+-- why bytes are not imported as a part of this size: they are no dump, or one of another shape
+abbrev pub IsImportFault : Form → Size → List ℕ → Fault → Type 0
+IsImportFault form size bytes fault =
+    IsBytesFault form size bytes fault ⊎ IsShapeFault form size bytes fault
 
 -- why a device has no dump
 pub record IsDeviceFault (device : Device) (fault : Fault) : Type 0 where

@@ -1,12 +1,12 @@
 -- What moves between images and parts by Intel HEX, and why nothing does.
-use Rattle.std.specs.Prelude.{◌≡◌, ◌⊎◌, ◌≤◌, ◌+◌, ◌^◌, ℕ, List}
+use Rattle.std.specs.Prelude.{◌≡◌, ◌⊎◌, ◌≤◌, ◌+◌, ◌^◌, ℕ, Bool, true, false, List}
 use Rattle.ee_flash.specs.Size.{Size}
 use Rattle.ee_flash.specs.Device.{Device}
-use Rattle.ee_shell.specs.Dumps.Dump.{dump_length}
+use Rattle.ee_shell.specs.Dumps.Dump.{dump_length, word_length}
 use Rattle.ee_shell.specs.declared.dumps.form.Form.{Form}
 use Rattle.ee_shell.specs.Dumps.intel_hex.Fault.{IsHexFault}
 use Rattle.ee_shell.specs.Dumps.intel_hex.Text.{IsHexOf}
-use Rattle.ee_shell.specs.Dumps.intel_hex.Written.{hex_text}
+use Rattle.ee_shell.specs.Dumps.intel_hex.Written.{hex_text, sparse_text}
 use Rattle.ee_shell.specs.declared.dumps.intel_hex.fault.HexFault.{HexFault}
 use Rattle.ee_shell.specs.declared.dumps.intel_hex.fault.HexFault.TheVariants as hex
 use Rattle.ee_image_store.specs.Opening.{SpellsDevice}
@@ -28,12 +28,18 @@ pub record IsHexImported (form : Form) (size : Size) (base : ℕ) (hex image : L
   pub says : IsHexOf hex base (dump_length form size) dump
   pub imported : IsImported form size dump image
 
+-- the text of a dump from this address on, filled with the erased words or without them
+abbrev pub dump_text : Bool → Form → ℕ → List ℕ → List ℕ
+dump_text true form base dump = hex_text base dump
+dump_text false form base dump = sparse_text (word_length form) base dump
+
 -- the text of the dump of the device that an image spells, from this address on
-pub record IsHexExported (form : Form) (image : List ℕ) (base : ℕ) (hex : List ℕ) : Type 0 where
+pub record IsHexExported (fill : Bool) (form : Form) (image : List ℕ) (base : ℕ) (hex : List ℕ)
+    : Type 0 where
   pub dump : List ℕ
   pub exported : IsExported form image dump
   pub fits : PartFits form base exported.device.size
-  pub hex_is : hex ≡ hex_text base dump
+  pub hex_is : hex ≡ dump_text fill form base dump
 
 -- ---- why nothing moves
 

@@ -3,13 +3,15 @@ use Rattle.std.specs.Prelude.{ℕ, List}
 use Rattle.ee_flash.specs.Size.{Size}
 use Rattle.ee_flash.specs.Device.{Device}
 use Rattle.ee_shell.specs.Dumps.Dump.{IsDump, IsImport}
+use Rattle.ee_shell.specs.Dumps.Places.{IsInShape}
 use Rattle.ee_shell.specs.declared.dumps.form.Form.{Form}
 use Rattle.ee_image_store.specs.Opening.{SpellsDevice}
 
--- the image of the device that a dump makes
+-- the image of the device that a dump makes, in which no word tells another shape
 pub record IsImported (form : Form) (size : Size) (dump image : List ℕ) : Type 0 where
   pub device : Device
   pub made : IsImport form size dump device
+  pub in_shape : IsInShape device
   pub spelled : SpellsDevice image device
 
 -- the dump of the device that an image spells

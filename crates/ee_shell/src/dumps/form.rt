@@ -1,6 +1,6 @@
 //! How a part keeps its words.
 ghost use Rattle.std.specs.Prelude.{◌≡◌};
-ghost use Rattle.ee_shell.specs.Dumps.Dump.{dump_length};
+ghost use Rattle.ee_shell.specs.Dumps.Dump.{dump_length, word_length};
 
 use ee_flash::Shape;
 
@@ -20,10 +20,16 @@ impl Form {
     pub fn dump_length(self, shape: Shape) -> usize
         ensures { result ≡ dump_length self shape }
     {
-        let word = match self {
+        self.word_length() * (2 * shape.pages() * shape.words())
+    }
+
+    /// How many bytes a word has.
+    pub fn word_length(self) -> usize
+        ensures { result ≡ word_length self }
+    {
+        match self {
             Form::Words => 8,
             Form::Pairs => 16,
-        };
-        word * (2 * shape.pages() * shape.words())
+        }
     }
 }

@@ -6,7 +6,7 @@ ghost use Rattle.ee_shell.specs.Part.Faults.{IsDeviceFault, IsExportFault, IsImp
 ghost use Rattle.ee_shell.specs.Part.Moving.{IsExported, IsImported};
 ghost use Rattle.ee_interface.specs.Causes.{NamesEach};
 
-use crate::dumps::{DumpFault, Form, WriteFault, read_dump, write_dump};
+use crate::dumps::{DumpFault, Form, WriteFault, first_misplaced, read_dump, write_dump};
 use crate::part::image::read_part;
 use ee_flash::{MemFlash, Shape};
 use ee_image_store::text_of;
@@ -23,8 +23,9 @@ use std::alloc::Allocator;
 /// # Errors
 ///
 /// The first that applies: `DumpLength`, where the dump has not `16 × pages × words` bytes, or
-/// twice as many for pairs; `LowPair`, the first two numbers that sum to less than `u64::MAX`.
-/// `Memory` can come in place of any answer but `DumpLength`.
+/// twice as many for pairs; `LowPair`, the first two numbers that sum to less than `u64::MAX`;
+/// `Misplaced`, the first word that tells another shape. `Memory` can come in place of any answer
+/// but `DumpLength`.
 pub fn import_image<A: Allocator + Copy>(
     alloc: A,
     shape: Shape,
@@ -40,6 +41,9 @@ pub fn import_image<A: Allocator + Copy>(
         Ok(flash) => flash,
         Err(fault) => return Err(import_fault(fault)),
     };
+    if let Some((page, at)) = first_misplaced(&flash) {
+        return Err(Fault::Misplaced { page, at });
+    }
     Ok(text_of(alloc, &flash)?)
 }
 

@@ -1,14 +1,14 @@
 //! Images from Intel HEX, and Intel HEX from images.
-ghost use Rattle.std.specs.Prelude.{◌≡◌, ◌↔◌, IfErr, IfOk, IsTrue};
-ghost use Rattle.ee_shell.specs.Part.Hex.{PartFits, IsHexExportFault, IsHexExported, IsHexImportFault, IsHexImported, fault_of_hex};
+ghost use Rattle.std.specs.Prelude.{◌≡◌, ◌↔◌, ◌+◌, ◌^◌, ◌≤◌, IfErr, IfOk, IsTrue, length};
+ghost use Rattle.ee_shell.specs.Part.Hex.{PartFits, IsHexExportFault, IsHexExported, IsHexImportFault, IsHexImported, dump_text, fault_of_hex};
 ghost use Rattle.ee_interface.specs.Causes.{NamesEach};
 
-use crate::dumps::{Form, HexFault, read_hex, write_hex};
+use crate::dumps::{Form, HexFault, read_hex, write_hex, write_sparse_hex};
 use crate::part::dump::{dump_of, import_image};
 use crate::part::image::read_part;
 use ee_flash::{Flash, Shape};
 use ee_interface::{Fault, File};
-use std::alloc::Allocator;
+use std::alloc::{AllocError, Allocator};
 
 /// The text of the image of a part of this shape, whose first word stands at the address `base`,
 /// from what an Intel HEX text says of it: what `import_image` gives of its bytes, with an erased
@@ -19,8 +19,8 @@ use std::alloc::Allocator;
 /// # Errors
 ///
 /// The first that applies: `Base`, where `base + 16 × pages × words`, or with twice as many of
-/// pairs, is past `2^32`; `BadLine` of the dump, the first line of the text that is bad; `LowPair`,
-/// as in `import_image`. `Memory` can come in place of any answer but `Base`.
+/// pairs, is past `2^32`; `BadLine` of the dump, the first line of the text that is bad; `LowPair`
+/// and `Misplaced`, as in `import_image`. `Memory` can come in place of any answer but `Base`.
 pub fn import_hex<A: Allocator + Copy>(
     alloc: A,
     shape: Shape,
@@ -44,7 +44,7 @@ pub fn import_hex<A: Allocator + Copy>(
 }
 
 /// The Intel HEX text of the part that an image's text spells, with its first word at
-/// the address `base`.
+/// the address `base`: with `fill` of all words, else of those that aren't erased.
 ///
 /// Source: ours.
 ///
@@ -55,11 +55,12 @@ pub fn import_hex<A: Allocator + Copy>(
 /// in place of any answer.
 pub fn export_hex<A: Allocator + Copy>(
     alloc: A,
+    fill: bool,
     form: Form,
     image: &[u8],
     base: u32,
 ) -> Result<Vec<u8, A>, Fault>
-    ensures exported { IfOk result (λ hex. IsHexExported form image.now base hex.items) }
+    ensures exported { IfOk result (λ hex. IsHexExported fill form image.now base hex.items) }
     ensures fault { IfErr result (IsHexExportFault form image.now base) }
     // No cause is passed over.
     ensures names { NamesEach Fault.Memory (IsHexExportFault form image.now base) result }
@@ -69,7 +70,25 @@ pub fn export_hex<A: Allocator + Copy>(
         return Err(Fault::Base);
     }
     let dump = dump_of(alloc, form, &flash)?;
-    Ok(write_hex(alloc, base, &dump)?)
+    Ok(text_of_dump(alloc, fill, form, base, &dump)?)
+}
+
+/// The text of a dump from an address on, with its erased words or without.
+fn text_of_dump<A: Allocator + Copy>(
+    alloc: A,
+    fill: bool,
+    form: Form,
+    base: u32,
+    dump: &[u8],
+) -> Result<Vec<u8, A>, AllocError>
+    requires { base + length dump.now ≤ 2 ^ 32 }
+    ensures { IfOk result (λ text. text.items ≡ dump_text fill form base dump.now) }
+{
+    if fill {
+        write_hex(alloc, base, dump)
+    } else {
+        write_sparse_hex(alloc, base, form.word_length(), dump)
+    }
 }
 
 /// Whether each byte of a part of this shape has an address of 32 bits, where its

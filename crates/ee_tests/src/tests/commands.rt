@@ -17,7 +17,7 @@ format P W IMAGE
 import --pairs P W DUMP IMAGE
 export --pairs IMAGE DUMP
 import-hex --pairs P W BASE DUMP IMAGE
-export-hex --pairs IMAGE BASE DUMP
+export-hex --pairs --fill IMAGE BASE DUMP
 run --indexed IMAGE SCRIPT
 list IMAGE [SETTINGS]
 get IMAGE SETTINGS NAME
@@ -50,6 +50,7 @@ ee import --pairs 1 6 a.bin a.image
 ee import-hex --pairs 1 256 0807F000 a.hex a.image
 ee export --pairs a.image a.bin
 ee export-hex --pairs a.image 0807f000 a.hex
+ee export-hex --fill a.image 0807f000 a.hex
 ee run a.image a.script
 ee run --indexed a.image a.script
 ee list a.image
@@ -302,12 +303,14 @@ fn told_of_hex(job: &Job<'_>, found: &ArgMatches<'_>) -> (&'static str, bool) {
         ),
         Job::ExportHex {
             pairs,
+            fill,
             image,
             base,
             dump,
         } => (
             "export-hex",
             (found.get_flag("--pairs") == pairs)
+                & (found.get_flag("--fill") == fill)
                 & has(found, "IMAGE", Some(image))
                 & starts(found, base)
                 & has(found, "DUMP", Some(dump)),

@@ -71,7 +71,7 @@ bare-lacks (b ∷ c ∷ line) lacks =
     ap (λ l. b ∷ l) (bare-lacks (c ∷ line) (Lacks-parts 13 b (c ∷ line) lacks).1)
 
 -- its line spells it
-line_again : (r : Record) (more : List ℕ) → IsWritten r → IsLineOf r (record_line r ++ more) more
+pub line_again : (r : Record) (more : List ℕ) → IsWritten r → IsLineOf r (record_line r ++ more) more
 line_again r more fits =
     let line : List ℕ = 58 ∷ encode_upper (record_bytes r) in
     let same : line_without_return line ≡ line =
@@ -90,7 +90,7 @@ line_again r more fits =
       spelled = subst (λ l. SpellsRecord l r) (sym same) spelled;
     }
 
-lines_again : (records : List Record) (more : List ℕ) → AllByRecursion IsWritten records
+pub lines_again : (records : List Record) (more : List ℕ) → AllByRecursion IsWritten records
     → AreLinesOf records (flat_map record_line records ++ more) more
 lines_again [] more fit = refl
 lines_again (r ∷ records) more fit =
@@ -110,10 +110,10 @@ row_short place count = omega arith
 row_below : (place count : ℕ) → place % 65536 + row_length place count ≤ 65536
 row_below place count = omega arith
 
-is_bytes_take : (n : ℕ) (xs : List ℕ) → IsBytes xs → IsBytes (take n xs)
+pub is_bytes_take : (n : ℕ) (xs : List ℕ) → IsBytes xs → IsBytes (take n xs)
 is_bytes_take n xs all = search (rules, cases_lt, get_or-take, get_or_past, length-take)
 
-is_bytes_drop : (n : ℕ) (xs : List ℕ) → IsBytes xs → IsBytes (drop n xs)
+pub is_bytes_drop : (n : ℕ) (xs : List ℕ) → IsBytes xs → IsBytes (drop n xs)
 is_bytes_drop n xs all = λ i. subst (λ b. b < 256) (sym (get_or-drop n xs i 0)) (all (n + i))
 
 -- what holds of the records that are written but the last
@@ -146,7 +146,7 @@ told_inside None half records fits all = (upper_inside half fits, all)
 told_inside (Some last) half records fits all =
     search (rules, cases_eq, eq-eqb, ne_eqb, upper_inside)
 
-rows_inside : (most : ℕ) (told : Option ℕ) (place : ℕ) (bytes : List ℕ) → IsBytes bytes
+pub rows_inside : (most : ℕ) (told : Option ℕ) (place : ℕ) (bytes : List ℕ) → IsBytes bytes
     → place + length bytes ≤ 4294967296 → AllByRecursion IsInside (rows most told place bytes)
 rows_inside zero told place bytes all fits = tt
 rows_inside (suc most) told place [] all fits = tt
@@ -167,19 +167,19 @@ rows_inside (suc most) told place (byte ∷ bytes) all fits =
           (is_bytes_drop row (byte ∷ bytes) all) (omega arith),
     )
 
-all_written : (records : List Record) → AllByRecursion IsInside records
+pub all_written : (records : List Record) → AllByRecursion IsInside records
     → AllByRecursion IsWritten records
 all_written [] all = tt
 all_written (r ∷ records) all = (all.0.written, all_written records all.1)
 
-all_no_end : (records : List Record) → AllByRecursion IsInside records
+pub all_no_end : (records : List Record) → AllByRecursion IsInside records
     → AllByRecursion (λ r. r.kind ≢ 1) records
 all_no_end [] all = tt
 all_no_end (r ∷ records) all = (all.0.no_end, all_no_end records all.1)
 
 -- ---- what they say
 
-numbered_parts : (place : ℕ) (xs ys : List ℕ)
+pub numbered_parts : (place : ℕ) (xs ys : List ℕ)
     → numbered_bytes place (xs ++ ys)
     ≡ numbered_bytes place xs ++ numbered_bytes (place + length xs) ys
 numbered_parts place [] ys = ap (λ p. numbered_bytes p ys) (plus_zero place)
@@ -201,7 +201,7 @@ told_placed None half upper records is =
 told_placed (Some last) half upper records is =
     search (rules, cases_eq, eq-eqb, ne_eqb, upper_behind_upper)
 
-rows_placed : (most : ℕ) (told : Option ℕ) (place upper : ℕ) (bytes : List ℕ) → length bytes ≤ most
+pub rows_placed : (most : ℕ) (told : Option ℕ) (place upper : ℕ) (bytes : List ℕ) → length bytes ≤ most
     → IfSome told (λ last. upper ≡ last * 65536)
     → all_placed upper (rows most told place bytes) ≡ numbered_bytes place bytes
 rows_placed zero told place upper [] few is = refl
@@ -233,14 +233,14 @@ pub record IsSaid (place : ℕ) (bytes : List ℕ) (at byte : ℕ) : Type 0 wher
   pub from : place ≤ at
   pub is : get_or bytes (at - place) 0 ≡ byte
 
-numbered_says : (place : ℕ) (bytes : List ℕ) (at byte : ℕ)
+pub numbered_says : (place : ℕ) (bytes : List ℕ) (at byte : ℕ)
     → Says (numbered_bytes place bytes) at byte → IsSaid place bytes at byte
 numbered_says place [] at byte says = absurd says
 numbered_says place (x ∷ xs) at byte (inl here) = search rules
 numbered_says place (x ∷ xs) at byte (inr there) =
     search (rules, (numbered_says (place + 1) xs at byte there))
 
-numbered_at : (place : ℕ) (bytes : List ℕ) (i : ℕ) → i < length bytes
+pub numbered_at : (place : ℕ) (bytes : List ℕ) (i : ℕ) → i < length bytes
     → Says (numbered_bytes place bytes) (place + i) (get_or bytes i 0)
 numbered_at place [] i less = absurd (omega arith)
 numbered_at place (x ∷ xs) zero less = inl (plus_zero place, refl)
@@ -255,7 +255,7 @@ numbered_agrees base size place bytes = λ at byte other low high first second.
 
 -- ---- the text
 
-end_is_written : IsWritten end_record
+pub end_is_written : IsWritten end_record
 end_is_written = search rules
 
 pub texts_read_back_lem : (base : ℕ) (bytes : List ℕ) → IsBytes bytes
@@ -311,15 +311,14 @@ rows_enough (suc most) (suc other) told place (byte ∷ bytes) few less =
     ap (λ l. upper_told told (place / 65536) ++ data_record place (take row (byte ∷ bytes)) ∷ l)
     (rows_enough most other (Some (place / 65536)) (place + row) behind (omega arith) (omega arith))
 
--- the text that is still to come
+-- the rows that are still to come
 abbrev pub text_left : Option ℕ → ℕ → List ℕ → List ℕ
-text_left told place bytes =
-    flat_map record_line (rows (length bytes) told place bytes ++ end_record ∷ [])
+text_left told place bytes = flat_map record_line (rows (length bytes) told place bytes)
 
-flat_more : (xs : List Record) (y : Record) (ys zs : List Record)
-    → flat_map record_line ((xs ++ y ∷ ys) ++ zs)
-    ≡ (flat_map record_line xs ++ record_line y) ++ flat_map record_line (ys ++ zs)
-flat_more xs y ys zs = grind (arith, common_steps, flat_map-append)
+flat_more : (xs : List Record) (y : Record) (ys : List Record)
+    → flat_map record_line (xs ++ y ∷ ys)
+    ≡ (flat_map record_line xs ++ record_line y) ++ flat_map record_line ys
+flat_more xs y ys = grind (arith, common_steps, flat_map-append)
 
 -- one row more
 pub one_row_more : (out told_out new total bytes row behind : List ℕ) (told : Option ℕ)
@@ -345,13 +344,20 @@ one_row_more out told_out new total (byte ∷ bytes) row behind told place half 
       rows_enough,
     )
 
--- the text is written
-pub all_written_so : (out new bytes : List ℕ) (told : Option ℕ) (place base : ℕ) (whole : List ℕ)
-    → out ++ text_left told place bytes ≡ text_left None base whole → length bytes ≡ 0
-    → new ≡ out ++ record_line end_record → new ≡ hex_text base whole
-unfolding hex_text
-all_written_so out new bytes told place base whole so_far none new_is =
+-- the rows are written
+pub all_written_so : (out bytes total : List ℕ) (told : Option ℕ) (place : ℕ)
+    → out ++ text_left told place bytes ≡ total → length bytes ≡ 0 → out ≡ total
+all_written_so out bytes total told place so_far none =
     search (rules, append-nil, nil_from_length)
+
+-- the text is written
+pub text_written : (base : ℕ) (bytes out new : List ℕ) → out ≡ text_left None base bytes
+    → new ≡ out ++ record_line end_record → new ≡ hex_text base bytes
+unfolding hex_text
+text_written base bytes out new rows_are new_is =
+    new_is ∙ ap (λ l. l ++ record_line end_record) rows_are
+    ∙ ap (λ l. text_left None base bytes ++ l) (sym (append-nil (record_line end_record)))
+    ∙ sym (flat_map-append record_line (rows (length bytes) None base bytes) (end_record ∷ []))
 
 -- ---- how a record's line grows
 

@@ -1,15 +1,21 @@
 -- What holds of every text and all bytes.
-use Rattle.std.specs.Prelude.{◌≡◌, ◌⊎◌, ◌^◌, ◌+◌, ◌≤◌, List, ℕ, length}
+use Rattle.std.specs.Prelude.{◌≡◌, ◌⊎◌, ◌^◌, ◌+◌, ◌<◌, ◌≤◌, List, ℕ, length}
 use Rattle.hex.specs.Hex.{IsBytes}
 use Rattle.ee_shell.specs.Dumps.intel_hex.Text.{IsHexOf}
 use Rattle.ee_shell.specs.Dumps.intel_hex.Fault.{IsBadHexLine}
-use Rattle.ee_shell.specs.Dumps.intel_hex.Written.{hex_text}
+use Rattle.ee_shell.specs.Dumps.intel_hex.Written.{hex_text, sparse_text}
 
 -- a text that is written reads back
 abbrev pub TextsReadBack : Type 0
 TextsReadBack =
     (base : ℕ) (bytes : List ℕ) → IsBytes bytes → base + length bytes ≤ 2 ^ 32
     → IsHexOf (hex_text base bytes) base (length bytes) bytes
+
+-- and so does one without the erased words
+abbrev pub SparseTextsReadBack : Type 0
+SparseTextsReadBack =
+    (size base : ℕ) (bytes : List ℕ) → 0 < size → IsBytes bytes → base + length bytes ≤ 2 ^ 32
+    → IsHexOf (sparse_text size base bytes) base (length bytes) bytes
 
 -- a text says one row of bytes at most
 abbrev pub OneReading : Type 0

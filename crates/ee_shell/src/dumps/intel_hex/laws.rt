@@ -1,9 +1,14 @@
 //! What holds of every text and all bytes. Each function does nothing: its contract is the law.
-ghost use Rattle.ee_shell.specs.Dumps.intel_hex.Laws.{EachTextIsJudged, OneBadLine, OneReading, ReadingsAreGood, TextsReadBack};
+ghost use Rattle.ee_shell.specs.Dumps.intel_hex.Laws.{EachTextIsJudged, OneBadLine, OneReading, ReadingsAreGood, SparseTextsReadBack, TextsReadBack};
 
 /// A text that is written reads back.
 pub fn texts_read_back()
     ensures { TextsReadBack }
+{}
+
+/// So does one without the erased words.
+pub fn sparse_texts_read_back()
+    ensures { SparseTextsReadBack }
 {}
 
 /// A text says one row of bytes at most.

@@ -1,9 +1,9 @@
 //! Writing a text.
-ghost use Rattle.std.specs.Prelude.{◌≡◌, ◌≤◌, ◌<◌, ◌+◌, ◌^◌, ◌*◌, ◌/◌, ◌%◌, ◌++◌, ◌∷◌, [], length, take, IfOk, OnOk};
+ghost use Rattle.std.specs.Prelude.{◌≡◌, ◌≤◌, ◌<◌, ◌+◌, ◌^◌, ◌*◌, ◌/◌, ◌%◌, ◌++◌, ◌∷◌, [], length, take, None, IfOk, OnOk};
 ghost use Rattle.std.specs.List.{flat_map, sum};
 ghost use Rattle.hex.specs.Hex.{encode_upper};
 ghost use Rattle.ee_shell.specs.Dumps.intel_hex.Record.{check_byte};
-ghost use Rattle.ee_shell.specs.Dumps.intel_hex.Written.{hex_text, record_line, row_length, upper_told};
+ghost use Rattle.ee_shell.specs.Dumps.intel_hex.Written.{hex_text, is_erased_word, record_line, row_length, rows, sparse_text, upper_told};
 
 use super::record::{DATA, END, LINEAR, sum_of};
 use std::alloc::{AllocError, Allocator};
@@ -27,7 +27,6 @@ const DIGITS: &[u8; 16] = b"0123456789ABCDEF";
 /// `AllocError`: memory was refused.
 ///
 /// Source: ours.
-#[tactic(auto, using(crate::proofs::dumps::intel_hex::Written::one_row_more, crate::proofs::dumps::intel_hex::Written::all_written_so))]
 pub fn write_hex<A: Allocator + Copy>(
     alloc: A,
     base: u32,
@@ -37,20 +36,86 @@ pub fn write_hex<A: Allocator + Copy>(
     ensures { IfOk result (λ text. text.items ≡ hex_text base bytes.now) }
 {
     let mut out = Vec::new(alloc);
-    let mut told = None;
+    push_rows(&mut out, u64::from(base), bytes)?;
+    push_record(&mut out, 0, END, &[])?;
+    Ok(out)
+}
+
+/// The text that says these bytes from address `base` on, but for the words of `size` bytes each
+/// byte of which is 255: as `write_hex` writes it, with an upper address in front of each run of
+/// other words.
+///
+/// # Errors
+///
+/// `AllocError`: memory was refused.
+///
+/// Source: ours.
+pub fn write_sparse_hex<A: Allocator + Copy>(
+    alloc: A,
+    base: u32,
+    size: usize,
+    bytes: &[u8],
+) -> Result<Vec<u8, A>, AllocError>
+    requires some { 0 < size }
+    requires fits { base + length bytes.now ≤ 2 ^ 32 }
+    ensures { IfOk result (λ text. text.items ≡ sparse_text size base bytes.now) }
+{
+    let mut out = Vec::new(alloc);
     let mut place = u64::from(base);
+    // The words from a run on, and how many bytes of the run there were so far.
+    let mut rest = bytes;
+    let mut met = 0;
+    while met < rest.len() {
+        let (run, behind) = rest.split_at(met);
+        let (word, others) = behind.split_at(size.min(behind.len()));
+        if is_erased(word) {
+            push_rows(&mut out, place, run)?;
+            place += (met + word.len()) as u64;
+            rest = others;
+            met = 0;
+        } else {
+            met += word.len();
+        }
+    }
+    push_rows(&mut out, place, rest)?;
+    push_record(&mut out, 0, END, &[])?;
+    Ok(out)
+}
+
+/// Whether each byte of a word is 255.
+#[tactic(auto, using(crate::proofs::dumps::intel_hex::Sparse::erased_more, crate::proofs::dumps::intel_hex::Sparse::not_erased, crate::proofs::dumps::intel_hex::Sparse::all_erased))]
+fn is_erased(word: &[u8]) -> bool
+    ensures { result ≡ is_erased_word word.now }
+{
+    for byte in word {
+        if *byte != 255 {
+            return false;
+        }
+    }
+    true
+}
+
+/// Writes the rows of bytes, or a part of them after an error: the upper address in front of the
+/// first and where it changes.
+#[tactic(auto, using(crate::proofs::dumps::intel_hex::Written::one_row_more, crate::proofs::dumps::intel_hex::Written::all_written_so))]
+fn push_rows<A: Allocator>(out: &mut Vec<u8, A>, from: u64, bytes: &[u8]) -> Result<(), AllocError>
+    requires { from + length bytes.now ≤ 2 ^ 32 }
+    ensures { OnOk result (out.new.items ≡ out.old.items
+        ++ flat_map record_line (rows (length bytes.now) None from bytes.now)) }
+{
+    let mut told = None;
+    let mut place = from;
     let mut rest = bytes;
     while !rest.is_empty() {
         let half = (place / 65536) as u16;
-        push_upper(&mut out, told, half)?;
+        push_upper(out, told, half)?;
         let (row, behind) = rest.split_at(row_size(place, rest.len()));
-        push_record(&mut out, (place % 65536) as u16, DATA, row)?;
+        push_record(out, (place % 65536) as u16, DATA, row)?;
         told = Some(half);
         place += row.len() as u64;
         rest = behind;
     }
-    push_record(&mut out, 0, END, &[])?;
-    Ok(out)
+    Ok(())
 }
 
 /// How many bytes go into the record from a place on.

@@ -1,19 +1,33 @@
-use Rattle.std.proofs.Common.{rules}
+use Rattle.std.proofs.Common.{inl, rules}
 use Rattle.std.proofs.lemmas.Result.{err_from_is_err_and}
 use Rattle.ee_flash.specs.Memory.{device_of}
 use Rattle.ee_image_store.proofs.Public.{formed_of}
-use Rattle.ee_shell.proofs.PartLemmas.Causes.{import_memory, imported_good, one_import_fault}
+use Rattle.ee_shell.proofs.PartLemmas.Causes.{import_memory, imported_good, misplaced_told, one_import_fault}
 use Rattle.ee_shell.proofs.part.dump.import_image.Goals as goal
+
+pub returns-in-Err-clause-fault : goal.returns-in-Err-clause-fault
+returns-in-Err-clause-fault g c =
+    inl record {
+      cause = c.in-Err.fault;
+      applies = c.in-Err.ensures.fault;
+      fault_is = c.import_fault.ensures;
+    }
 
 pub returns-in-Err-clause-names : goal.returns-in-Err-clause-names
 returns-in-Err-clause-names g c = λ cause some applies.
     one_import_fault c.args.form c.args.shape c.args.dump.now cause c.import_fault.result some
     applies
-    (record {
-      cause = c.in-Err.fault;
-      applies = c.in-Err.ensures.fault;
-      fault_is = c.import_fault.ensures;
-    })
+    (returns-in-Err-clause-fault g c)
+
+pub returns-in-Some-clause-fault : goal.returns-in-Some-clause-fault
+returns-in-Some-clause-fault g c =
+    misplaced_told c.args.form c.args.shape c.args.dump.now (device_of c.in-Ok.flash) c.in-Some.page
+    c.in-Some.at (formed_of c.in-Ok.flash) c.in-Ok.ensures.read c.in-Some.ensures.found
+
+pub returns-in-Some-clause-names : goal.returns-in-Some-clause-names
+returns-in-Some-clause-names g c = λ cause some applies.
+    one_import_fault c.args.form c.args.shape c.args.dump.now cause _ some applies
+    (returns-in-Some-clause-fault g c)
 
 pub returns-in_err-text_of-clause-fault : goal.returns-in_err-text_of-clause-fault
 returns-in_err-text_of-clause-fault g c =
@@ -25,7 +39,12 @@ returns-in_err-text_of-clause-fault g c =
 
 pub returns-clause-imported : goal.returns-clause-imported
 returns-clause-imported g c =
-    record { device = device_of c.in-Ok.flash; made = c.in-Ok.ensures.read; spelled = search rules }
+    record {
+      device = device_of c.in-Ok.flash;
+      made = c.in-Ok.ensures.read;
+      in_shape = search rules;
+      spelled = search rules;
+    }
 
 pub returns-clause-names : goal.returns-clause-names
 returns-clause-names g c = λ cause some applies.

@@ -7,8 +7,8 @@ use Rattle.ee_shell.specs.Part.Hex.{PartFits}
 use Rattle.ee_shell.proofs.PartLemmas.HexCauses.{dump_fits, far_placed, hex_exported_good, is_told, no_memory_told, not_dumped, one_hex_export_fault}
 use Rattle.ee_shell.proofs.part.hex_files.export_hex.Goals as goal
 
-pub write_hex-requires : goal.write_hex-requires
-write_hex-requires g c =
+pub text_of_dump-requires : goal.text_of_dump-requires
+text_of_dump-requires g c =
     let near : PartFits c.args.form c.args.base (device_of c.in_ok-flash.flash).size =
     subst (PartFits c.args.form c.args.base) c.shape.ensures
     (c.fits.ensures.0 c.if-not-fits.false) in
@@ -63,11 +63,11 @@ returns-in_err-dump-clause-names g c = λ cause some applies.
     (subst (PartFits c.args.form c.args.base) c.shape.ensures
     (c.fits.ensures.0 c.if-not-fits.false)) c.in_err-dump.ensures.fault)))
 
-pub returns-in_err-write_hex-clause-fault : goal.returns-in_err-write_hex-clause-fault
-returns-in_err-write_hex-clause-fault g c =
+pub returns-in_err-text_of_dump-clause-fault : goal.returns-in_err-text_of_dump-clause-fault
+returns-in_err-text_of_dump-clause-fault g c =
     let p =
-    err_from_is_err_and c.from_residual-in_err-write_hex.result
-    c.from_residual-in_err-write_hex.ensures.1 in
+    err_from_is_err_and c.from_residual-in_err-text_of_dump.result
+    c.from_residual-in_err-text_of_dump.ensures.1 in
     rw p.1
     (rw p.2
     (no_memory_told c.args.form c.args.image.now c.args.base (device_of c.in_ok-flash.flash)
@@ -77,8 +77,8 @@ returns-in_err-write_hex-clause-fault g c =
 
 pub returns-clause-exported : goal.returns-clause-exported
 returns-clause-exported g c =
-    is_told c.args.form c.args.image.now c.args.base (device_of c.in_ok-flash.flash)
-    c.in_ok-dump.dump.items c.deref.result.now c.in_ok-write_hex.field-0.items
+    is_told c.args.fill c.args.form c.args.image.now c.args.base (device_of c.in_ok-flash.flash)
+    c.in_ok-dump.dump.items c.deref.result.now c.in_ok-text_of_dump.field-0.items
     c.in_ok-flash.ensures.read
     (subst (PartFits c.args.form c.args.base) c.shape.ensures
     (c.fits.ensures.0 c.if-not-fits.false)) c.in_ok-dump.ensures.written
@@ -86,5 +86,5 @@ returns-clause-exported g c =
 
 pub returns-clause-names : goal.returns-clause-names
 returns-clause-names g c = λ cause some applies.
-    hex_exported_good c.args.form c.args.image.now c.args.base c.in_ok-write_hex.field-0.items cause
+    hex_exported_good c.args.fill c.args.form c.args.image.now c.args.base c.in_ok-text_of_dump.field-0.items cause
     (returns-clause-exported g c) some applies
