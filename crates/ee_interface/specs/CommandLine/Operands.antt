@@ -144,6 +144,7 @@ IsFlagOf name word =
     ⊎ ((name ≡ codes "export") × (word ≡ codes "--pairs"))
     ⊎ ((name ≡ codes "import-hex") × (word ≡ codes "--pairs"))
     ⊎ ((name ≡ codes "export-hex") × (word ≡ codes "--pairs"))
+    ⊎ ((name ≡ codes "export-hex") × (word ≡ codes "--fill"))
     ⊎ ((name ≡ codes "run") × (word ≡ codes "--indexed"))
     ⊎ ((name ≡ codes "header") × (word ≡ codes "--rust"))
     ⊎ ((name ≡ codes "forget-all") × (word ≡ codes "--force"))

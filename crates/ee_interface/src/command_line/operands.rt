@@ -266,7 +266,8 @@ fn is_flag_of(name: &str, word: &str) -> bool
     ensures { IsTrue result ↔ IsFlagOf name.now word.now }
 {
     match name {
-        "import" | "export" | "import-hex" | "export-hex" => word == "--pairs",
+        "import" | "export" | "import-hex" => word == "--pairs",
+        "export-hex" => word == "--pairs" || word == "--fill",
         "run" => word == "--indexed",
         "header" => word == "--rust",
         "forget-all" => word == "--force",

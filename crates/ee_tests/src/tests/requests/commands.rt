@@ -179,7 +179,7 @@ fn text_of<A: Allocator + Copy>(
         Text::ImportPairs => import_image(alloc, shape, Form::Pairs, PAIRS),
         Text::ExportPairs => export_image(alloc, Form::Pairs, FORMATTED),
         Text::ImportHex => import_hex(alloc, shape, Form::Words, BASE, HEX),
-        Text::ExportHex => export_hex(alloc, false, Form::Words, FORMATTED, BASE),
+        Text::ExportHex => export_hex(alloc, true, Form::Words, FORMATTED, BASE),
         Text::Inspect => inspect_text(alloc, FORMATTED),
         Text::Header => header_text(alloc, heap, VOLUME, Language::Rust),
         Text::Verify => {
