@@ -39,4 +39,5 @@ mod words;
 mod writing;
 
 pub use fault::{ReadFault, RecordFault, TrimFault};
+pub use reading::Finding;
 pub use record::Record;

@@ -12,13 +12,34 @@ use crate::words::{put_bytes, word_turn, words_with};
 use ee_codec::Address;
 use ee_core::{Lookup, Store};
 use ee_flash::Flash;
-use ee_pages::Span;
+use ee_pages::{SPAN, Span};
+
+/// How the values of a record are found.
+///
+/// Source: ours.
+#[derive(Clone, Copy)]
+pub enum Finding {
+    /// Each by the store's look-up, as is best where that is an index.
+    Each,
+    /// Those of `SPAN` addresses by one look through the slots.
+    Together,
+}
+
+impl Finding {
+    /// For how many addresses a value is looked for at once.
+    fn at_once(self) -> usize
+        ensures { 0 < result }
+    {
+        match self {
+            Finding::Each => 1,
+            Finding::Together => SPAN,
+        }
+    }
+}
 
 impl Record {
     /// Reads the record into the space that is lent, and gives its length, or `None` if there is
-    /// none. At `None` and at a fault the space may hold anything. It finds the values of so many
-    /// addresses by one look through the slots; one at once by the store's look-up, as is best
-    /// where that is an index.
+    /// none. At `None` and at a fault the space may hold anything.
     ///
     /// # Errors
     ///
@@ -28,14 +49,13 @@ impl Record {
     pub fn read<F: Flash + Drop, L: Lookup + Drop>(
         &self,
         store: &Store<F, L>,
-        at_once: usize,
+        finding: Finding,
         space: &mut [u8],
     ) -> Result<Option<usize>, ReadFault>
-        requires { 0 < at_once }
         ensures { ReadsRecord store.now self.now.base self.now.words space.old result space.new }
     {
         // No look goes on for addresses behind the record's.
-        let count = at_once.min(2 * words_with(self.capacity()) + 1);
+        let count = finding.at_once().min(2 * words_with(self.capacity()) + 1);
         let Ok(mut near) = store.read_span(self.base(), count) else {
             return Err(ReadFault::Off);
         };

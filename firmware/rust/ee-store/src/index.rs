@@ -3,7 +3,8 @@ use crate::ee_codec::Address;
 use crate::ee_core::OpenFault;
 use crate::ee_flash::Flash;
 use crate::ee_index::{Entry, LentIndex};
-use crate::ee_pages::{Layout, SPAN};
+use crate::ee_pages::Layout;
+use crate::ee_records::Finding;
 use crate::error::OpenError;
 use crate::store::{open_error, Finds, Store};
 use core::fmt;
@@ -43,11 +44,11 @@ impl Finds for LentIndex<'_> {
         self.read(flash, layout);
     }
 
-    fn at_once(&self) -> usize {
+    fn finding(&self) -> Finding {
         if self.is_given_up() {
-            SPAN
+            Finding::Together
         } else {
-            1
+            Finding::Each
         }
     }
 }

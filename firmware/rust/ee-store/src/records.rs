@@ -30,7 +30,7 @@ impl<D: Driver, L: Finds> Store<D, L> {
         space: &mut [u8],
     ) -> Result<Option<usize>, Error<D::Error>> {
         let store = self.running()?;
-        let found = record.read(store, store.lookup().at_once(), space);
+        let found = record.read(store, store.lookup().finding(), space);
         self.whole(found.map_err(|fault| match fault {
             Unread::Off => Error::NotOpen,
             Unread::TooLong(length) => Error::TooShort(length),

@@ -5,7 +5,8 @@ use crate::ee_core::{
     self as proved, LiveBatch, Lookup, OpenFault, Put, Rescued, Slots, Variables, Wanted, Written,
 };
 use crate::ee_flash::{Cut, Flash, Shape};
-use crate::ee_pages::{Layout, Side, SPAN};
+use crate::ee_pages::{Layout, Side};
+use crate::ee_records::Finding;
 use crate::error::{Error, OpenError};
 use crate::iter::Iter;
 use crate::part::Part;
@@ -33,15 +34,15 @@ pub trait Finds: Lookup {
     /// Forgets what it knows, and learns what the slots say.
     fn find_anew<F: Flash>(&mut self, flash: &F, layout: &Layout);
 
-    /// For how many addresses a record is read at once: one by an index, and else as many as one look through the slots takes.
-    fn at_once(&self) -> usize;
+    /// How the values of a record are found: each by an index, and else together.
+    fn finding(&self) -> Finding;
 }
 
 impl Finds for Slots {
     fn find_anew<F: Flash>(&mut self, _flash: &F, _layout: &Layout) {}
 
-    fn at_once(&self) -> usize {
-        SPAN
+    fn finding(&self) -> Finding {
+        Finding::Together
     }
 }
 
