@@ -113,9 +113,10 @@ with_none : (turns : List Turn) (old new : Device) → (state_of old).map ≡ fo
     → WasKept turns old new → WasKeptFromNone turns new
 with_none turns old new empty kept = record {
   values = subst (λ (map : Map). AreValuesFrom map turns) empty kept.values;
-  stands = inr
-      (kept.legal,
-      kept.map_is ∙ ap (λ (map : Map). changed_by (kept_changes turns) map) empty);
+  stands = inr (
+    kept.legal,
+    kept.map_is ∙ ap (λ (map : Map). changed_by (kept_changes turns) map) empty,
+  );
 }
 
 after_first : (turn : Turn) (turns : List Turn) (new : Device)
@@ -123,12 +124,14 @@ after_first : (turn : Turn) (turns : List Turn) (new : Device)
     → IsValueIn formatted_state.map turn.event turn.answer → WasKeptFromNone turns new
     → WasKeptFromNone (turn ∷ turns) new
 after_first turn turns new none value kept = record {
-  values = (value,
-  values_behind (kept_by turn.event turn.answer turn.found) formatted_state.map turns none
-  kept.values);
+  values = (
+    value,
+    values_behind (kept_by turn.event turn.answer turn.found) formatted_state.map turns none
+        kept.values,
+  );
   stands = elim kept.stands [
-    inl startable ↦ inl (startable.0, search (rules, none, startable.1))
-  | inr legal ↦ inr (legal.0, legal.1 ∙ sym (none_before turn turns formatted_state.map none))
+    | inl startable ↦ inl (startable.0, search (rules, none, startable.1))
+    | inr legal ↦ inr (legal.0, legal.1 ∙ sym (none_before turn turns formatted_state.map none))
   ];
 }
 
@@ -146,11 +149,11 @@ none_is_lost_from_none_lem (turn ∷ turns) old new run startable =
     let one = first turn.event turn.answer turn.found old run.0.device startable run.1.happens in
     after_first turn turns new.device one.none one.value
     (elim one.stands [
-      inl still ↦
-      let shut = closed run.0 (run.1.serving_is ∙ still.1) in
-      none_is_lost_from_none_lem turns run.0.device new
-      (subst (λ (point : Point). AreTurns turns point new) shut run.2) still.0
-    | inr legal ↦
-      with_none turns run.0.device new.device legal.1
-      (no_answered_change_is_lost_lem turns run.0 new run.2 legal.0)
+      | inl still ↦
+          let shut = closed run.0 (run.1.serving_is ∙ still.1) in
+          none_is_lost_from_none_lem turns run.0.device new
+          (subst (λ (point : Point). AreTurns turns point new) shut run.2) still.0
+      | inr legal ↦
+          with_none turns run.0.device new.device legal.1
+          (no_answered_change_is_lost_lem turns run.0 new run.2 legal.0)
     ])
