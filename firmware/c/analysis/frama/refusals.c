@@ -80,7 +80,8 @@ static void is_refused_by(ee_store *store, ee_result answer) {
     ee_numbers numbers;
     ee_result status;
     ee_value wanted = { address, any32 };
-    switch (Frama_C_interval(0, 8)) {
+    ee_span span;
+    switch (Frama_C_interval(0, 9)) {
     case 0: status = ee_write(store, address, any32); break;
     case 1: status = ee_write_all(store, values, Frama_C_unsigned_int_interval(0, MOST_VALUES)); break;
     case 2: status = ee_forget(store, address); break;
@@ -89,6 +90,7 @@ static void is_refused_by(ee_store *store, ee_result answer) {
     case 5: status = ee_read(store, address, &value); break;
     case 6: status = ee_next(store, &address, &value); break;
     case 7: status = ee_load(store, &wanted, 1, &value); break;
+    case 8: status = ee_read_span(store, address, 1, &span); break;
     default: status = ee_counts(store, &numbers); break;
     }
     //@ check is_refused: status == answer;
@@ -103,7 +105,7 @@ void stores_that_are_off(void) {
         .word = not_called_word,
         .program = not_called_program,
         .erase = not_called_erase,
-        .kind = any ? 1 : 2,
+        .kind = Frama_C_unsigned_int_interval(0, 2),
         .words = any ? not_called_words : NULL,
     };
     ee_store store, copy, zeros = {0};
