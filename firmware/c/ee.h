@@ -252,7 +252,7 @@ enum { EE_SPAN = 16 };
 typedef struct ee_span {
     uint16_t first;
     uint32_t count;            /* `first` and `count` - 1 behind it */
-    uint64_t numbers[EE_SPAN]; /* `first + i` has a value where the low 32 bits of number i are `first + i`; it is the high ones */
+    uint64_t numbers[EE_SPAN]; /* the low 32 bits of number i are `first + i` where that has a value; the high 32 are the value */
 } ee_span;
 
 /* How a store stands. */
