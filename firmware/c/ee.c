@@ -1149,8 +1149,7 @@ EE_IN_PLACE const ee_flash *flash_with(const Device *device, uint32_t page, uint
 EE_APART uint64_t numbers_read(const Numbers *numbers, uint32_t page, uint32_t at) {
     const ee_flash *const flash = numbers->power->flash;
     uint64_t number;
-    if (flash == NULL || !is_read(numbers, flash, page, at, &number)) { return 0u; }
-    return number;
+    return flash != NULL && is_read(numbers, flash, page, at, &number) ? number : 0u;
 }
 
 /* So many words or numbers of a page from a place on, where C has them in memory; else no items. */
@@ -4817,10 +4816,11 @@ ee_result ee_read_span(const ee_store *store, uint16_t first, uint32_t count, ee
     const ee_result refused = begun_with(store, count == 0u ? 0u : first, span);
     if (refused != EE_OK) { return refused; }
     const Store *const it = &store->memory.parts.store;
+    const Layout *const layout = &it->known.layout;
     if (it->known.lookup != NULL && !it->known.lookup->is_given_up) {
-        span_of_one(first, store_read(it, first).value, span);
+        span_of_one(first, lookup_value_of(&it->known.lookup, &it->flash, layout, first), span);
     } else {
-        read_span(&it->flash, &it->known.layout, first, count, span);
+        read_span(&it->flash, layout, first, count, span);
     }
     return ended(EE_OK, store);
 }

@@ -234,10 +234,11 @@ ee_result ee_read_span(const ee_store *store, uint16_t first, uint32_t count, ee
     const ee_result refused = begun_with(store, count == 0u ? 0u : first, span);
     if (refused != EE_OK) { return refused; }
     const Store *const it = &store->memory.parts.store;
+    const Layout *const layout = &it->known.layout;
     if (it->known.lookup != NULL && !it->known.lookup->is_given_up) {
-        span_of_one(first, store_read(it, first).value, span);
+        span_of_one(first, lookup_value_of(&it->known.lookup, &it->flash, layout, first), span);
     } else {
-        read_span(&it->flash, &it->known.layout, first, count, span);
+        read_span(&it->flash, layout, first, count, span);
     }
     return ended(EE_OK, store);
 }
