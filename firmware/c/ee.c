@@ -45,14 +45,14 @@
  * cores of 32 bits write such a number with less code. */
 #define UNREAD UINT64_C(0x100000001)
 
-/* The words of a page's header, below its slots. */
-#define HEADER_WORDS 4u
-
 /* How many addresses a span has at the most. */
 #define SPAN 16u
 
 /* A number that says nothing, of an address. */
 #define UNSAID UINT64_C(0x20001)
+
+/* The words of a page's header, below its slots. */
+#define HEADER_WORDS 4u
 
 /* The mark: what the header words that say active, valid and erasing hold once they are
  * programmed. */
@@ -231,12 +231,7 @@ typedef struct Wanted {
 } Wanted;
 
 /* Addresses that follow one another, at least one and up to `SPAN`, with their values. */
-typedef struct Span {
-    Address first;
-    uint32_t count;
-    /* Of each address the number of an element or a forgetting, or one that says nothing. */
-    uint64_t numbers[SPAN];
-} Span;
+typedef ee_span Span;
 
 /* A value that an address gets. It is laid out as in C, so that a list of C's can be one of
  * these. */
@@ -580,16 +575,16 @@ static inline MaybeSaidValue maybe_said_value_none(void) {
     return (MaybeSaidValue){ .some = false, .value = { .some = false, .value = 0u } };
 }
 
+static inline MaybeU32 maybe_u32_some(uint32_t value) {
+    return (MaybeU32){ .some = true, .value = value };
+}
+
 static inline MaybeSaidValue maybe_said_value_some(MaybeU32 value) {
     return (MaybeSaidValue){ .some = true, .value = value };
 }
 
 static inline MaybeU32 maybe_u32_none(void) {
     return (MaybeU32){ .some = false, .value = 0u };
-}
-
-static inline MaybeU32 maybe_u32_some(uint32_t value) {
-    return (MaybeU32){ .some = true, .value = value };
 }
 
 static inline ReadResult read_result_err(void) {
@@ -881,7 +876,7 @@ static void loading_tell_run(const uint64_t *numbers_items, uint32_t numbers_len
         Wanted *entries_items, uint32_t entries_len);
 static MaybeSaidValue said_in(const uint64_t *numbers_items, uint32_t numbers_len, Address address);
 static void span_new(Address first, uint32_t count, Span *made);
-EE_IN_PLACE MaybeSaidValue span_get(const Span *self, Address address);
+static void span_of_one(Address address, MaybeU32 value, Span *made);
 static void span_note(Span *self, uint64_t number);
 static uint32_t span_said_from(const Span *self, uint32_t before);
 static void read_span(const Device *flash, const Layout *layout, Address first, uint32_t count,
@@ -1154,8 +1149,7 @@ EE_IN_PLACE const ee_flash *flash_with(const Device *device, uint32_t page, uint
 EE_APART uint64_t numbers_read(const Numbers *numbers, uint32_t page, uint32_t at) {
     const ee_flash *const flash = numbers->power->flash;
     uint64_t number;
-    if (flash == NULL || !is_read(numbers, flash, page, at, &number)) { return 0u; }
-    return number;
+    return flash != NULL && is_read(numbers, flash, page, at, &number) ? number : 0u;
 }
 
 /* So many words or numbers of a page from a place on, where C has them in memory; else no items. */
@@ -2388,18 +2382,13 @@ static void span_new(Address first, uint32_t count, Span *made) {
     }
 }
 
-/* The value of an address: `None` if the span doesn't have the address, and `Some(None)` if
- * the address has no value. */
-EE_IN_PLACE MaybeSaidValue span_get(const Span *self, Address address) {
-    const uint32_t at = (uint32_t)u16_wrapping_sub(address, self->first);
-    if (at >= self->count) {
-        return maybe_said_value_none();
+/* The one address with this value, `None` if it has none. */
+static void span_of_one(Address address, MaybeU32 value, Span *made) {
+    span_new(address, 1u, made);
+    if (value.some) {
+        const uint32_t value_2 = value.value;
+        made->numbers[0u] = element_word(address, value_2);
     }
-    const MaybeSaidValue maybe_said = said(self->numbers[at]);
-    if (maybe_said.some) {
-        return maybe_said_value_some(maybe_said.value);
-    }
-    return maybe_said_value_some(maybe_u32_none());
 }
 
 /* Notes what a number says, if it is of one of the addresses, of which nothing is said. */
@@ -4630,7 +4619,14 @@ static ee_result ended(ee_result status, const ee_store *memory) {
     return status;
 }
 
-/* The same of a call with a list, each of whose addresses has to be one. */
+/* The same of a call that gives a number, which is written where the status is EE_OK. */
+static ee_result told(ee_result status, const ee_store *memory, uint32_t found, uint32_t *number) {
+    const ee_result answer = ended(status, memory);
+    if (answer == EE_OK) { *number = found; }
+    return answer;
+}
+
+/* Begins a call with a list, each of whose addresses has to be one. */
 static ee_result begun_with_list(const ee_store *memory, const ee_value *values, uint32_t count) {
     ee_result status = begun_with(memory, 1u, values);
     for (uint32_t at = 0u; status == EE_OK && at < count; at++) {
@@ -4728,20 +4724,15 @@ ee_result ee_rescue(ee_store *store, const ee_flash *flash) {
 
 ee_result ee_bad_words(const ee_flash *flash, uint32_t *count) {
     ee_store looked;
-    ee_result status = device_in(&looked, flash);
-    if (status == EE_OK && count == NULL) { status = EE_NULL; }
-    if (status != EE_OK) { return status; }
-    const uint32_t bad = bad_words(&looked.memory.parts.store.flash);
-    status = ended(EE_OK, &looked);
-    if (status == EE_OK) { *count = bad; }
-    return status;
+    const ee_result refused = device_in(&looked, count == NULL ? NULL : flash);
+    if (refused != EE_OK) { return refused; }
+    return told(EE_OK, &looked, bad_words(&looked.memory.parts.store.flash), count);
 }
 
 /* It looks for what an opening is refused for. */
 ee_result ee_foreign_word(const ee_flash *flash, uint32_t *page, uint32_t *word) {
     ee_store looked;
-    ee_result status = device_in(&looked, flash);
-    if (status == EE_OK && (page == NULL || word == NULL)) { status = EE_NULL; }
+    ee_result status = device_in(&looked, page == NULL || word == NULL ? NULL : flash);
     if (status != EE_OK) { return status; }
     const Device *const device = &looked.memory.parts.store.flash;
     MaybeLowPair found = { .some = false };
@@ -4753,11 +4744,8 @@ ee_result ee_foreign_word(const ee_flash *flash, uint32_t *page, uint32_t *word)
         found.value.page = first_page(device, live.value.first) + front.error.first;
         found.value.word = front.error.second;
     }
-    status = ended(found.some ? EE_OK : EE_NOTHING, &looked);
-    if (status == EE_OK) {
-        *page = found.value.page;
-        *word = found.value.word;
-    }
+    status = told(found.some ? EE_OK : EE_NOTHING, &looked, found.value.word, word);
+    if (status == EE_OK) { *page = found.value.page; }
     return status;
 }
 #endif
@@ -4790,25 +4778,22 @@ ee_result ee_forget_all(ee_store *store) {
 ee_result ee_clean(ee_store *store) {
     const ee_result refused = begun(store, 1u);
     if (refused != EE_OK) { return refused; }
-    const CleanResult answer = store_clean_step(store_of(store));
-    return ended(answer.ok && answer.value ? EE_OK : EE_NOTHING, store);
+    return ended(store_clean_step(store_of(store)).value ? EE_OK : EE_NOTHING, store);
 }
 
 ee_result ee_read(const ee_store *store, uint16_t address, uint32_t *value) {
-    ee_result status = begun_with(store, address, value);
-    if (status != EE_OK) { return status; }
-    const ReadResult answer = store_read(&store->memory.parts.store, address);
-    status = ended(answer.ok && answer.value.some ? EE_OK : EE_NOTHING, store);
-    if (status == EE_OK) { *value = answer.value.value; }
-    return status;
+    const ee_result refused = begun_with(store, address, value);
+    if (refused != EE_OK) { return refused; }
+    const MaybeU32 found = store_read(&store->memory.parts.store, address).value;
+    return told(found.some ? EE_OK : EE_NOTHING, store, found.value, value);
 }
 
 /* For how many addresses a look through the slots is made. */
 #define EE_WANTED 32u
 
 ee_result ee_load(const ee_store *store, ee_value *values, uint32_t count, uint32_t *loaded) {
-    ee_result status = begun_with_list(store, loaded == NULL ? NULL : values, count);
-    if (status != EE_OK) { return status; }
+    const ee_result refused = begun_with_list(store, loaded == NULL ? NULL : values, count);
+    if (refused != EE_OK) { return refused; }
     uint32_t found = 0u;
     uint32_t some = 0u;
     for (uint32_t from = 0u; from < count && power_of(store)->flash != NULL; from += some) {
@@ -4823,9 +4808,7 @@ ee_result ee_load(const ee_store *store, ee_value *values, uint32_t count, uint3
             found += wanted[at].value.some ? 1u : 0u;
         }
     }
-    status = ended(EE_OK, store);
-    if (status == EE_OK) { *loaded = found; }
-    return status;
+    return told(EE_OK, store, found, loaded);
 }
 
 /* By an index it is of the first address alone, since another look takes no more there. */
@@ -4833,22 +4816,11 @@ ee_result ee_read_span(const ee_store *store, uint16_t first, uint32_t count, ee
     const ee_result refused = begun_with(store, count == 0u ? 0u : first, span);
     if (refused != EE_OK) { return refused; }
     const Store *const it = &store->memory.parts.store;
-    span->first = first;
-    span->count = 1u;
-    span->there = 0u;
+    const Layout *const layout = &it->known.layout;
     if (it->known.lookup != NULL && !it->known.lookup->is_given_up) {
-        (void)ended(EE_OK, store);
-        const ee_result status = ee_read(store, first, span->values);
-        span->there = status == EE_OK ? 1u : 0u;
-        return status == EE_NOTHING ? (ee_result)EE_OK : status;
-    }
-    Span found;
-    read_span(&it->flash, &it->known.layout, first, count, &found);
-    span->count = (uint16_t)found.count;
-    for (uint32_t at = 0u; at < found.count; at++) {
-        const MaybeU32 value = span_get(&found, (Address)(first + at)).value;
-        span->there |= (value.some ? 1u : 0u) << at;
-        span->values[at] = value.value;
+        span_of_one(first, lookup_value_of(&it->known.lookup, &it->flash, layout, first), span);
+    } else {
+        read_span(&it->flash, layout, first, count, span);
     }
     return ended(EE_OK, store);
 }
@@ -4858,11 +4830,8 @@ ee_result ee_next(const ee_store *store, uint16_t *address, uint32_t *value) {
     ee_result status = begun_with(store, after == 0u ? 1u : after, address == NULL ? NULL : value);
     if (status != EE_OK) { return status; }
     const MaybeLive found = store_next_live(&store->memory.parts.store, address_new(after));
-    status = ended(found.some ? EE_OK : EE_NOTHING, store);
-    if (status == EE_OK) {
-        *address = found.value.first;
-        *value = found.value.second;
-    }
+    status = told(found.some ? EE_OK : EE_NOTHING, store, found.value.second, value);
+    if (status == EE_OK) { *address = found.value.first; }
     return status;
 }
 

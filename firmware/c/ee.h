@@ -250,9 +250,9 @@ typedef struct ee_value {
 /* Addresses that follow one another, with their values. */
 enum { EE_SPAN = 16 };
 typedef struct ee_span {
-    uint16_t first, count;     /* `first` and `count` - 1 behind it */
-    uint32_t there;            /* whether `first + i` has a value, in bit i */
-    uint32_t values[EE_SPAN];  /* its value */
+    uint16_t first;
+    uint32_t count;            /* `first` and `count` - 1 behind it */
+    uint64_t numbers[EE_SPAN]; /* the low 32 bits of number i are `first + i` where that has a value; the high 32 are the value */
 } ee_span;
 
 /* How a store stands. */

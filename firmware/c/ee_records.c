@@ -64,21 +64,25 @@ typedef struct reader {
 } reader;
 
 static ee_result value_near(reader *it, uint32_t address, uint32_t *value) {
-    ee_result status = EE_OK;
     uint32_t at = (uint16_t)(address - it->near.first);
     if (at >= it->near.count) {
-        status = ee_read_span(it->store, (uint16_t)address, it->at_once, &it->near);
+        const ee_result status = ee_read_span(it->store, (uint16_t)address, it->at_once, &it->near);
+        if (status != EE_OK) return status;
         at = 0;
     }
-    *value = it->near.values[at];
-    return status == EE_OK && !(it->near.there >> at & 1) ? (ee_result)EE_NOTHING : status;
+    const uint64_t number = it->near.numbers[at];
+    *value = (uint32_t)(number >> 32);
+    return (uint32_t)number == address ? (ee_result)EE_OK : (ee_result)EE_NOTHING;
 }
 
 ee_result ee_read_bytes(const ee_store *store, ee_record record, void *bytes, uint32_t size, uint32_t *length) {
     uint8_t *const space = bytes;
     uint32_t head = 0, check = 0;
-    /* No look goes on for addresses behind the record's. */
-    reader it = {.store = store, .at_once = EE_RECORD_ADDRESSES(record.words)};
+    reader it; /* of `near` no more is set than value_near looks at */
+    it.store = store;
+    it.at_once = EE_RECORD_ADDRESSES(record.words); /* no look goes on for addresses behind the record's */
+    it.near.first = 0;
+    it.near.count = 0;
     if (space == NULL || length == NULL) return EE_NULL;
     if (!is_record(record)) return EE_WRONG_NUMBER;
     ee_result status = value_near(&it, record.base, &head);

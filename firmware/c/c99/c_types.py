@@ -16,6 +16,7 @@ IN_HEADER = {"Shape": ("struct ee_shape", ["pages", "words"]),
              "LentList": ("struct ee_list", ["room", "count"]),
              "LentIndex": ("struct ee_index", ["list", "is_given_up"]),
              "Store": ("struct ee_kept", ["flash", "known"]),
+             "Span": ("ee_span", ["first", "count", "numbers"]),
              "Put": ("ee_value", ["address", "value"])}
 # An enum is a number of 8 bits, whatever size a compiler gives an enum; in one of those of 32.
 IN_STORE = {"Side"}

@@ -39,7 +39,14 @@ static ee_result ended(ee_result status, const ee_store *memory) {
     return status;
 }
 
-/* The same of a call with a list, each of whose addresses has to be one. */
+/* The same of a call that gives a number, which is written where the status is EE_OK. */
+static ee_result told(ee_result status, const ee_store *memory, uint32_t found, uint32_t *number) {
+    const ee_result answer = ended(status, memory);
+    if (answer == EE_OK) { *number = found; }
+    return answer;
+}
+
+/* Begins a call with a list, each of whose addresses has to be one. */
 static ee_result begun_with_list(const ee_store *memory, const ee_value *values, uint32_t count) {
     ee_result status = begun_with(memory, 1u, values);
     for (uint32_t at = 0u; status == EE_OK && at < count; at++) {
@@ -137,20 +144,15 @@ ee_result ee_rescue(ee_store *store, const ee_flash *flash) {
 
 ee_result ee_bad_words(const ee_flash *flash, uint32_t *count) {
     ee_store looked;
-    ee_result status = device_in(&looked, flash);
-    if (status == EE_OK && count == NULL) { status = EE_NULL; }
-    if (status != EE_OK) { return status; }
-    const uint32_t bad = bad_words(&looked.memory.parts.store.flash);
-    status = ended(EE_OK, &looked);
-    if (status == EE_OK) { *count = bad; }
-    return status;
+    const ee_result refused = device_in(&looked, count == NULL ? NULL : flash);
+    if (refused != EE_OK) { return refused; }
+    return told(EE_OK, &looked, bad_words(&looked.memory.parts.store.flash), count);
 }
 
 /* It looks for what an opening is refused for. */
 ee_result ee_foreign_word(const ee_flash *flash, uint32_t *page, uint32_t *word) {
     ee_store looked;
-    ee_result status = device_in(&looked, flash);
-    if (status == EE_OK && (page == NULL || word == NULL)) { status = EE_NULL; }
+    ee_result status = device_in(&looked, page == NULL || word == NULL ? NULL : flash);
     if (status != EE_OK) { return status; }
     const Device *const device = &looked.memory.parts.store.flash;
     MaybeLowPair found = { .some = false };
@@ -162,11 +164,8 @@ ee_result ee_foreign_word(const ee_flash *flash, uint32_t *page, uint32_t *word)
         found.value.page = first_page(device, live.value.first) + front.error.first;
         found.value.word = front.error.second;
     }
-    status = ended(found.some ? EE_OK : EE_NOTHING, &looked);
-    if (status == EE_OK) {
-        *page = found.value.page;
-        *word = found.value.word;
-    }
+    status = told(found.some ? EE_OK : EE_NOTHING, &looked, found.value.word, word);
+    if (status == EE_OK) { *page = found.value.page; }
     return status;
 }
 #endif
@@ -198,25 +197,22 @@ ee_result ee_forget_all(ee_store *store) {
 ee_result ee_clean(ee_store *store) {
     const ee_result refused = begun(store, 1u);
     if (refused != EE_OK) { return refused; }
-    const CleanResult answer = store_clean_step(store_of(store));
-    return ended(answer.ok && answer.value ? EE_OK : EE_NOTHING, store);
+    return ended(store_clean_step(store_of(store)).value ? EE_OK : EE_NOTHING, store);
 }
 
 ee_result ee_read(const ee_store *store, uint16_t address, uint32_t *value) {
-    ee_result status = begun_with(store, address, value);
-    if (status != EE_OK) { return status; }
-    const ReadResult answer = store_read(&store->memory.parts.store, address);
-    status = ended(answer.ok && answer.value.some ? EE_OK : EE_NOTHING, store);
-    if (status == EE_OK) { *value = answer.value.value; }
-    return status;
+    const ee_result refused = begun_with(store, address, value);
+    if (refused != EE_OK) { return refused; }
+    const MaybeU32 found = store_read(&store->memory.parts.store, address).value;
+    return told(found.some ? EE_OK : EE_NOTHING, store, found.value, value);
 }
 
 /* For how many addresses a look through the slots is made. */
 #define EE_WANTED 32u
 
 ee_result ee_load(const ee_store *store, ee_value *values, uint32_t count, uint32_t *loaded) {
-    ee_result status = begun_with_list(store, loaded == NULL ? NULL : values, count);
-    if (status != EE_OK) { return status; }
+    const ee_result refused = begun_with_list(store, loaded == NULL ? NULL : values, count);
+    if (refused != EE_OK) { return refused; }
     uint32_t found = 0u;
     uint32_t some = 0u;
     for (uint32_t from = 0u; from < count && power_of(store)->flash != NULL; from += some) {
@@ -230,9 +226,7 @@ ee_result ee_load(const ee_store *store, ee_value *values, uint32_t count, uint3
             found += wanted[at].value.some ? 1u : 0u;
         }
     }
-    status = ended(EE_OK, store);
-    if (status == EE_OK) { *loaded = found; }
-    return status;
+    return told(EE_OK, store, found, loaded);
 }
 
 /* By an index it is of the first address alone, since another look takes no more there. */
@@ -240,22 +234,11 @@ ee_result ee_read_span(const ee_store *store, uint16_t first, uint32_t count, ee
     const ee_result refused = begun_with(store, count == 0u ? 0u : first, span);
     if (refused != EE_OK) { return refused; }
     const Store *const it = &store->memory.parts.store;
-    span->first = first;
-    span->count = 1u;
-    span->there = 0u;
+    const Layout *const layout = &it->known.layout;
     if (it->known.lookup != NULL && !it->known.lookup->is_given_up) {
-        (void)ended(EE_OK, store);
-        const ee_result status = ee_read(store, first, span->values);
-        span->there = status == EE_OK ? 1u : 0u;
-        return status == EE_NOTHING ? (ee_result)EE_OK : status;
-    }
-    Span found;
-    read_span(&it->flash, &it->known.layout, first, count, &found);
-    span->count = (uint16_t)found.count;
-    for (uint32_t at = 0u; at < found.count; at++) {
-        const MaybeU32 value = span_get(&found, (Address)(first + at)).value;
-        span->there |= (value.some ? 1u : 0u) << at;
-        span->values[at] = value.value;
+        span_of_one(first, lookup_value_of(&it->known.lookup, &it->flash, layout, first), span);
+    } else {
+        read_span(&it->flash, layout, first, count, span);
     }
     return ended(EE_OK, store);
 }
@@ -265,11 +248,8 @@ ee_result ee_next(const ee_store *store, uint16_t *address, uint32_t *value) {
     ee_result status = begun_with(store, after == 0u ? 1u : after, address == NULL ? NULL : value);
     if (status != EE_OK) { return status; }
     const MaybeLive found = store_next_live(&store->memory.parts.store, address_new(after));
-    status = ended(found.some ? EE_OK : EE_NOTHING, store);
-    if (status == EE_OK) {
-        *address = found.value.first;
-        *value = found.value.second;
-    }
+    status = told(found.some ? EE_OK : EE_NOTHING, store, found.value.second, value);
+    if (status == EE_OK) { *address = found.value.first; }
     return status;
 }
 

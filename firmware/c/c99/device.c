@@ -36,8 +36,7 @@ EE_IN_PLACE const ee_flash *flash_with(const Device *device, uint32_t page, uint
 EE_APART uint64_t numbers_read(const Numbers *numbers, uint32_t page, uint32_t at) {
     const ee_flash *const flash = numbers->power->flash;
     uint64_t number;
-    if (flash == NULL || !is_read(numbers, flash, page, at, &number)) { return 0u; }
-    return number;
+    return flash != NULL && is_read(numbers, flash, page, at, &number) ? number : 0u;
 }
 
 /* So many words or numbers of a page from a place on, where C has them in memory; else no items. */

@@ -32,7 +32,7 @@ ROOTS = [
     *[("Slots", name) for name in LOOKUPS],
     *[("Store", name) for name in "write write_all forget clear clean_step read load next_live slots fill "
       "generation live_count pending torn_slots".split()],
-    ("span", "read_span"), ("Span", "get"),
+    ("span", "read_span"), ("Span", "of_one"),
     ("Pairs", "word"), ("Pairs", "run"), ("Pairs", "program"), ("state", "is_blank"), ("state", "blank_to"),
     ("Shape", "new"), ("Address", "new"),
 ]

@@ -183,10 +183,10 @@ static void spans(const ee_store *store, const map *m) {
     for (uint16_t first = 1; first <= ADDRESSES; first++) {
         ee_span span;
         CHECK(ee_read_span(store, first, count, &span) == EE_OK && span.first == first);
-        CHECK(span.count >= 1 && span.count <= count && span.count <= EE_SPAN && span.there >> span.count == 0);
+        CHECK(span.count >= 1 && span.count <= count && span.count <= EE_SPAN);
         for (uint32_t i = 0; i < span.count; i++) {
             uint32_t place = first - 1u + i, there = place < ADDRESSES && m->there[place];
-            CHECK((span.there >> i & 1) == there && (!there || span.values[i] == m->values[place]));
+            CHECK(((uint32_t)span.numbers[i] == first + i) == there && (!there || span.numbers[i] >> 32 == m->values[place]));
         }
     }
 }
