@@ -1,5 +1,6 @@
 -- Steps that went on, one after another.
-use Rattle.ee_core.proofs.Base.{◌≡◌, ◌≢◌, ◌⊎◌, inl, inr, ℕ, Bool, ap, false, true, sym, Result, Ok, Err, IsErr, OnOk, true≢false, Device, IsOff, IsOn, page_at, GoesOn, device_after, is_marked, marking, IsStep, step_keeps_other_pages, Mark, calls_compose, rules}
+use Rattle.ee_core.proofs.Words.{◌≡◌, ◌≢◌, ◌⊎◌, inl, inr, ℕ, Bool, ap, false, true, sym, Result, Ok, Err, IsErr, OnOk, true≢false, rules}
+use Rattle.ee_core.proofs.Sets.{Device, IsOff, IsOn, page_at, GoesOn, device_after, is_marked, marking, IsStep, step_keeps_other_pages, Mark, calls_compose}
 
 pub goes_on_same : (device : Device) → GoesOn device device
 goes_on_same _ = search rules

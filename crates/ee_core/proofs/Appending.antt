@@ -1,5 +1,7 @@
 -- What programming a change into the first free slot of the live set leaves.
-use Rattle.ee_core.proofs.Base.{rules, ◌≡◌, ◌≢◌, ◌⊎◌, inl, inr, ℕ, ◌+◌, ◌<◌, get_or, sym, ap, ◌∙◌, arith, Device, IsOn, all_ones, word_at, CanTake, IsStep, slot_count, Step, Program, IsCutIn, IsUntouched, MayFollow, device_after, Erased, step_leaves_pages, KeepsLiveSet, IsLayout, Layout, IsLive, Change, Map, SpellsChange, map_after, TakesSlot, slot_step, fill_of, first_page, other, page_of_slot, place_of_slot, set_of, slots_of, Side, erased_word, fill-front, slots_behind, step_keeps_other_pages, page_in_range, place_in_range, slot_at, push_takes, whole_push_takes, programmed_word, IsSameSet, KeepsMarks, map_change, map_in, number_written}
+use Rattle.ee_core.proofs.Words.{rules, ◌≡◌, ◌≢◌, ◌⊎◌, inl, inr, ℕ, ◌+◌, ◌<◌, get_or, sym, ap, ◌∙◌, arith}
+use Rattle.ee_core.proofs.Sets.{Device, IsOn, all_ones, word_at, CanTake, IsStep, slot_count, Step, Program, IsCutIn, IsUntouched, MayFollow, device_after, Erased, step_leaves_pages, KeepsLiveSet, IsLayout, Layout, IsLive, Change, Map, SpellsChange, map_after, TakesSlot, slot_step, fill_of, first_page, other, page_of_slot, place_of_slot, set_of, slots_of, Side, erased_word, fill-front, slots_behind, step_keeps_other_pages, page_in_range, place_in_range, slot_at, push_takes, whole_push_takes, programmed_word}
+use Rattle.ee_core.proofs.Calls.{IsSameSet, KeepsMarks, map_change, map_in, number_written}
 use Rattle.ee_core.proofs.Cuts.{program_partly}
 use Rattle.ee_core.specs.Appending.{MayTakeSlot, Pushed, PushedPartly}
 use Rattle.ee_core.specs.declared.change.Change as declared

@@ -1,5 +1,7 @@
 -- The steps of a clean step.
-use Rattle.ee_core.proofs.Base.{◌≡◌, ℕ, ◌+◌, ◌-◌, ◌<◌, ◌≤◌, true, false, List, [], ◌∷◌, length, take, set, refl, sym, subst, ap, ◌∙◌, arith, Device, IsFormed, page_at, Erase, Step, IsPageOf, is_blank, first_page, other, pending_of, set_of, Side, length-set_of, not_blank_from, not_blank_in}
+use Rattle.ee_core.proofs.Words.{◌≡◌, ℕ, ◌+◌, ◌-◌, ◌<◌, ◌≤◌, true, false, List, [], ◌∷◌, length, take, set, refl, sym, subst, ap, ◌∙◌, arith}
+use Rattle.ee_core.proofs.Sets.{Device, IsFormed, page_at, Erase, Step, IsPageOf, is_blank, first_page, other, pending_of, set_of, Side, length-set_of}
+use Rattle.ee_core.proofs.Calls.{not_blank_from, not_blank_in}
 use Rattle.std.specs.Prelude.{map}
 use Rattle.ee_core.specs.StepLists.{steps_to_clean}
 use Rattle.ee_flash.specs.Taking.{Completes}

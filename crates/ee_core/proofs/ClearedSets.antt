@@ -1,5 +1,7 @@
 -- The other set at the start of a transfer, whose pages are erased one after another.
-use Rattle.ee_core.proofs.Base.{◌≡◌, ◌⊎◌, ℕ, ◌+◌, ◌-◌, ◌<◌, ◌≤◌, true, false, [], ◌∷◌, length, take, get_or, subst, ap, arith, All, Device, IsFormed, page_at, IsPartlyErased, KeepsSide, is_blank, first_page, other, set_of, Side, keeps_side_both, length-set_of, IsSameBut, ErasesPartly, Wears, not_blank_from, not_blank_in, rules}
+use Rattle.ee_core.proofs.Words.{◌≡◌, ◌⊎◌, ℕ, ◌+◌, ◌-◌, ◌<◌, ◌≤◌, true, false, [], ◌∷◌, length, take, get_or, subst, ap, arith, All, rules}
+use Rattle.ee_core.proofs.Sets.{Device, IsFormed, page_at, IsPartlyErased, KeepsSide, is_blank, first_page, other, set_of, Side, keeps_side_both, length-set_of}
+use Rattle.ee_core.proofs.Calls.{IsSameBut, ErasesPartly, Wears, not_blank_from, not_blank_in}
 use Rattle.ee_core.proofs.Cuts.{erases_partly}
 use Rattle.ee_core.proofs.ErasedPages.{all_wear, wears_next, wears_to}
 use Rattle.ee_core.proofs.FormatFacts.{BlanksPage}

@@ -1,5 +1,7 @@
 -- The marks behind a commit, from those that an opening would set.
-use Rattle.ee_core.proofs.Base.{◌≡◌, ℕ, ◌+◌, ◌-◌, ◌<◌, Bool, true, false, cond, List, [], ◌∷◌, ◌++◌, length, refl, sym, subst, ap, ◌∙◌, arith, suc, zero, flat_map, ◌==◌, ◌&&◌, Device, IsFormed, page_at, Size, Step, Word, is_marked, is_written, marking, first_page, page_of_slot, Side, Active, Erasing, Valid, IsCommittedWith, mark_where, opened_set, IsDrawn, IsSameSet, picture_of}
+use Rattle.ee_core.proofs.Words.{◌≡◌, ℕ, ◌+◌, ◌-◌, ◌<◌, Bool, true, false, cond, List, [], ◌∷◌, ◌++◌, length, refl, sym, subst, ap, ◌∙◌, arith, suc, zero, flat_map, ◌==◌, ◌&&◌}
+use Rattle.ee_core.proofs.Sets.{Device, IsFormed, page_at, Size, Step, Word, is_marked, is_written, marking, first_page, page_of_slot, Side, Active, Erasing, Valid}
+use Rattle.ee_core.proofs.Calls.{IsCommittedWith, mark_where, opened_set, IsDrawn, IsSameSet, picture_of}
 use Rattle.std.specs.List.{range_with_len}
 use Rattle.ee_core.specs.StepLists.{steps_to_close, steps_to_mark, steps_to_mark_live, steps_to_retire}
 use Rattle.ee_core.proofs.Taken.{in_set, retire_words}

@@ -1,5 +1,7 @@
 -- Maps that are copied address by address, and how many addresses have a value in them.
-use Rattle.ee_core.proofs.Base.{◌≡◌, inl, inr, ℕ, ◌<◌, ◌≤◌, Bool, true, false, Some, None, List, [], ◌∷◌, ◌++◌, refl, sym, ap, ◌∙◌, arith, suc, zero, ◌||◌, ◌==◌, fun_ext, cases_Bool, Change, Forget, Map, Put, changed_by, map_after, live_in, live_to, IsNextLive, live_to-zero, live_to-suc, address_of, map_to, replaced_map, HasChange, map_without, names, neither, rules}
+use Rattle.ee_core.proofs.Words.{◌≡◌, inl, inr, ℕ, ◌<◌, ◌≤◌, Bool, true, false, Some, None, List, [], ◌∷◌, ◌++◌, refl, sym, ap, ◌∙◌, arith, suc, zero, ◌||◌, ◌==◌, fun_ext, cases_Bool, rules}
+use Rattle.ee_core.proofs.Sets.{Change, Forget, Map, Put, changed_by, map_after, live_in, live_to, IsNextLive, live_to-zero, live_to-suc, address_of, neither}
+use Rattle.ee_core.proofs.Calls.{map_to, replaced_map, HasChange, map_without, names}
 
 -- maps that say the same have as many addresses with a value
 pub same_counts : (first second : Map) → ((address : ℕ) → first address ≡ second address)

@@ -1,5 +1,7 @@
 -- The elements of the addresses that are copied, address by address.
-use Rattle.ee_core.proofs.Base.{◌≡◌, inl, inr, ℕ, ◌<◌, ◌≤◌, true, false, Some, None, List, [], ◌∷◌, ◌++◌, refl, ap, ◌∙◌, arith, suc, zero, append-nil, cases_lt, element, Held, Change, Map, IsNextLive, element_at, elements_of, map_without, names, rules}
+use Rattle.ee_core.proofs.Words.{◌≡◌, inl, inr, ℕ, ◌<◌, ◌≤◌, true, false, Some, None, List, [], ◌∷◌, ◌++◌, refl, ap, ◌∙◌, arith, suc, zero, append-nil, cases_lt, rules}
+use Rattle.ee_core.proofs.Sets.{element, Held, Change, Map, IsNextLive}
+use Rattle.ee_core.proofs.Calls.{element_at, elements_of, map_without, names}
 use Rattle.ee_core.proofs.CopiedMaps.{without-at, without-other}
 use Rattle.ee_core.specs.Picture.{elements_to}
 

@@ -1,5 +1,6 @@
 -- Live addresses that are gone over in batches.
-use Rattle.ee_core.proofs.Base.{◌≡◌, inl, inr, ℕ, ◌+◌, ◌<◌, ◌≤◌, Option, Some, None, List, [], ◌∷◌, length, drop, take, get_or, refl, sym, subst, ap, ◌∙◌, arith, suc, zero, cases_lt, drop_all, drop_more, All-head, All-tail, All, IfSome, IsAddress, Map, AreLiveThrough, IsNextLive, IsNoneLive, last_of}
+use Rattle.ee_core.proofs.Words.{◌≡◌, inl, inr, ℕ, ◌+◌, ◌<◌, ◌≤◌, Option, Some, None, List, [], ◌∷◌, length, drop, take, get_or, refl, sym, subst, ap, ◌∙◌, arith, suc, zero, cases_lt, drop_all, drop_more, All-head, All-tail, All, IfSome}
+use Rattle.ee_core.proofs.Sets.{IsAddress, Map, AreLiveThrough, IsNextLive, IsNoneLive, last_of}
 use Rattle.ee_core.specs.Course.{GoesOver}
 
 module _ (map : Map) (from above : ℕ) (none : IsNoneLive map from (Some above)) where

@@ -1,5 +1,7 @@
 -- What a cut in a change leaves of the map.
-use Rattle.ee_core.proofs.Base.{◌⊎◌, inl, inr, ◌≤◌, length, filter, ◌≡◌, ℕ, Option, Some, None, List, [], ◌∷◌, ap, arith, count_by-le-length, length-filter, Device, IsFormed, IsCut, length-slots, Change, changed_by, map_after, is_written, live_of, set_of, slots_of, Side, IsCutAppend, IsCutChange, IsCutMaking, IsCutMove, State, capacity, state_in, state_of, rules}
+use Rattle.ee_core.proofs.Words.{◌⊎◌, inl, inr, ◌≤◌, length, filter, ◌≡◌, ℕ, Option, Some, None, List, [], ◌∷◌, ap, arith, count_by-le-length, length-filter, rules}
+use Rattle.ee_core.proofs.Sets.{Device, IsFormed, IsCut, length-slots, Change, changed_by, map_after, is_written, live_of, set_of, slots_of, Side}
+use Rattle.ee_core.proofs.Calls.{IsCutAppend, IsCutChange, IsCutMaking, IsCutMove, State, capacity, state_in, state_of}
 
 fill_in : (device : Device) (live : Option (Side × ℕ)) → IsFormed device
     → (state_in device live).fill ≤ capacity device

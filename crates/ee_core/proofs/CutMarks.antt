@@ -1,5 +1,7 @@
 -- What is drawn where power was cut in setting marks, and in an append.
-use Rattle.ee_core.proofs.Base.{rules, ◌≡◌, inl, inr, ℕ, ◌+◌, ◌-◌, ◌<◌, ◌≤◌, Bool, false, true, true≢false, refl, sym, subst, ap, ◌∙◌, arith, ◌&&◌, nat_lt, not, Device, IsFormed, page_at, Size, Held, IsPageOf, IsLive, is_blank, is_marked, is_written, place_of_mark, word_in, first_page, other, page_of_slot, place_of_slot, Side, Active, Erasing, Valid, IsSameBut, IsSameSet, KeepsMarks, SetsMark, Stays, IsDrawnPartly, PutsPartly, SetsPartly, IsOldMarked, last_used, ShowsCutMarks, IsDrawn, Picture, is_used, marked_to, picture_of, retired_pages, with_change}
+use Rattle.ee_core.proofs.Words.{rules, ◌≡◌, inl, inr, ℕ, ◌+◌, ◌-◌, ◌<◌, ◌≤◌, Bool, false, true, true≢false, refl, sym, subst, ap, ◌∙◌, arith, ◌&&◌, nat_lt, not}
+use Rattle.ee_core.proofs.Sets.{Device, IsFormed, page_at, Size, Held, IsPageOf, IsLive, is_blank, is_marked, is_written, place_of_mark, word_in, first_page, other, page_of_slot, place_of_slot, Side, Active, Erasing, Valid}
+use Rattle.ee_core.proofs.Calls.{IsSameBut, IsSameSet, KeepsMarks, SetsMark, Stays, IsDrawnPartly, PutsPartly, SetsPartly, IsOldMarked, last_used, ShowsCutMarks, IsDrawn, Picture, is_used, marked_to, picture_of, retired_pages, with_change}
 use Rattle.ee_core.proofs.Cuts.{IsOnTheWay, drawn_before, drawn_between, drawn_whole, mark_drawn_partly, put_partly}
 use Rattle.ee_core.proofs.Drawings.{active_last, mark_drawn, drawn_as, retired_more, same_drawn, valid_drawn, valid_more, valid_to, with_mark, with_word-elsewhere}
 use Rattle.ee_core.proofs.LiveMarks.{IsPageDone, MarksPage, done_more, stays_both}

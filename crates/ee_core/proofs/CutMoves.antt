@@ -1,5 +1,7 @@
 -- What is drawn where power was cut in filling a set, and in committing it.
-use Rattle.ee_core.proofs.Base.{rules, ◌≡◌, suc, zero, append-nil, inl, inr, ℕ, ◌+◌, ◌-◌, ◌<◌, ◌≤◌, true, List, [], ◌∷◌, ◌++◌, length, refl, sym, subst, ap, ◌∙◌, arith, append_assoc, length-append, cases_lt, lt-ltb, get_or_append_left, get_or_past, le-div, Device, IsFormed, Size, Word, Erased, slots_before, first_page, other, page_of_slot, place_of_slot, Layout, Side, First, Second, is_blank, All, All-drop, All-take, FormatsPartly, not_blank_pages, Wears, Active, Receive, AddsWords, Holds, SetsMark, opened_set, AddsPartly, FillsPartly, IsDrawnPartly, PutsPartly, SetsPartly, Map, IsDrawn, blank_picture, element_at, elements_to, filled_set, is_used, marked_to, picture_of, retired_pages}
+use Rattle.ee_core.proofs.Words.{rules, ◌≡◌, suc, zero, append-nil, inl, inr, ℕ, ◌+◌, ◌-◌, ◌<◌, ◌≤◌, true, List, [], ◌∷◌, ◌++◌, length, refl, sym, subst, ap, ◌∙◌, arith, append_assoc, length-append, cases_lt, lt-ltb, get_or_append_left, get_or_past, le-div, All, All-drop, All-take}
+use Rattle.ee_core.proofs.Sets.{Device, IsFormed, Size, Word, Erased, slots_before, first_page, other, page_of_slot, place_of_slot, Layout, Side, First, Second, is_blank, Active, Receive, Map}
+use Rattle.ee_core.proofs.Calls.{FormatsPartly, not_blank_pages, Wears, AddsWords, Holds, SetsMark, opened_set, AddsPartly, FillsPartly, IsDrawnPartly, PutsPartly, SetsPartly, IsDrawn, blank_picture, element_at, elements_to, filled_set, is_used, marked_to, picture_of, retired_pages}
 use Rattle.ee_core.proofs.Cuts.{IsOnTheWay, drawn_between, mark_drawn_partly, put_apart_partly, put_partly}
 use Rattle.ee_core.proofs.Drawings.{drawn_both, put_apart}
 use Rattle.ee_core.proofs.FilledSets.{near, one_word_more, opens_further}

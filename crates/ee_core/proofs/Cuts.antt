@@ -1,5 +1,7 @@
 -- What a cut step leaves of the words, and how that goes together over a call.
-use Rattle.ee_core.proofs.Base.{rules, ◌≡◌, ◌≢◌, ◌⊎◌, inl, inr, ℕ, ◌+◌, ◌<◌, ◌≤◌, true, List, set, refl, sym, subst, ap, ◌∙◌, arith, Device, IsFormed, page_at, word_at, page_count, Step, Program, Erase, IsCutIn, IsPartlyErased, IsUntouched, Word, Erased, Held, is_blank, is_marked, marking, place_of_mark, first_page, other, Side, Mark, erased_word, IsPageOf, IsSameBut, PutsWord, ErasesPartly, IsDrawnPartly, IsPartlyDone, PutsPartly, SetsPartly, IsDrawn, Picture, marked_word, picture_of, picture_with_word, WearsTo, not_blank_from}
+use Rattle.ee_core.proofs.Words.{rules, ◌≡◌, ◌≢◌, ◌⊎◌, inl, inr, ℕ, ◌+◌, ◌<◌, ◌≤◌, true, List, set, refl, sym, subst, ap, ◌∙◌, arith}
+use Rattle.ee_core.proofs.Sets.{Device, IsFormed, page_at, word_at, page_count, Step, Program, Erase, IsCutIn, IsPartlyErased, IsUntouched, Word, Erased, Held, is_blank, is_marked, marking, place_of_mark, first_page, other, Side, Mark, erased_word, IsPageOf}
+use Rattle.ee_core.proofs.Calls.{IsSameBut, PutsWord, ErasesPartly, IsDrawnPartly, IsPartlyDone, PutsPartly, SetsPartly, IsDrawn, Picture, marked_word, picture_of, picture_with_word, WearsTo, not_blank_from}
 use Rattle.ee_core.proofs.Drawings.{marked-erased, put_apart, put_drawn, with_mark, with_word-elsewhere, with_word-there}
 use Rattle.ee_core.proofs.Marks.{place_below}
 

@@ -1,5 +1,7 @@
 -- Pictures of sets: what a word that is put into a page, or a mark that is set, leaves of them.
-use Rattle.ee_core.proofs.Base.{rules, ◌≡◌, ◌≢◌, ◌⊎◌, inl, inr, ℕ, ◌+◌, ◌<◌, Bool, true, false, refl, ap, ◌∙◌, ◌==◌, ◌&&◌, nat_lt, if◌then◌else◌, cases_Bool, eq-eqb, lt-ltb, ne_eqb, Device, IsFormed, page_count, device_after, with_word_programmed, Word, Erased, Held, Torn, IsPageOf, is_marked, is_written, marking, number_of_mark, place_of_mark, first_page, other, Side, Mark, Active, Erasing, Valid, IsSameSet, PutsWord, SetsMark, IsDrawn, Picture, marked_word, marked_to, picture_of, retired_pages, picture_with_word}
+use Rattle.ee_core.proofs.Words.{rules, ◌≡◌, ◌≢◌, ◌⊎◌, inl, inr, ℕ, ◌+◌, ◌<◌, Bool, true, false, refl, ap, ◌∙◌, ◌==◌, ◌&&◌, nat_lt, if◌then◌else◌, cases_Bool, eq-eqb, lt-ltb, ne_eqb}
+use Rattle.ee_core.proofs.Sets.{Device, IsFormed, page_count, device_after, with_word_programmed, Word, Erased, Held, Torn, IsPageOf, is_marked, is_written, marking, number_of_mark, place_of_mark, first_page, other, Side, Mark, Active, Erasing, Valid}
+use Rattle.ee_core.proofs.Calls.{IsSameSet, PutsWord, SetsMark, IsDrawn, Picture, marked_word, marked_to, picture_of, retired_pages, picture_with_word}
 use Rattle.ee_core.proofs.SetPages.{apart, same_page}
 use Rattle.ee_core.proofs.Marks.{place_below}
 

@@ -1,6 +1,8 @@
 -- What a call did in which power was not cut: one of four things, whatever it was
 -- asked and answered.
-use Rattle.ee_core.proofs.Base.{◌≡◌, Bool, true, false, Ok, Err, List, [], ◌∷◌, refl, Device, Change, Put, Forget, ErasesOne, Appends, Moves, each_forgotten, puts_of}
+use Rattle.ee_core.proofs.Words.{◌≡◌, Bool, true, false, Ok, Err, List, [], ◌∷◌, refl}
+use Rattle.ee_core.proofs.Sets.{Device, Change, Put, Forget}
+use Rattle.ee_core.proofs.Calls.{ErasesOne, Appends, Moves, each_forgotten, puts_of}
 use Rattle.ee_core.proofs.Emptying.{clear_moves}
 use Rattle.ee_core.specs.declared.variables.WriteAllFault.TheVariants as all
 use Rattle.ee_core.specs.Runs.{Call, Wrote, WroteAll, Forgot, Cleared, Cleaned, DidRead, Follows, changes_of_call, is_cut, is_transfer}

@@ -1,5 +1,7 @@
 -- What a clear makes of a state, whole or cut, from what its transfer leaves.
-use Rattle.ee_core.proofs.Base.{◌≡◌, ◌⊎◌, inl, inr, ℕ, ◌+◌, ◌≤◌, Some, None, List, [], ◌∷◌, refl, sym, subst, ap, ◌∙◌, fun_ext, Device, GoesOn, IsCut, KeepsLiveSet, IsLive, Change, Forget, changed_by, live_in, meaning, first_page, live_of, other, pending_of, set_of, slots_of, Side, HasMoved, Moves, ErasesPartly, MovesPartly, IsDrawn, filled_set, is_used, moved_words, picture_of, retired_pages, each_forgotten, Wears, not_blank_in, state_of, with_pending, used_pages_in, used_pages_of, rules}
+use Rattle.ee_core.proofs.Words.{◌≡◌, ◌⊎◌, inl, inr, ℕ, ◌+◌, ◌≤◌, Some, None, List, [], ◌∷◌, refl, sym, subst, ap, ◌∙◌, fun_ext, rules}
+use Rattle.ee_core.proofs.Sets.{Device, GoesOn, IsCut, KeepsLiveSet, IsLive, Change, Forget, changed_by, live_in, meaning, first_page, live_of, other, pending_of, set_of, slots_of, Side}
+use Rattle.ee_core.proofs.Calls.{HasMoved, Moves, ErasesPartly, MovesPartly, IsDrawn, filled_set, is_used, moved_words, picture_of, retired_pages, each_forgotten, Wears, not_blank_in, state_of, with_pending, used_pages_in, used_pages_of}
 use Rattle.ee_core.proofs.Making.{pending_was}
 use Rattle.ee_core.proofs.Nothing.{all_forgotten, none_live, none_moved}
 use Rattle.ee_core.proofs.States.{state_is, state_kept, state_moved}

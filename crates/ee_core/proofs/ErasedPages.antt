@@ -1,5 +1,7 @@
 -- What a look over pages erases, which erases those that are not blank.
-use Rattle.ee_core.proofs.Base.{◌≡◌, ℕ, ◌+◌, ◌<◌, ◌++◌, true, false, List, [], ◌∷◌, length, take, drop, get_or, refl, subst, ap, ◌∙◌, take-length, append_assoc, Device, page_at, Word, is_blank, Wears, WearsTo, not_blank_from, rules}
+use Rattle.ee_core.proofs.Words.{◌≡◌, ℕ, ◌+◌, ◌<◌, ◌++◌, true, false, List, [], ◌∷◌, length, take, drop, get_or, refl, subst, ap, ◌∙◌, take-length, append_assoc, rules}
+use Rattle.ee_core.proofs.Sets.{Device, page_at, Word, is_blank}
+use Rattle.ee_core.proofs.Calls.{Wears, WearsTo, not_blank_from}
 use Rattle.ee_core.proofs.NotBlank.{named, not_blank_more, not_blank_rest}
 use Rattle.ee_core.proofs.Wears.{wears_both, wears_none}
 

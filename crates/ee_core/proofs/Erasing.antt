@@ -1,5 +1,7 @@
 -- What erasing a page of the set that is not live leaves.
-use Rattle.ee_core.proofs.Base.{◌≡◌, ◌⊎◌, inl, ℕ, ◌<◌, false, length, arith, Device, IsFormed, IsOn, page_at, IsStep, Erase, IsCutIn, IsUntouched, MayFollow, with_page_erased, IsPageOf, KeepsSide, is_blank, other, Side, other_set_keeps_side, erase_lowers_pending, step_keeps_other_pages, whole_erase_lowers_pending, IsSameBut, PageErased, PageErasedPartly, rules}
+use Rattle.ee_core.proofs.Words.{◌≡◌, ◌⊎◌, inl, ℕ, ◌<◌, false, length, arith, rules}
+use Rattle.ee_core.proofs.Sets.{Device, IsFormed, IsOn, page_at, IsStep, Erase, IsCutIn, IsUntouched, MayFollow, with_page_erased, IsPageOf, KeepsSide, is_blank, other, Side, other_set_keeps_side, erase_lowers_pending, step_keeps_other_pages, whole_erase_lowers_pending}
+use Rattle.ee_core.proofs.Calls.{IsSameBut, PageErased, PageErasedPartly}
 use Rattle.ee_core.proofs.Cuts.{erase_partly}
 use Rattle.ee_core.proofs.SetPages.{page_of_device}
 use Rattle.ee_core.proofs.Wears.{cut_page_wears, page_wears}

@@ -1,5 +1,7 @@
 -- How the picture of a set that a transfer fills grows, to that of the set that is live afterwards.
-use Rattle.ee_core.proofs.Base.{rules, ◌≡◌, ◌≢◌, ◌⊎◌, inl, inr, ℕ, ◌+◌, ◌-◌, ◌%◌, ◌<◌, List, [], ◌∷◌, ◌++◌, length, get_or, refl, sym, subst, ap, ◌∙◌, arith, append_assoc, length-append, get_or-append_seam, cases_eq, cases_lt, lt-ltb, get_or_append_left, get_or_past, div-mul-add, mod-mul-add, Device, IsFormed, Size, Word, Erased, Held, IsFilling, slots_before, first_page, other, page_of_slot, place_of_slot, Side, Receive, keeps_side_same, split_by, Layout, AddsWords, Holds, PutsWord, SetsMark, number_written, opened_set, IsDrawn, picture_with_word}
+use Rattle.ee_core.proofs.Words.{rules, ◌≡◌, ◌≢◌, ◌⊎◌, inl, inr, ℕ, ◌+◌, ◌-◌, ◌%◌, ◌<◌, List, [], ◌∷◌, ◌++◌, length, get_or, refl, sym, subst, ap, ◌∙◌, arith, append_assoc, length-append, get_or-append_seam, cases_eq, cases_lt, lt-ltb, get_or_append_left, get_or_past, div-mul-add, mod-mul-add}
+use Rattle.ee_core.proofs.Sets.{Device, IsFormed, Size, Word, Erased, Held, IsFilling, slots_before, first_page, other, page_of_slot, place_of_slot, Side, Receive, keeps_side_same, split_by, Layout}
+use Rattle.ee_core.proofs.Calls.{AddsWords, Holds, PutsWord, SetsMark, number_written, opened_set, IsDrawn, picture_with_word}
 use Rattle.ee_core.proofs.Drawings.{drawn_as, drawn_same, mark_drawn, put_drawn, with_mark, with_word-elsewhere, with_word-there}
 use Rattle.ee_core.proofs.OpenedPages.{next_place, same_place}
 use Rattle.ee_core.specs.Transfers.{OpensForSlot, PutsInSlot}

@@ -1,5 +1,7 @@
 -- The steps that fill a set, word by word.
-use Rattle.ee_core.proofs.Base.{◌≡◌, ◌≢◌, inr, ℕ, ◌+◌, ◌-◌, ◌%◌, ◌<◌, List, [], ◌∷◌, ◌++◌, length, sym, subst, ap, ◌∙◌, arith, length-append, Device, IsFormed, Size, Step, Word, Held, slot_count, first_page, other, page_of_slot, Side, Receive, slot_step, AddsWords, Holds}
+use Rattle.ee_core.proofs.Words.{◌≡◌, ◌≢◌, inr, ℕ, ◌+◌, ◌-◌, ◌%◌, ◌<◌, List, [], ◌∷◌, ◌++◌, length, sym, subst, ap, ◌∙◌, arith, length-append}
+use Rattle.ee_core.proofs.Sets.{Device, IsFormed, Size, Step, Word, Held, slot_count, first_page, other, page_of_slot, Side, Receive, slot_step}
+use Rattle.ee_core.proofs.Calls.{AddsWords, Holds}
 use Rattle.ee_core.specs.StepLists.{steps_to_fill, steps_to_mark, steps_to_receive}
 use Rattle.ee_flash.specs.Taking.{Completes, StopsAmong}
 use Rattle.ee_core.specs.Transfers.{AddsSteps, AddsStepsPartly}

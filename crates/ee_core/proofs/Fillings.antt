@@ -1,5 +1,7 @@
 -- What the parts of a transfer leave in the set that it fills, one after another.
-use Rattle.ee_core.proofs.Base.{rules, ◌≡◌, inl, inr, ℕ, ◌+◌, ◌<◌, ◌≤◌, Bool, true, false, cond, Some, None, List, [], ◌∷◌, ◌++◌, length, get_or, take, drop, refl, sym, subst, ap, ◌∙◌, arith, suc, length-append, ◌==◌, ◌||◌, fun_ext, cases_Bool, length-take-le, take-append-drop, take_all, take_more, element, Device, slot_count, Word, Held, Change, Forget, Map, Put, changed_by, map_after, live_in, IsNextLive, other, Layout, map_in, replaced_map, elements_of, elements_to, map_without, moved_words, put_words, AreApart, changes_of_puts, forgets_of, names, puts_of, Place, keeps_side_both, keeps_side_same}
+use Rattle.ee_core.proofs.Words.{rules, ◌≡◌, inl, inr, ℕ, ◌+◌, ◌<◌, ◌≤◌, Bool, true, false, cond, Some, None, List, [], ◌∷◌, ◌++◌, length, get_or, take, drop, refl, sym, subst, ap, ◌∙◌, arith, suc, length-append, ◌==◌, ◌||◌, fun_ext, cases_Bool, length-take-le, take-append-drop, take_all, take_more}
+use Rattle.ee_core.proofs.Sets.{element, Device, slot_count, Word, Held, Change, Forget, Map, Put, changed_by, map_after, live_in, IsNextLive, other, Layout, keeps_side_both, keeps_side_same}
+use Rattle.ee_core.proofs.Calls.{map_in, replaced_map, elements_of, elements_to, map_without, moved_words, put_words, AreApart, changes_of_puts, forgets_of, names, puts_of, Place}
 use Rattle.ee_core.specs.Transfers.{Filled, FilledPartly, IsNewlyOpened, IsOpenAt}
 use Rattle.ee_core.specs.declared.change.Put as listed
 use Rattle.ee_core.proofs.CopiedMaps.{at_first, at_last, changed_by-append, changed_by-other, copied_to, nothing, passed, so_far, then_all}

@@ -1,5 +1,7 @@
 -- How a blank device gets its first set.
-use Rattle.ee_core.proofs.Base.{rules, ◌≡◌, ◌<◌, inl, ℕ, ◌-◌, ◌/◌, true, false, None, List, [], ◌∷◌, refl, sym, subst, ap, ◌∙◌, arith, suc, All, zero-div, All-drop, All-get_or, All-take, Device, IsFormed, IsOn, IsStep, page_count, device_after, Word, Erased, step_changes_one_page, IsCommitted, IsFilling, IsLayout, meaning, is_blank, is_marked, is_written, marking, committed_generation, fill_of, pending_of, set_of, slots_of, word_of, First, Second, Mark, Active, Receive, blank_word, first_commit_commits, first_word, same_set, page_of_set, length-set_of, opens_set, erased_word, IsMarked, last_used, formatted_state, state_of}
+use Rattle.ee_core.proofs.Words.{rules, ◌≡◌, ◌<◌, inl, ℕ, ◌-◌, ◌/◌, true, false, None, List, [], ◌∷◌, refl, sym, subst, ap, ◌∙◌, arith, suc, All, zero-div, All-drop, All-get_or, All-take}
+use Rattle.ee_core.proofs.Sets.{Device, IsFormed, IsOn, IsStep, page_count, device_after, Word, Erased, step_changes_one_page, IsCommitted, IsFilling, IsLayout, meaning, is_blank, is_marked, is_written, marking, committed_generation, fill_of, pending_of, set_of, slots_of, word_of, First, Second, Mark, Active, Receive, blank_word, first_commit_commits, first_word, same_set, page_of_set, length-set_of, opens_set, erased_word}
+use Rattle.ee_core.proofs.Calls.{IsMarked, last_used, formatted_state, state_of}
 use Rattle.ee_core.proofs.Marks.{IsProper, mark_step, marked_by}
 use Rattle.ee_core.proofs.States.{same_states, state_is}
 

@@ -1,5 +1,7 @@
 -- What formatting does: it erases what is not blank, and then commits the first set.
-use Rattle.ee_core.proofs.Base.{◌≡◌, ℕ, ◌+◌, ◌<◌, ◌≤◌, true, false, [], length, replicate, refl, ap, ◌∙◌, arith, All, get_or-replicate, get_or-set_other, get_or-set_same, length-replicate, All-from_get_or, Device, IsFormed, IsOn, page_at, page_count, with_page_erased, Erased, is_blank, is_written, blank_page, IsSameBut, Wears, rules}
+use Rattle.ee_core.proofs.Words.{◌≡◌, ℕ, ◌+◌, ◌<◌, ◌≤◌, true, false, [], length, replicate, refl, ap, ◌∙◌, arith, All, get_or-replicate, get_or-set_other, get_or-set_same, length-replicate, All-from_get_or, rules}
+use Rattle.ee_core.proofs.Sets.{Device, IsFormed, IsOn, page_at, page_count, with_page_erased, Erased, is_blank, is_written, blank_page}
+use Rattle.ee_core.proofs.Calls.{IsSameBut, Wears}
 use Rattle.ee_core.proofs.ErasedPages.{blank_wears, written_wears}
 use Rattle.ee_core.proofs.NotBlank.{named}
 use Rattle.ee_core.proofs.Wears.{page_wears}

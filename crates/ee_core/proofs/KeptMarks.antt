@@ -1,5 +1,7 @@
 -- Which marks are there still where pages are as before.
-use Rattle.ee_core.proofs.Base.{rules, ◌≡◌, ℕ, ◌+◌, ◌-◌, ◌<◌, ◌≤◌, true, sym, subst, ap, ◌∙◌, arith, count_by-le-length, length-filter, Device, IsFormed, page_at, slot_count, is_blank, is_marked, fill_of, first_page, other, page_of_slot, set_of, slots_of, Side, Mark, Active, Valid, length-slots, page_in_range, slot_below, IsReady, IsSameBut, IsSameSet, KeepsMarks, IsLiveMarked, IsMarked, IsOldMarked, last_used}
+use Rattle.ee_core.proofs.Words.{rules, ◌≡◌, ℕ, ◌+◌, ◌-◌, ◌<◌, ◌≤◌, true, sym, subst, ap, ◌∙◌, arith, count_by-le-length, length-filter}
+use Rattle.ee_core.proofs.Sets.{Device, IsFormed, page_at, slot_count, is_blank, is_marked, fill_of, first_page, other, page_of_slot, set_of, slots_of, Side, Mark, Active, Valid, length-slots, page_in_range, slot_below}
+use Rattle.ee_core.proofs.Calls.{IsReady, IsSameBut, IsSameSet, KeepsMarks, IsLiveMarked, IsMarked, IsOldMarked, last_used}
 use Rattle.ee_core.proofs.SetPages.{same_page}
 
 pub fill_fits : (side : Side) (device : Device) → IsFormed device

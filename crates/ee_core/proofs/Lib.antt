@@ -1,4 +1,6 @@
-mod Base
+mod Words
+mod Sets
+mod Calls
 mod SetPages
 mod Wears
 mod NotBlank

@@ -1,6 +1,8 @@
 -- Lists of values that are put: an address that is listed twice, and lists in which
 -- each is listed once.
-use Rattle.ee_core.proofs.Base.{◌≡◌, ℕ, false, Option, Some, None, List, [], ◌∷◌, take, refl, ap, ◌∙◌, suc, ◌==◌, ◌||◌, slice_get, All, ne_eqb, All-head, All-tail, IsAddress, AreApart, IsEachOnce, ListsAreThere, is_put, is_put_again, names, puts_of, Put, map_after, neither}
+use Rattle.ee_core.proofs.Words.{◌≡◌, ℕ, false, Option, Some, None, List, [], ◌∷◌, take, refl, ap, ◌∙◌, suc, ◌==◌, ◌||◌, slice_get, All, ne_eqb, All-head, All-tail}
+use Rattle.ee_core.proofs.Sets.{IsAddress, Put, map_after, neither}
+use Rattle.ee_core.proofs.Calls.{AreApart, IsEachOnce, ListsAreThere, is_put, is_put_again, names, puts_of}
 use Rattle.ee_core.specs.declared.change.Put as listed
 use Rattle.ee_core.proofs.CopiedMaps.{apart, changed_by-other, put-at}
 

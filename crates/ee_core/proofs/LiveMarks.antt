@@ -1,5 +1,7 @@
 -- The marks that an opening sets in the live set and in the other one, page after page.
-use Rattle.ee_core.proofs.Base.{rules, ◌≡◌, ◌⊎◌, inl, inr, ℕ, ◌+◌, ◌-◌, ◌<◌, ◌≤◌, true, false, refl, sym, subst, ap, ◌∙◌, arith, cases_lt, Device, page_at, IsLayout, IsLive, is_blank, is_marked, IsMarkBehind, fill_of, first_page, page_of_slot, set_of, slots_of, Layout, Side, Mark, Active, Valid, Erasing, page_in_range, slot_below, IsSameBut, KeepsMarks, SetsMark, Stays, IsLiveMarked, last_used}
+use Rattle.ee_core.proofs.Words.{rules, ◌≡◌, ◌⊎◌, inl, inr, ℕ, ◌+◌, ◌-◌, ◌<◌, ◌≤◌, true, false, refl, sym, subst, ap, ◌∙◌, arith, cases_lt}
+use Rattle.ee_core.proofs.Sets.{Device, page_at, IsLayout, IsLive, is_blank, is_marked, IsMarkBehind, fill_of, first_page, page_of_slot, set_of, slots_of, Layout, Side, Mark, Active, Valid, Erasing, page_in_range, slot_below}
+use Rattle.ee_core.proofs.Calls.{IsSameBut, KeepsMarks, SetsMark, Stays, IsLiveMarked, last_used}
 use Rattle.ee_core.proofs.SetPages.{first_below}
 use Rattle.ee_core.proofs.Marks.{same_stays}
 use Rattle.ee_core.proofs.KeptMarks.{fill_fits}

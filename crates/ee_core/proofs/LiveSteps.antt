@@ -1,5 +1,7 @@
 -- The steps that mark a live set, whose valid marks a loop sets first.
-use Rattle.ee_core.proofs.Base.{◌≡◌, ◌⊎◌, inl, inr, ℕ, ◌+◌, ◌-◌, ◌<◌, ◌≤◌, Bool, true, false, cond, List, [], ◌∷◌, ◌++◌, refl, sym, subst, ap, ◌∙◌, arith, suc, zero, flat_map, Device, IsFormed, page_at, Step, is_blank, is_marked, is_written, marking, place_of_mark, word_in, first_page, other, Side, Active, Erasing, Valid, IsLiveMarked, IsMarked, last_used}
+use Rattle.ee_core.proofs.Words.{◌≡◌, ◌⊎◌, inl, inr, ℕ, ◌+◌, ◌-◌, ◌<◌, ◌≤◌, Bool, true, false, cond, List, [], ◌∷◌, ◌++◌, refl, sym, subst, ap, ◌∙◌, arith, suc, zero, flat_map}
+use Rattle.ee_core.proofs.Sets.{Device, IsFormed, page_at, Step, is_blank, is_marked, is_written, marking, place_of_mark, word_in, first_page, other, Side, Active, Erasing, Valid}
+use Rattle.ee_core.proofs.Calls.{IsLiveMarked, IsMarked, last_used}
 use Rattle.std.specs.List.{range_with_len}
 use Rattle.ee_core.specs.StepLists.{steps_to_finish, steps_to_mark, steps_to_mark_live, steps_to_retire}
 use Rattle.ee_flash.specs.Taking.{Completes, StopsAmong}

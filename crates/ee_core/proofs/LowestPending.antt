@@ -1,5 +1,7 @@
 -- The lowest page that waits to be erased, from a look over the pages of the other set.
-use Rattle.ee_core.proofs.Base.{rules, ◌≡◌, ◌<◌, ◌≤◌, ℕ, Some, true, false, [], ◌∷◌, Device, page_at, IsPartlyErased, IsPageOf, KeepsLiveSet, IsLive, is_blank, first_page, live_of, other, Side, IsSameBut, ErasesLowest, IsLowestPending, KeepsAllButLowest, Wears, pending_pages}
+use Rattle.ee_core.proofs.Words.{rules, ◌≡◌, ◌<◌, ◌≤◌, ℕ, Some, true, false, [], ◌∷◌}
+use Rattle.ee_core.proofs.Sets.{Device, page_at, IsPartlyErased, IsPageOf, KeepsLiveSet, IsLive, is_blank, first_page, live_of, other, Side}
+use Rattle.ee_core.proofs.Calls.{IsSameBut, ErasesLowest, IsLowestPending, KeepsAllButLowest, Wears, pending_pages}
 use Rattle.ee_core.proofs.PendingPages.{lowest_blank}
 
 module _ (old new : Device) (side searched : Side) (generation page : ℕ)

@@ -1,9 +1,11 @@
 -- What an append or a transfer makes of a state, and when each is done.
-use Rattle.ee_core.proofs.Base.{rules, ◌≡◌, ◌≢◌, ◌⊎◌, inl, inr, ℕ, ◌+◌, ◌-◌, ◌<◌, ◌≤◌, ◌&&◌, Bool, true, false, cond, Option, Some, None, is_some, List, [], ◌∷◌, length, nat_lt, refl, sym, subst, ap, ◌∙◌, arith, Result, Ok, Err, OnErr, OnOk, common_steps, filter, Device, IsFormed, IsOff, IsOn, Ends, GoesOn, IsCut, Word, Erased, Held, Torn, IsAddress, IsGeneration, KeepsLiveSet, IsLive, Change, Map, Put, Forget, changed_by, map_after, live_in, meaning, address_of, TakesSlot, fill_of, first_page, other, pending_of, set_of, slots_of, Side, live_commits, change_counts, full_set_has_no_blank_page, live_within_fill, length-set_of, length-slots, Appends, HaveNoGeneration, IsAccepted, IsCutAppend, IsCutChange, IsCutMaking, IsCutMove, IsFull, Moves, NeedsTransfer, Proceeds, greatest_generation, pages_left, ErasesPartly, IsDrawnPartly, MovesPartly, IsDrawn, filled_set, is_used, moved_words, number_of_change, picture_of, retired_pages, with_change, AreApart, ForgetsHeld, HasMoved, IsSameSet, map_change, number_written, IsMarked, IsStore, Wears, appended_state, capacity, moved_state, not_blank_in, pending_pages, pending_pages_in, torn_state, state_of, used_pages_in}
+use Rattle.ee_core.proofs.Words.{rules, ◌≡◌, ◌≢◌, ◌⊎◌, inl, inr, ℕ, ◌+◌, ◌-◌, ◌<◌, ◌≤◌, ◌&&◌, Bool, true, false, cond, Option, Some, None, is_some, List, [], ◌∷◌, length, nat_lt, refl, sym, subst, ap, ◌∙◌, arith, Result, Ok, Err, OnErr, OnOk, common_steps, filter}
+use Rattle.ee_core.proofs.Sets.{Device, IsFormed, IsOff, IsOn, Ends, GoesOn, IsCut, Word, Erased, Held, Torn, IsAddress, IsGeneration, KeepsLiveSet, IsLive, Change, Map, Put, Forget, changed_by, map_after, live_in, meaning, address_of, TakesSlot, fill_of, first_page, other, pending_of, set_of, slots_of, Side, live_commits, change_counts, full_set_has_no_blank_page, live_within_fill, length-set_of, length-slots}
+use Rattle.ee_core.proofs.Calls.{Appends, HaveNoGeneration, IsAccepted, IsCutAppend, IsCutChange, IsCutMaking, IsCutMove, IsFull, Moves, NeedsTransfer, Proceeds, greatest_generation, pages_left, ErasesPartly, IsDrawnPartly, MovesPartly, IsDrawn, filled_set, is_used, moved_words, number_of_change, picture_of, retired_pages, with_change, AreApart, ForgetsHeld, HasMoved, IsSameSet, map_change, number_written, IsMarked, IsStore, Wears, appended_state, capacity, moved_state, not_blank_in, pending_pages, pending_pages_in, torn_state, state_of, used_pages_in}
 use Rattle.ee_codec.specs.Reading.{receive_of}
 use Rattle.ee_core.specs.Appending.{MayTakeSlot}
 use Rattle.ee_core.specs.Changes.{IsSpent}
-use Rattle.ee_core.proofs.Base.{IsLayout, Layout}
+use Rattle.ee_core.proofs.Sets.{IsLayout, Layout}
 use Rattle.ee_core.specs.Shown.{ShowsAppended, ShowsCutAppend, ShowsCutMove, ShowsMoved, is_left}
 use Rattle.ee_core.specs.declared.change.Change as declared
 use Rattle.ee_core.specs.declared.change.Change.TheVariants as kinds

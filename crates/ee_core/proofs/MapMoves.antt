@@ -1,5 +1,7 @@
 -- What a transfer leaves, from what its steps leave.
-use Rattle.ee_core.proofs.Base.{◌≡◌, inl, inr, ℕ, ◌+◌, ◌-◌, List, [], length, refl, subst, ap, ◌∙◌, arith, fun_ext, Device, IsFormed, Word, IsCommitted, IsFilling, KeepsSide, IsLayout, Change, changed_by, live_in, fill_of, other, page_of_slot, set_of, slots_of, Layout, Side, keeps_side_both, other_twice, HasMoved, Holds, IsSameSet, Stays, map_in, AddsPartly, IsDrawnPartly, MovesMapPartly, MovesPartly, IsMarked, ShowsCutMarks, ShowsMarks, IsDrawn, blank_picture, filled_set, is_used, moved_words, picture_of, retired_pages, each_forgotten, Wears, not_blank_in, rules}
+use Rattle.ee_core.proofs.Words.{◌≡◌, inl, inr, ℕ, ◌+◌, ◌-◌, List, [], length, refl, subst, ap, ◌∙◌, arith, fun_ext, rules}
+use Rattle.ee_core.proofs.Sets.{Device, IsFormed, Word, IsCommitted, IsFilling, KeepsSide, IsLayout, Change, changed_by, live_in, fill_of, other, page_of_slot, set_of, slots_of, Layout, Side, keeps_side_both, other_twice}
+use Rattle.ee_core.proofs.Calls.{HasMoved, Holds, IsSameSet, Stays, map_in, AddsPartly, IsDrawnPartly, MovesMapPartly, MovesPartly, IsMarked, ShowsCutMarks, ShowsMarks, IsDrawn, blank_picture, filled_set, is_used, moved_words, picture_of, retired_pages, each_forgotten, Wears, not_blank_in}
 use Rattle.ee_core.specs.Transfers.{Filled, FilledPartly, IsNewlyOpened, MapMoved, MapMovedPartly, OtherCleared, OtherCommitted, OtherCommittedPartly, OtherOpened, OtherOpenedPartly, SetMoved}
 use Rattle.ee_core.proofs.CutMoves.{filled_partly, marked_partly, retires_partly}
 use Rattle.ee_core.proofs.Cuts.{drawn_before}

@@ -1,5 +1,7 @@
 -- The pictures of both sets while an opening sets the marks, page after page.
-use Rattle.ee_core.proofs.Base.{rules, ◌≡◌, inl, inr, ℕ, ◌+◌, ◌-◌, ◌<◌, ◌≤◌, true, sym, subst, ap, ◌∙◌, arith, ◌&&◌, not, nat_lt, cases_Bool, Device, IsFormed, page_at, Size, Held, IsPageOf, is_blank, is_marked, first_page, other, page_of_slot, place_of_slot, Side, Active, Erasing, Valid, other_twice, IsSameBut, IsSameSet, PutsWord, SetsMark, IsDrawn, Picture, is_used, marked_to, picture_of, retired_pages, with_change}
+use Rattle.ee_core.proofs.Words.{rules, ◌≡◌, inl, inr, ℕ, ◌+◌, ◌-◌, ◌<◌, ◌≤◌, true, sym, subst, ap, ◌∙◌, arith, ◌&&◌, not, nat_lt, cases_Bool}
+use Rattle.ee_core.proofs.Sets.{Device, IsFormed, page_at, Size, Held, IsPageOf, is_blank, is_marked, first_page, other, page_of_slot, place_of_slot, Side, Active, Erasing, Valid, other_twice}
+use Rattle.ee_core.proofs.Calls.{IsSameBut, IsSameSet, PutsWord, SetsMark, IsDrawn, Picture, is_used, marked_to, picture_of, retired_pages, with_change}
 use Rattle.ee_core.proofs.Drawings.{active_last, drawn_as, drawn_same, mark_drawn, put_drawn, retired_all, retired_more, retired_none, retired_past, same_drawn, valid_drawn, valid_more, valid_none, valid_to, with_mark}
 use Rattle.ee_core.proofs.LiveMarks.{MarksPage}
 use Rattle.ee_core.proofs.SetPages.{same_other, same_page}

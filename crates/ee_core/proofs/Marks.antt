@@ -1,5 +1,7 @@
 -- What programming a mark leaves of its device, in every outcome.
-use Rattle.ee_core.proofs.Base.{rules, ◌≡◌, ◌⊎◌, inl, inr, ℕ, ◌-◌, ◌<◌, ◌≤◌, true, false, List, [], length, get_or, set, Result, Ok, Err, OnOk, OnErr, refl, sym, subst, ap, ◌∙◌, arith, get_or-set_same, All-get_or, IsGeneration, Device, IsFormed, IsOn, all_ones, page_at, IsStep, page_count, Step, Program, IsCutIn, IsUntouched, MayFollow, device_after, Word, step_leaves_pages, IsPageOf, IsLive, is_blank, is_marked, is_written, marking, number_of_mark, place_of_mark, word_in, IsMarkBehind, first_page, other, Side, Mark, Receive, Active, Valid, Erasing, other_set_keeps_live, program_leaves_written, step_keeps_other_pages, mark_keeps_live, erased_word, first_below, KeepsMarks, Stays}
+use Rattle.ee_core.proofs.Words.{rules, ◌≡◌, ◌⊎◌, inl, inr, ℕ, ◌-◌, ◌<◌, ◌≤◌, true, false, List, [], length, get_or, set, Result, Ok, Err, OnOk, OnErr, refl, sym, subst, ap, ◌∙◌, arith, get_or-set_same, All-get_or}
+use Rattle.ee_core.proofs.Sets.{IsGeneration, Device, IsFormed, IsOn, all_ones, page_at, IsStep, page_count, Step, Program, IsCutIn, IsUntouched, MayFollow, device_after, Word, step_leaves_pages, IsPageOf, IsLive, is_blank, is_marked, is_written, marking, number_of_mark, place_of_mark, word_in, IsMarkBehind, first_page, other, Side, Mark, Receive, Active, Valid, Erasing, other_set_keeps_live, program_leaves_written, step_keeps_other_pages, mark_keeps_live, erased_word, first_below}
+use Rattle.ee_core.proofs.Calls.{KeepsMarks, Stays}
 use Rattle.ee_flash.specs.declared.device.Cut.{Cut}
 use Rattle.ee_core.proofs.PendingPages.{same_not_blank}
 

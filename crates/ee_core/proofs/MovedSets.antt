@@ -1,5 +1,7 @@
 -- The pictures of both sets from the first step of a transfer to the last.
-use Rattle.ee_core.proofs.Base.{rules, ◌≡◌, ℕ, ◌+◌, ◌-◌, ◌*◌, ◌<◌, true, List, [], length, get_or, refl, sym, ap, ◌∙◌, arith, ◌==◌, ◌&&◌, if◌then◌else◌, All, zero-div, ext_get_or, get_or_past, All-drop, All-get_or, All-take, prefix_len_passes, row_fits, Device, IsFormed, page_at, Size, slot_count, Word, Erased, length-page_at, IsPageOf, IsLive, is_blank, is_written, fill_of, first_page, front, page_of_slot, set_of, slots_of, Side, First, Second, Active, Receive, fill-front, get_or-slots_of, length-set_of, pages-set_of, blank_word, Holds, IsCommittedWith, SetsMark, opened_set, last_used, IsDrawn, Picture, blank_picture, filled_set, is_used, mark_where, marked_to, picture_of, retired_pages}
+use Rattle.ee_core.proofs.Words.{rules, ◌≡◌, ℕ, ◌+◌, ◌-◌, ◌*◌, ◌<◌, true, List, [], length, get_or, refl, sym, ap, ◌∙◌, arith, ◌==◌, ◌&&◌, if◌then◌else◌, All, zero-div, ext_get_or, get_or_past, All-drop, All-get_or, All-take, prefix_len_passes, row_fits}
+use Rattle.ee_core.proofs.Sets.{Device, IsFormed, page_at, Size, slot_count, Word, Erased, length-page_at, IsPageOf, IsLive, is_blank, is_written, fill_of, first_page, front, page_of_slot, set_of, slots_of, Side, First, Second, Active, Receive, fill-front, get_or-slots_of, length-set_of, pages-set_of, blank_word}
+use Rattle.ee_core.proofs.Calls.{Holds, IsCommittedWith, SetsMark, opened_set, last_used, IsDrawn, Picture, blank_picture, filled_set, is_used, mark_where, marked_to, picture_of, retired_pages}
 use Rattle.std.proofs.lemmas.List.Folds.{list_any_at}
 use Rattle.ee_core.proofs.Drawings.{drawn_as, drawn_both, mark_drawn, marked-written, put_apart, with_mark, with_word-elsewhere, with_word-there}
 use Rattle.ee_core.proofs.SetPages.{page_in_device, page_of_set}

@@ -1,5 +1,7 @@
 -- The steps of a transfer, part by part.
-use Rattle.ee_core.proofs.Base.{rules, ◌≡◌, ℕ, ◌+◌, ◌-◌, ◌<◌, List, [], ◌∷◌, ◌++◌, length, subst, ap, ◌∙◌, Device, IsFormed, Size, Step, Word, Change, marking, first_page, fill_of, other, other_twice, page_of_slot, set_of, slots_of, Layout, Side, Active, Receive, last_used}
+use Rattle.ee_core.proofs.Words.{rules, ◌≡◌, ℕ, ◌+◌, ◌-◌, ◌<◌, List, [], ◌∷◌, ◌++◌, length, subst, ap, ◌∙◌}
+use Rattle.ee_core.proofs.Sets.{Device, IsFormed, Size, Step, Word, Change, marking, first_page, fill_of, other, other_twice, page_of_slot, set_of, slots_of, Layout, Side, Active, Receive}
+use Rattle.ee_core.proofs.Calls.{last_used}
 use Rattle.ee_core.specs.StepLists.{steps_to_clear, steps_to_close, steps_to_commit, steps_to_fill, steps_to_finish, steps_to_move, steps_to_retire}
 use Rattle.ee_flash.specs.Taking.{Completes, StopsAmong}
 use Rattle.ee_core.specs.Transfers.{MapMoved}

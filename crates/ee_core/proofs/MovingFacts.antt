@@ -1,5 +1,7 @@
 -- What calls in the other set leave together.
-use Rattle.ee_core.proofs.Base.{rules, ◌≡◌, ◌⊎◌, inl, inr, ◌≤◌, ◌<◌, ℕ, ◌+◌, true, List, [], ap, ◌∙◌, arith, All, All-from_get_or, mul-le, Device, IsFormed, page_at, slot_count, KeepsLiveSet, KeepsSide, IsLayout, IsLive, Change, changed_by, live_in, meaning, is_blank, first_page, other, set_of, slots_of, Layout, Side, kept_side_is_live, length-set_of, other_twice, HasMoved, Stays}
+use Rattle.ee_core.proofs.Words.{rules, ◌≡◌, ◌⊎◌, inl, inr, ◌≤◌, ◌<◌, ℕ, ◌+◌, true, List, [], ap, ◌∙◌, arith, All, All-from_get_or, mul-le}
+use Rattle.ee_core.proofs.Sets.{Device, IsFormed, page_at, slot_count, KeepsLiveSet, KeepsSide, IsLayout, IsLive, Change, changed_by, live_in, meaning, is_blank, first_page, other, set_of, slots_of, Layout, Side, kept_side_is_live, length-set_of, other_twice}
+use Rattle.ee_core.proofs.Calls.{HasMoved, Stays}
 use Rattle.ee_core.specs.CallSteps.{IsBehind}
 use Rattle.ee_core.specs.declared.copying.Place.{Place}
 use Rattle.std.proofs.Common.{sym, subst}

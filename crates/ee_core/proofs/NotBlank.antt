@@ -1,5 +1,7 @@
 -- The pages of a list that are not blank, by their numbers.
-use Rattle.ee_core.proofs.Base.{◌≡◌, ℕ, ◌+◌, ◌<◌, ◌≤◌, ◌++◌, ◌≢◌, Bool, true, false, cond, not, List, [], ◌∷◌, length, take, drop, get_or, set, refl, sym, ap, ◌∙◌, arith, zero, suc, eq-eqb, ne_eqb, length-take-le, take-append-drop, take_more, Word, is_blank, pending_of, not_blank_from, rules}
+use Rattle.ee_core.proofs.Words.{◌≡◌, ℕ, ◌+◌, ◌<◌, ◌≤◌, ◌++◌, ◌≢◌, Bool, true, false, cond, not, List, [], ◌∷◌, length, take, drop, get_or, set, refl, sym, ap, ◌∙◌, arith, zero, suc, eq-eqb, ne_eqb, length-take-le, take-append-drop, take_more, rules}
+use Rattle.ee_core.proofs.Sets.{Word, is_blank, pending_of}
+use Rattle.ee_core.proofs.Calls.{not_blank_from}
 use Rattle.ee_core.proofs.Wears.{times}
 
 -- the number of a page, if it is not blank

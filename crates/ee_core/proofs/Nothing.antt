@@ -1,6 +1,8 @@
 -- A map of which every address is forgotten: nothing has a value in it, and no word is copied of
 -- it.
-use Rattle.ee_core.proofs.Base.{◌≡◌, inl, inr, ℕ, ◌+◌, ◌<◌, ◌≤◌, Bool, true, false, cond, Option, None, List, [], refl, ap, ◌∙◌, arith, subst, length, suc, zero, ◌==◌, slice_index_or, Contains, cases_eq, Word, Change, Forget, Map, changed_by, live_in, map_after, meaning, HasChange, map_without, moved_words, put_words, each_forgotten, rules}
+use Rattle.ee_core.proofs.Words.{◌≡◌, inl, inr, ℕ, ◌+◌, ◌<◌, ◌≤◌, Bool, true, false, cond, Option, None, List, [], refl, ap, ◌∙◌, arith, subst, length, suc, zero, ◌==◌, slice_index_or, Contains, cases_eq, rules}
+use Rattle.ee_core.proofs.Sets.{Word, Change, Forget, Map, changed_by, live_in, map_after, meaning}
+use Rattle.ee_core.proofs.Calls.{HasChange, map_without, moved_words, put_words, each_forgotten}
 use Rattle.ee_core.specs.Picture.{elements_to}
 use Rattle.ee_core.specs.Puts.{forgets_from}
 use Rattle.ee_core.proofs.CopiedMaps.{forget-at, live_in-nothing}

@@ -1,5 +1,7 @@
 -- The page of the first free slot, and what marks it.
-use Rattle.ee_core.proofs.Base.{◌≡◌, ◌≢◌, ◌⊎◌, inl, inr, ℕ, ◌+◌, ◌-◌, ◌*◌, ◌<◌, ◌≤◌, ◌/◌, ◌%◌, true, sym, subst, ap, ◌∙◌, arith, cases_lt, div-mul-add, mod-mul-add, Device, IsFormed, slot_count, IsPageOf, IsLayout, is_marked, IsMarkBehind, first_page, other, page_of_slot, place_of_slot, Layout, Active, Valid, page_in_range, slot_below, IsReady, IsSameBut, IsSameSet, KeepsMarks, Stays, IsLiveMarked, last_used, rules}
+use Rattle.ee_core.proofs.Words.{◌≡◌, ◌≢◌, ◌⊎◌, inl, inr, ℕ, ◌+◌, ◌-◌, ◌*◌, ◌<◌, ◌≤◌, ◌/◌, ◌%◌, true, sym, subst, ap, ◌∙◌, arith, cases_lt, div-mul-add, mod-mul-add, rules}
+use Rattle.ee_core.proofs.Sets.{Device, IsFormed, slot_count, IsPageOf, IsLayout, is_marked, IsMarkBehind, first_page, other, page_of_slot, place_of_slot, Layout, Active, Valid, page_in_range, slot_below}
+use Rattle.ee_core.proofs.Calls.{IsReady, IsSameBut, IsSameSet, KeepsMarks, Stays, IsLiveMarked, last_used}
 use Rattle.ee_core.proofs.SetPages.{same_other}
 
 -- within a page the slot before stands in the same page

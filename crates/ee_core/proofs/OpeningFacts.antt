@@ -1,5 +1,7 @@
 -- What an opening leaves, from what setting the marks leaves.
-use Rattle.ee_core.proofs.Base.{rules, ◌≡◌, ℕ, Some, List, [], subst, ap, ◌∙◌, Device, IsOn, Step, last_used, IsLayout, IsLive, live_of, Layout, Side, First, Second, IsFinished, IsMarked, IsStore, IsCutOpening, IsFormatted, Opens, ShowsCutMarks, ShowsMarks, not_blank_pages, IsDrawn, blank_picture, filled_set, Stays, Wears, formatted_state, state_of}
+use Rattle.ee_core.proofs.Words.{rules, ◌≡◌, ℕ, Some, List, [], subst, ap, ◌∙◌}
+use Rattle.ee_core.proofs.Sets.{Device, IsOn, Step, IsLayout, IsLive, live_of, Layout, Side, First, Second}
+use Rattle.ee_core.proofs.Calls.{last_used, IsFinished, IsMarked, IsStore, IsCutOpening, IsFormatted, Opens, ShowsCutMarks, ShowsMarks, not_blank_pages, IsDrawn, blank_picture, filled_set, Stays, Wears, formatted_state, state_of}
 use Rattle.ee_core.specs.StepLists.{steps_of_format, steps_of_open, steps_to_finish}
 use Rattle.ee_flash.specs.Taking.{Completes, IsCutAmong, StopsAmong}
 use Rattle.ee_core.proofs.PublicSteps.{open_is}

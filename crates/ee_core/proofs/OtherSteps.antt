@@ -1,5 +1,7 @@
 -- Steps in the set that a transfer fills.
-use Rattle.ee_core.proofs.Base.{rules, ◌≡◌, ◌⊎◌, inl, inr, ℕ, ◌+◌, ◌-◌, ◌<◌, Bool, true, false, None, refl, sym, subst, ap, ◌∙◌, arith, All, Result, Ok, Err, slice_set, cases_Bool, All-get_or, div-mul-le_self, IsGeneration, Device, IsFormed, IsOn, all_ones, word_at, IsStep, page_count, slot_count, Program, IsCutIn, IsUntouched, MayFollow, device_after, Erased, Held, IsCommitted, IsFilling, IsPageOf, KeepsSide, IsOlder, Change, SpellsChange, map_after, meaning, is_blank, is_marked, marking, number_of_mark, slot_step, first_page, other, page_of_slot, place_of_slot, set_of, slots_of, Side, Mark, Active, Receive, blank_word, erased_word, fill-front, slots_behind, other_set_keeps_side, keeps_side_same, length-set_of, page_in_range, place_in_range, slot_at, commits_over, whole_commits_over, opens_page, opens_set, stages_change, first_word, word-in_set, first_in_set}
+use Rattle.ee_core.proofs.Words.{rules, ◌≡◌, ◌⊎◌, inl, inr, ℕ, ◌+◌, ◌-◌, ◌<◌, Bool, true, false, None, refl, sym, subst, ap, ◌∙◌, arith, All, Result, Ok, Err, slice_set, cases_Bool, All-get_or, div-mul-le_self}
+use Rattle.ee_core.proofs.Sets.{IsGeneration, Device, IsFormed, IsOn, all_ones, word_at, IsStep, page_count, slot_count, Program, IsCutIn, IsUntouched, MayFollow, device_after, Erased, Held, IsCommitted, IsFilling, IsPageOf, KeepsSide, Change, SpellsChange, map_after, meaning, is_blank, is_marked, marking, number_of_mark, slot_step, first_page, other, page_of_slot, place_of_slot, set_of, slots_of, Side, Mark, Active, Receive, blank_word, erased_word, fill-front, slots_behind, other_set_keeps_side, keeps_side_same, length-set_of, page_in_range, place_in_range, slot_at, commits_over, whole_commits_over, opens_page, opens_set, stages_change, first_word, word-in_set, first_in_set}
+use Rattle.ee_core.proofs.Calls.{IsOlder}
 use Rattle.ee_core.proofs.Marks.{place_below}
 use Rattle.ee_core.proofs.SetPages.{first_below, page_in_device}
 

@@ -1,5 +1,6 @@
 -- No slot says anything of a number that is no address.
-use Rattle.ee_core.proofs.Base.{rules, ◌≡◌, ℕ, ◌≤◌, Bool, false, cond, None, List, [], ◌∷◌, refl, ap, arith, ◌&&◌, nat_lt, cases_eq, cases_lt, IsAddress, Word, latest_in, meaning, says, slot_says, value_said}
+use Rattle.ee_core.proofs.Words.{rules, ◌≡◌, ℕ, ◌≤◌, Bool, false, cond, None, List, [], ◌∷◌, refl, ap, arith, ◌&&◌, nat_lt, cases_eq, cases_lt}
+use Rattle.ee_core.proofs.Sets.{IsAddress, Word, latest_in, meaning, says, slot_says, value_said}
 use Rattle.std.proofs.lemmas.Bool.Decides.{nat_tests}
 use Rattle.ee_codec.specs.declared.slot.Slot.{Slot}
 use Rattle.ee_codec.specs.declared.slot.Slot.TheVariants.{Element, Forgotten, Foreign}

@@ -1,5 +1,7 @@
 -- How often a page is erased in a run, by where it stands.
-use Rattle.ee_core.proofs.Base.{IsLegal, rules, ◌≡◌, ◌≢◌, ◌⊎◌, inl, inr, ℕ, ◌+◌, ◌/◌, ◌<◌, ◌≤◌, Bool, true, false, cond, Option, Some, None, List, [], ◌∷◌, get_or, refl, sym, subst, ap, ◌∙◌, arith, All, cases_eq, cases_lt, ne_eqb, All-tail, sum_by-cons, Device, page_at, wear_at, Size, page_count, Word, IsPageOf, Change, is_blank, live_of, other, Side, First, Second, other_twice, ErasesOne, Appends, Moves, pending_pages, state_of, next_live}
+use Rattle.ee_core.proofs.Words.{rules, ◌≡◌, ◌≢◌, ◌⊎◌, inl, inr, ℕ, ◌+◌, ◌/◌, ◌<◌, ◌≤◌, Bool, true, false, cond, Option, Some, None, List, [], ◌∷◌, get_or, refl, sym, subst, ap, ◌∙◌, arith, All, cases_eq, cases_lt, ne_eqb, All-tail, sum_by-cons}
+use Rattle.ee_core.proofs.Sets.{IsLegal, Device, page_at, wear_at, Size, page_count, Word, IsPageOf, Change, is_blank, live_of, other, Side, First, Second, other_twice}
+use Rattle.ee_core.proofs.Calls.{ErasesOne, Appends, Moves, pending_pages, state_of, next_live}
 use Rattle.ee_core.proofs.Effects.{by_effect}
 use Rattle.ee_core.proofs.PendingPages.{length-pending_pages, times_in_other, times_in_set, waits}
 use Rattle.ee_core.proofs.Wears.{times, times_few, worn_at_most}

@@ -1,5 +1,6 @@
 -- How many pages of a set are not blank.
-use Rattle.ee_core.proofs.Base.{rules, ◌≡◌, ℕ, ◌+◌, ◌-◌, ◌<◌, ◌≤◌, Bool, true, false, cond, List, [], ◌∷◌, length, take, get_or, refl, sym, ap, ◌∙◌, arith, zero, suc, not, filter, take-length, count_by_more_no, count_by_more_yes, length-filter, Device, IsFormed, page_at, Word, is_blank, first_page, pending_of, set_of, Side, length-set_of}
+use Rattle.ee_core.proofs.Words.{rules, ◌≡◌, ℕ, ◌+◌, ◌-◌, ◌<◌, ◌≤◌, Bool, true, false, cond, List, [], ◌∷◌, length, take, get_or, refl, sym, ap, ◌∙◌, arith, zero, suc, not, filter, take-length, count_by_more_no, count_by_more_yes, length-filter}
+use Rattle.ee_core.proofs.Sets.{Device, IsFormed, page_at, Word, is_blank, first_page, pending_of, set_of, Side, length-set_of}
 use Rattle.ee_core.proofs.SetPages.{page_of_set}
 
 module _ (pages : List (List Word)) where

@@ -1,5 +1,7 @@
 -- The pages that wait to be erased: how many they are, and whether a page is one of them.
-use Rattle.ee_core.proofs.Base.{◌≡◌, ℕ, ◌+◌, ◌-◌, ◌<◌, ◌≤◌, true, false, cond, Option, Some, None, ◌∷◌, length, set, refl, sym, ap, ◌∙◌, arith, length-take, Device, IsFormed, page_at, IsPageOf, is_blank, first_page, live_of, other, pending_of, set_of, Side, First, Second, length-set_of, IsSameBut, not_blank_from, not_blank_in, pending_pages, pending_pages_in, state_in, state_of, rules}
+use Rattle.ee_core.proofs.Words.{◌≡◌, ℕ, ◌+◌, ◌-◌, ◌<◌, ◌≤◌, true, false, cond, Option, Some, None, ◌∷◌, length, set, refl, sym, ap, ◌∙◌, arith, length-take, rules}
+use Rattle.ee_core.proofs.Sets.{Device, IsFormed, page_at, IsPageOf, is_blank, first_page, live_of, other, pending_of, set_of, Side, First, Second, length-set_of}
+use Rattle.ee_core.proofs.Calls.{IsSameBut, not_blank_from, not_blank_in, pending_pages, pending_pages_in, state_in, state_of}
 use Rattle.ee_core.proofs.NotBlank.{first_blank, length-not_blank, not_blank_same, times_below, times_here, times_past}
 use Rattle.ee_core.proofs.SetPages.{one_changed, page_of_set}
 use Rattle.ee_core.proofs.Wears.{times}

@@ -1,6 +1,8 @@
 -- What an image says, it says with any power.
 use Rattle.ee_flash.specs.declared.fuse.Fuse.{Fuse}
-use Rattle.ee_core.proofs.Base.{rules, ◌≡◌, ◌≤◌, ℕ, Bool, true, Option, Some, None, refl, Device, IsFormed, all_ones, IsLegal, IsLive, Side, First, Second, with_power_on, state_in}
+use Rattle.ee_core.proofs.Words.{rules, ◌≡◌, ◌≤◌, ℕ, Bool, true, Option, Some, None, refl}
+use Rattle.ee_core.proofs.Sets.{Device, IsFormed, all_ones, IsLegal, IsLive, Side, First, Second}
+use Rattle.ee_core.proofs.Calls.{with_power_on, state_in}
 
 -- the device on or off, with so many cuts behind it and to come, and its fuse, if it is known
 abbrev pub with_power : ℕ → Option ℕ → Option (Option Fuse) → Bool → Device → Device

@@ -1,5 +1,7 @@
 -- What laws of this crate need: without the named premise they would be false, and here is where.
-use Rattle.ee_core.proofs.Base.{◌+◌, ◌/◌, ◌<◌, ◌≤◌, ℕ, true, Ok, Err, List, [], ◌∷◌, get_or, refl, ap, sym, ◌∙◌, arith, true≢false, get_or-set_same, All-cons, All-nil, Device, wear_at, GoesOn, page_count, one_more, IsLegal, Cleans, Writes, CountsWear}
+use Rattle.ee_core.proofs.Words.{◌+◌, ◌/◌, ◌<◌, ◌≤◌, ℕ, true, Ok, Err, List, [], ◌∷◌, get_or, refl, ap, sym, ◌∙◌, arith, true≢false, get_or-set_same, All-cons, All-nil}
+use Rattle.ee_core.proofs.Sets.{Device, wear_at, GoesOn, page_count, one_more, IsLegal}
+use Rattle.ee_core.proofs.Calls.{Cleans, Writes, CountsWear}
 use Rattle.ee_core.specs.Runs.{Call, Cleaned, IsRun, IsWholeRun, Wrote, transfers}
 use Rattle.ee_core.specs.declared.variables.WriteFault.TheVariants as write
 

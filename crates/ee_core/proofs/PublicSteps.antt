@@ -1,5 +1,7 @@
 -- The steps of a call, as a function of the device alone.
-use Rattle.ee_core.proofs.Base.{◌≡◌, ◌<◌, cond, List, [], ◌∷◌, sym, ap, arith, lt-ltb, le-ltb, Device, IsLayout, Layout, Change, last_used, map_in, moved_words, capacity, state_of}
+use Rattle.ee_core.proofs.Words.{◌≡◌, ◌<◌, cond, List, [], ◌∷◌, sym, ap, arith, lt-ltb, le-ltb}
+use Rattle.ee_core.proofs.Sets.{Device, IsLayout, Layout, Change}
+use Rattle.ee_core.proofs.Calls.{last_used, map_in, moved_words, capacity, state_of}
 use Rattle.ee_core.specs.StepLists.{steps_in, steps_of_append, steps_of_clean, steps_of_clear, steps_of_making, steps_of_open, steps_of_transfer, steps_to_clean, steps_to_finish, steps_to_move}
 
 pub move_is : (old : Device) (layout : Layout) (changes : List Change) → IsLayout old layout

@@ -1,5 +1,7 @@
 -- Openings and rescues that are cut, one after another.
-use Rattle.ee_core.proofs.Base.{◌≡◌, ◌⊎◌, inl, inr, ℕ, ◌<◌, true, Option, None, Some, List, [], ◌∷◌, refl, sym, subst, ap, ◌∙◌, arith, cases_eq, cases_lt, Device, Word, KeepsSide, IsLegal, IsLive, meaning, is_written, other, set_of, slots_of, Side, First, Second, held_is_rescued, held_is_rescued_side, live_is_held, live_is_rescued, one_word_costs_its_value, bad_word_leaves_held, bad_waiting_word_leaves_held, waiting_word_costs_nothing, IsCutOpening, with_power_on, state_of, rules}
+use Rattle.ee_core.proofs.Words.{◌≡◌, ◌⊎◌, inl, inr, ℕ, ◌<◌, true, Option, None, Some, List, [], ◌∷◌, refl, sym, subst, ap, ◌∙◌, arith, cases_eq, cases_lt, rules}
+use Rattle.ee_core.proofs.Sets.{Device, Word, KeepsSide, IsLegal, IsLive, meaning, is_written, other, set_of, slots_of, Side, First, Second, held_is_rescued, held_is_rescued_side, live_is_held, live_is_rescued, one_word_costs_its_value, bad_word_leaves_held, bad_waiting_word_leaves_held, waiting_word_costs_nothing}
+use Rattle.ee_core.proofs.Calls.{IsCutOpening, with_power_on, state_of}
 use Rattle.ee_pages.specs.Rescue.{map_of_side, rescued_map}
 use Rattle.ee_pages.specs.RescueLaws.{IsHeld, WentBad, IsToldApart, PutsInSet}
 use Rattle.ee_core.specs.Rescues.{AreCutTries, CostsNewest, IsCutRescue, IsCutTry, IsMadeStore, last_on}

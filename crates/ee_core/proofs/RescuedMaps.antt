@@ -1,5 +1,7 @@
 -- What a rescue leaves, from what its transfer leaves.
-use Rattle.ee_core.proofs.Base.{rules, ◌≡◌, ℕ, Some, [], IsGeneration, Device, IsLayout, live_in, other, pending_of, set_of, Layout, Side, map_rescued, other_twice, HasMoved, moved_state, state_of, state_with}
+use Rattle.ee_core.proofs.Words.{rules, ◌≡◌, ℕ, Some, []}
+use Rattle.ee_core.proofs.Sets.{IsGeneration, Device, IsLayout, live_in, other, pending_of, set_of, Layout, Side, map_rescued, other_twice}
+use Rattle.ee_core.proofs.Calls.{HasMoved, moved_state, state_of, state_with}
 use Rattle.ee_pages.specs.Rescue.{named_generation, rescued_map, rescued_side}
 use Rattle.ee_core.specs.Rescues.{Rescues}
 use Rattle.ee_core.proofs.States.{same_states, state_is}

@@ -1,5 +1,7 @@
 -- What each call of a run does to power, wear, pending pages and the map, and so what a run does.
-use Rattle.ee_core.proofs.Base.{rules, length, ◌≤◌, ◌≡◌, ℕ, ◌+◌, ◌*◌, Bool, true, false, cond, Ok, Err, List, [], ◌∷◌, refl, sym, ◌∙◌, ap, subst, arith, All, flat_map, All-head, All-tail, sum_by-cons, calls_compose, Device, GoesOn, total_wear_of, Change, changed_by, ErasesOne, Appends, Moves, NeedsTransfer, pages_left, CountsWear, capacity, pending_pages, state_of}
+use Rattle.ee_core.proofs.Words.{rules, length, ◌≤◌, ◌≡◌, ℕ, ◌+◌, ◌*◌, Bool, true, false, cond, Ok, Err, List, [], ◌∷◌, refl, sym, ◌∙◌, ap, subst, arith, All, flat_map, All-head, All-tail, sum_by-cons}
+use Rattle.ee_core.proofs.Sets.{calls_compose, Device, GoesOn, total_wear_of, Change, changed_by}
+use Rattle.ee_core.proofs.Calls.{ErasesOne, Appends, Moves, NeedsTransfer, pages_left, CountsWear, capacity, pending_pages, state_of}
 use Rattle.ee_core.proofs.CopiedMaps.{changed_by-append}
 use Rattle.ee_core.proofs.Effects.{by_effect}
 use Rattle.ee_core.proofs.PendingPages.{length-pending_pages}

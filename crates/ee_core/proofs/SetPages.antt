@@ -1,5 +1,7 @@
 -- The pages of a set by their numbers in the device.
-use Rattle.ee_core.proofs.Base.{rules, ◌≡◌, ◌≢◌, ℕ, ◌+◌, ◌<◌, ◌≤◌, inl, inr, [], get_or, set, sym, ap, ◌∙◌, arith, cases_eq, ext_get_or, length-set, Device, IsFormed, page_at, Size, page_count, IsPageOf, first_page, other, set_of, Side, First, Second, length-set_of, IsSameBut, IsSameSet, refl}
+use Rattle.ee_core.proofs.Words.{rules, ◌≡◌, ◌≢◌, ℕ, ◌+◌, ◌<◌, ◌≤◌, inl, inr, [], get_or, set, sym, ap, ◌∙◌, arith, cases_eq, ext_get_or, length-set, refl}
+use Rattle.ee_core.proofs.Sets.{Device, IsFormed, page_at, Size, page_count, IsPageOf, first_page, other, set_of, Side, First, Second, length-set_of}
+use Rattle.ee_core.proofs.Calls.{IsSameBut, IsSameSet}
 use Rattle.ee_pages.proofs.Public.{page_of_set as page_numbered}
 
 pub page_of_set : (side : Side) (device : Device) (k : ℕ) → k < device.size.pages

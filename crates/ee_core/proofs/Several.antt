@@ -1,5 +1,7 @@
 -- Lists of two values or more: when one is refused, and how many addresses have a value with it.
-use Rattle.ee_core.proofs.Base.{rules, ◌≡◌, ℕ, ◌+◌, ◌<◌, ◌≤◌, true, false, Bool, cond, Some, is_some, List, [], ◌∷◌, length, get_or, take, refl, sym, ap, arith, suc, zero, length-append, ◌==◌, slice_get, ne_eqb, slice_get_read, IsAddress, Device, IsOn, Map, Put, changed_by, live_in, live_to, change_counts, live_to-zero, live_to-suc, HaveNoGeneration, HaveNoPlace, NeedsTransfer, Proceeds, greatest_generation, elements_of, map_without, put_words, AreApart, names, puts_of, State, capacity, state_of, neither}
+use Rattle.ee_core.proofs.Words.{rules, ◌≡◌, ℕ, ◌+◌, ◌<◌, ◌≤◌, true, false, Bool, cond, Some, is_some, List, [], ◌∷◌, length, get_or, take, refl, sym, ap, arith, suc, zero, length-append, ◌==◌, slice_get, ne_eqb, slice_get_read}
+use Rattle.ee_core.proofs.Sets.{IsAddress, Device, IsOn, Map, Put, changed_by, live_in, live_to, change_counts, live_to-zero, live_to-suc, neither}
+use Rattle.ee_core.proofs.Calls.{HaveNoGeneration, HaveNoPlace, NeedsTransfer, Proceeds, greatest_generation, elements_of, map_without, put_words, AreApart, names, puts_of, State, capacity, state_of}
 use Rattle.ee_core.specs.declared.change.Put as listed
 use Rattle.ee_core.proofs.CopiedMaps.{apart, changed_by-other}
 use Rattle.ee_core.proofs.Fillings.{length-put_words, map_with_more}

@@ -1,5 +1,7 @@
 -- What the pictures say of the states of the pages.
-use Rattle.ee_core.proofs.Base.{rules, ◌≡◌, inl, inr, ℕ, ◌+◌, ◌-◌, ◌<◌, Bool, true, false, cond, not, Option, Some, None, is_some, List, [], ◌∷◌, length, refl, sym, subst, ap, ◌∙◌, arith, suc, zero, length-append, ◌==◌, ◌&&◌, zero-div, cases_Bool, cases_lt, ext_get_or, Device, page_at, word_at, Size, page_count, Word, Erased, Held, Torn, length-page_at, IsLegal, IsLive, Change, Forget, Map, Put, changed_by, map_after, live_in, live_to, is_blank, is_written, state_of_words, first_page, live_of, other, page_of_slot, Side, First, Second, Mark, live_to-zero, change_counts, blank_word, live_to-suc, IsLowestPending, IsSameBut, last_used, ShowsMarks, IsDrawn, OfLive, Picture, element_at, elements_to, filled_set, is_used, marked_word, marked_to, moved_words, picture_of, retired_pages, state_of}
+use Rattle.ee_core.proofs.Words.{rules, ◌≡◌, inl, inr, ℕ, ◌+◌, ◌-◌, ◌<◌, Bool, true, false, cond, not, Option, Some, None, is_some, List, [], ◌∷◌, length, refl, sym, subst, ap, ◌∙◌, arith, suc, zero, length-append, ◌==◌, ◌&&◌, zero-div, cases_Bool, cases_lt, ext_get_or}
+use Rattle.ee_core.proofs.Sets.{Device, page_at, word_at, Size, page_count, Word, Erased, Held, Torn, length-page_at, IsLegal, IsLive, Change, Forget, Map, Put, changed_by, map_after, live_in, live_to, is_blank, is_written, state_of_words, first_page, live_of, other, page_of_slot, Side, First, Second, Mark, live_to-zero, change_counts, blank_word, live_to-suc}
+use Rattle.ee_core.proofs.Calls.{IsLowestPending, IsSameBut, last_used, ShowsMarks, IsDrawn, OfLive, Picture, element_at, elements_to, filled_set, is_used, marked_word, marked_to, moved_words, picture_of, retired_pages, state_of}
 use Rattle.ee_pages.specs.declared.state.State.TheVariants.{Erased as Unused, Erasing}
 use Rattle.ee_core.specs.Shown.{ShowsAppended, ShowsMoved, is_left}
 use Rattle.ee_core.specs.PageStates.{MovedWordsAreLive, PicturesTellImages, StatesAfterAppend, StatesAfterClean, StatesAfterFormat, StatesAfterOpening, StatesAfterTransfer, filled_state, marked_state, state_at}

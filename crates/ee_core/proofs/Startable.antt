@@ -1,6 +1,8 @@
 -- What steps leave of a device that can be started: from a first start on, until its set is
 -- committed.
-use Rattle.ee_core.proofs.Base.{rules, ◌≡◌, ◌≢◌, ◌⊎◌, inl, inr, ℕ, ◌+◌, ◌<◌, ◌≤◌, true, Some, None, Option, [], get_or, set, refl, sym, subst, ap, ◌∙◌, arith, suc, zero, All, cases_eq, same_Some, option_map, All-drop, All-take, get_or-set_same, get_or_past, Device, IsFormed, IsOn, page_at, word_at, DiffersInPage, IsStep, IsCut, page_count, Step, Program, Erase, MayFollow, device_after, with_word, Word, Erased, Held, Torn, step_changes_one_page, step_keeps_formed, step_leaves_pages, IsCommitted, IsScanFault, IsUnformatted, IsLegal, CannotCommit, meaning, is_blank, marking, word_in, committed_generation, fill_of, first_page, live_of, set_of, Side, First, Second, Active, Receive, blank_set, commit_after, commits, commits_by, elsewhere, programmed_word, same_set, first_commits, other_set_stays, legal_is_good, as_it_was, none_live, with_power_on, OpenFails, formatted_state, state_of}
+use Rattle.ee_core.proofs.Words.{rules, ◌≡◌, ◌≢◌, ◌⊎◌, inl, inr, ℕ, ◌+◌, ◌<◌, ◌≤◌, true, Some, None, Option, [], get_or, set, refl, sym, subst, ap, ◌∙◌, arith, suc, zero, All, cases_eq, same_Some, option_map, All-drop, All-take, get_or-set_same, get_or_past}
+use Rattle.ee_core.proofs.Sets.{Device, IsFormed, IsOn, page_at, word_at, DiffersInPage, IsStep, IsCut, page_count, Step, Program, Erase, MayFollow, device_after, with_word, Word, Erased, Held, Torn, step_changes_one_page, step_keeps_formed, step_leaves_pages, IsCommitted, IsScanFault, IsUnformatted, IsLegal, CannotCommit, meaning, is_blank, marking, word_in, committed_generation, fill_of, first_page, live_of, set_of, Side, First, Second, Active, Receive, blank_set, commit_after, commits, commits_by, elsewhere, programmed_word, same_set, first_commits, other_set_stays, legal_is_good, as_it_was, none_live}
+use Rattle.ee_core.proofs.Calls.{with_power_on, OpenFails, formatted_state, state_of}
 use Rattle.ee_pages.specs.declared.find.ScanFault.TheVariants.{NoLiveSet, TwoLive, Foreign}
 use Rattle.ee_core.proofs.FirstSet.{alone, erased_commits, no_pending, opened, same_second}
 use Rattle.ee_core.proofs.Powered.{legal_on, state_in_on}

@@ -1,5 +1,7 @@
 -- What a live set says is the state of its device.
-use Rattle.ee_core.proofs.Base.{rules, ◌≡◌, ℕ, List, refl, ap, fun_ext, Device, KeepsLiveSet, IsLive, Change, Map, other, pending_of, set_of, Side, other_twice, HasMoved, Stays, State, moved_state, state_in, state_of, state_with, with_pending}
+use Rattle.ee_core.proofs.Words.{rules, ◌≡◌, ℕ, List, refl, ap, fun_ext}
+use Rattle.ee_core.proofs.Sets.{Device, KeepsLiveSet, IsLive, Change, Map, other, pending_of, set_of, Side, other_twice}
+use Rattle.ee_core.proofs.Calls.{HasMoved, Stays, State, moved_state, state_in, state_of, state_with, with_pending}
 use Rattle.ee_core.proofs.PendingPages.{as_many_not_blank}
 
 pub state_is : (device : Device) (side : Side) (generation : ℕ) → IsLive device side generation

@@ -1,5 +1,7 @@
 -- How many words the lists program at the most, and how many pages they erase.
-use Rattle.ee_core.proofs.Base.{AreApart, Map, zero-div, ◌≡◌, inl, inr, ℕ, ◌+◌, ◌-◌, ◌*◌, ◌<◌, ◌≤◌, Bool, true, false, cond, not, List, [], ◌∷◌, ◌++◌, length, refl, sym, subst, ap, ◌∙◌, arith, suc, zero, flat_map, eq-eqb, ne_eqb, ◌==◌, Device, IsFormed, Size, Erase, Program, Step, Word, IsLive, Change, is_blank, is_marked, marking, first_page, live_of, other, page_of_slot, set_of, slot_count, slots_of, fill_of, page_in_range, slot_below, Side, Mark, Active, Erasing, Receive, Valid, last_used, map_in, moved_words, not_blank_in, not_blank_from, state_of, live_in, changed_by, capacity}
+use Rattle.ee_core.proofs.Words.{zero-div, ◌≡◌, inl, inr, ℕ, ◌+◌, ◌-◌, ◌*◌, ◌<◌, ◌≤◌, Bool, true, false, cond, not, List, [], ◌∷◌, ◌++◌, length, refl, sym, subst, ap, ◌∙◌, arith, suc, zero, flat_map, eq-eqb, ne_eqb, ◌==◌}
+use Rattle.ee_core.proofs.Sets.{Map, Device, IsFormed, Size, Erase, Program, Step, Word, IsLive, Change, is_blank, is_marked, marking, first_page, live_of, other, page_of_slot, set_of, slot_count, slots_of, fill_of, page_in_range, slot_below, Side, Mark, Active, Erasing, Receive, Valid, live_in, changed_by}
+use Rattle.ee_core.proofs.Calls.{AreApart, last_used, map_in, moved_words, not_blank_in, not_blank_from, state_of, capacity}
 use Rattle.std.specs.Prelude.{map, take}
 use Rattle.std.specs.List.{range_with_len}
 use Rattle.ee_flash.specs.Runs.{number_of}

@@ -1,5 +1,7 @@
 -- Steps that were taken, one after another.
-use Rattle.ee_core.proofs.Base.{rules, ◌≡◌, ◌≢◌, ◌⊎◌, inl, inr, ℕ, ◌+◌, ◌-◌, ◌<◌, ◌≤◌, Bool, true, false, cond, List, [], ◌∷◌, ◌++◌, length, get_or, refl, sym, subst, ap, ◌∙◌, arith, suc, zero, append_assoc, Result, Ok, Err, IsErr, true≢false, get_or-set_other, flat_map, Device, IsFormed, IsOff, IsOn, page_at, GoesOn, IsCut, Ends, Erase, Program, Step, IsCutIn, IsUntouched, device_after, one_more, Word, is_blank, is_written, marking, place_of_mark, word_in, Mark, Erasing, Side, first_page, set_of, length-set_of, not_blank_from, not_blank_in}
+use Rattle.ee_core.proofs.Words.{rules, ◌≡◌, ◌≢◌, ◌⊎◌, inl, inr, ℕ, ◌+◌, ◌-◌, ◌<◌, ◌≤◌, Bool, true, false, cond, List, [], ◌∷◌, ◌++◌, length, get_or, refl, sym, subst, ap, ◌∙◌, arith, suc, zero, append_assoc, Result, Ok, Err, IsErr, true≢false, get_or-set_other, flat_map}
+use Rattle.ee_core.proofs.Sets.{Device, IsFormed, IsOff, IsOn, page_at, GoesOn, IsCut, Ends, Erase, Program, Step, IsCutIn, IsUntouched, device_after, one_more, Word, is_blank, is_written, marking, place_of_mark, word_in, Mark, Erasing, Side, first_page, set_of, length-set_of}
+use Rattle.ee_core.proofs.Calls.{not_blank_from, not_blank_in}
 use Rattle.ee_core.proofs.SetPages.{page_of_set}
 use Rattle.std.specs.List.{range_with_len}
 use Rattle.std.specs.Prelude.{map}

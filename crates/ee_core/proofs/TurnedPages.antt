@@ -1,5 +1,7 @@
 -- The steps of an append, and of a set that is filled.
-use Rattle.ee_core.proofs.Base.{◌≡◌, inl, inr, ℕ, ◌+◌, ◌-◌, ◌<◌, Bool, true, false, cond, not, List, [], ◌∷◌, ◌++◌, length, refl, sym, subst, ap, ◌∙◌, arith, append_assoc, eq-eqb, ne_eqb, le-leb, lt-leb, Device, IsFormed, word_at, Size, Step, Word, is_marked, is_written, marking, first_page, page_of_slot, Side, Mark, Active, Receive, Valid, IsSameBut, Holds, opened_set, mark_where, slot_step, page_in_range, slot_count, Layout, IsLayout}
+use Rattle.ee_core.proofs.Words.{◌≡◌, inl, inr, ℕ, ◌+◌, ◌-◌, ◌<◌, Bool, true, false, cond, not, List, [], ◌∷◌, ◌++◌, length, refl, sym, subst, ap, ◌∙◌, arith, append_assoc, eq-eqb, ne_eqb, le-leb, lt-leb}
+use Rattle.ee_core.proofs.Sets.{Device, IsFormed, word_at, Size, Step, Word, is_marked, is_written, marking, first_page, page_of_slot, Side, Mark, Active, Receive, Valid, slot_step, page_in_range, slot_count, Layout, IsLayout}
+use Rattle.ee_core.proofs.Calls.{IsSameBut, Holds, opened_set, mark_where}
 use Rattle.std.specs.Prelude.{nat_le}
 use Rattle.ee_flash.specs.Runs.{number_of}
 use Rattle.std.specs.Prelude.{Ok}

@@ -1,5 +1,7 @@
 -- How wear rises over several steps, page by page and in all.
-use Rattle.ee_core.proofs.Base.{rules, ◌≡◌, ◌⊎◌, inl, inr, ℕ, ◌+◌, ◌<◌, ◌++◌, List, [], ◌∷◌, ◌≤◌, Bool, true, false, cond, eqb, length, get_or, set, min, refl, sym, subst, ap, ◌∙◌, arith, All, sum, cases_eq, true≢false, get_or-set_other, get_or-set_same, get_or_past, length-append, length-set, All-append, All-cons, All-from_get_or, All-get_or, All-head, All-nil, All-tail, sum_by-set, Device, IsOn, all_ones, Erase, IsCutIn, IsUntouched, with_page_erased, one_more, total_wear_of, CountsWear, WearRises, Wears, worn_by}
+use Rattle.ee_core.proofs.Words.{rules, ◌≡◌, ◌⊎◌, inl, inr, ℕ, ◌+◌, ◌<◌, ◌++◌, List, [], ◌∷◌, ◌≤◌, Bool, true, false, cond, eqb, length, get_or, set, min, refl, sym, subst, ap, ◌∙◌, arith, All, sum, cases_eq, true≢false, get_or-set_other, get_or-set_same, get_or_past, length-append, length-set, All-append, All-cons, All-from_get_or, All-get_or, All-head, All-nil, All-tail, sum_by-set}
+use Rattle.ee_core.proofs.Sets.{Device, IsOn, all_ones, Erase, IsCutIn, IsUntouched, with_page_erased, one_more, total_wear_of}
+use Rattle.ee_core.proofs.Calls.{CountsWear, WearRises, Wears, worn_by}
 
 -- ---- wears as lists
 

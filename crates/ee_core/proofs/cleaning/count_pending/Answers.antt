@@ -1,4 +1,4 @@
-use Rattle.ee_core.proofs.Base.{rules}
+use Rattle.ee_core.proofs.Words.{rules}
 use Rattle.ee_core.proofs.PendingCounts.{as_many, at_end, none_yet, one_more}
 use Rattle.ee_core.proofs.SetPages.{first_below}
 use Rattle.ee_core.proofs.cleaning.count_pending.Goals as goal

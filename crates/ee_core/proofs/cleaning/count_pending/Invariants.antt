@@ -1,4 +1,5 @@
-use Rattle.ee_core.proofs.Base.{◌≡◌, ◌≤◌, ◌-◌, take, pending_of, set_of}
+use Rattle.ee_core.proofs.Words.{◌≡◌, ◌≤◌, ◌-◌, take}
+use Rattle.ee_core.proofs.Sets.{pending_of, set_of}
 use Rattle.ee_core.proofs.cleaning.count_pending.Given as goal
 
 abbrev pub invariant-pages : goal.invariant-pages

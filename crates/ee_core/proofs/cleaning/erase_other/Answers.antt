@@ -1,4 +1,5 @@
-use Rattle.ee_core.proofs.Base.{err_from_is_err_and, Erase}
+use Rattle.ee_core.proofs.Words.{err_from_is_err_and}
+use Rattle.ee_core.proofs.Sets.{Erase}
 use Rattle.ee_core.proofs.Erasing.{page_erased, page_erased_partly}
 use Rattle.ee_core.proofs.Taken.{completes_one, stops_one, takes_err, takes_ok}
 use Rattle.ee_core.proofs.cleaning.erase_other.Goals as goal

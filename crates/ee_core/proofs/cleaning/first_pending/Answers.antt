@@ -1,4 +1,4 @@
-use Rattle.ee_core.proofs.Base.{rules}
+use Rattle.ee_core.proofs.Words.{rules}
 use Rattle.ee_core.proofs.PendingCounts.{none_pending, some_pending}
 use Rattle.ee_core.proofs.cleaning.first_pending.Goals as goal
 

@@ -1,4 +1,5 @@
-use Rattle.ee_core.proofs.Base.{◌≡◌, ◌≤◌, ◌<◌, ℕ, true, page_at, is_blank}
+use Rattle.ee_core.proofs.Words.{◌≡◌, ◌≤◌, ◌<◌, ℕ, true}
+use Rattle.ee_core.proofs.Sets.{page_at, is_blank}
 use Rattle.ee_core.proofs.cleaning.first_pending.Given as goal
 
 abbrev pub invariant-lower : goal.invariant-lower

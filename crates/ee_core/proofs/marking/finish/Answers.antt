@@ -1,4 +1,6 @@
-use Rattle.ee_core.proofs.Base.{ap, refl, sym, ◌∙◌, IsOldMarked, other, last_used}
+use Rattle.ee_core.proofs.Words.{ap, refl, sym, ◌∙◌}
+use Rattle.ee_core.proofs.Sets.{other}
+use Rattle.ee_core.proofs.Calls.{IsOldMarked, last_used}
 use Rattle.ee_core.proofs.AfterCalls.{never_on_ok}
 use Rattle.ee_core.proofs.LiveMarks.{layout_stays, live_marks_kept, stays_both}
 use Rattle.ee_core.proofs.MarkedSets.{shows}

@@ -1,4 +1,5 @@
-use Rattle.ee_core.proofs.Base.{◌≡◌, ◌<◌, true, page_count, is_marked, marking}
+use Rattle.ee_core.proofs.Words.{◌≡◌, ◌<◌, true}
+use Rattle.ee_core.proofs.Sets.{page_count, is_marked, marking}
 use Rattle.ee_core.proofs.AfterCalls.{never_on_ok, not_ok, same_but}
 use Rattle.ee_core.proofs.Drawings.{sets_mark}
 use Rattle.ee_core.proofs.Marks.{live_mark_stays, mark_keeps_marks, marked_after, marks, page_in_device, proper_live}

@@ -1,4 +1,6 @@
-use Rattle.ee_core.proofs.Base.{◌≡◌, ◌≤◌, ◌<◌, ◌+◌, ◌-◌, ap, arith, inl, refl, subst, Size, first_page, Active, Valid, IsLiveMarked, last_used, IsDrawn, picture_of, SetsPartly, rules}
+use Rattle.ee_core.proofs.Words.{◌≡◌, ◌≤◌, ◌<◌, ◌+◌, ◌-◌, ap, arith, inl, refl, subst, rules}
+use Rattle.ee_core.proofs.Sets.{Size, first_page, Active, Valid}
+use Rattle.ee_core.proofs.Calls.{IsLiveMarked, last_used, IsDrawn, picture_of, SetsPartly}
 use Rattle.ee_core.proofs.AfterCalls.{never_on_ok}
 use Rattle.ee_core.proofs.Drawings.{valid_to}
 use Rattle.ee_core.proofs.MarkedSets.{active_then, other_stays, valid_next, valid_start}

@@ -1,4 +1,6 @@
-use Rattle.ee_core.proofs.Base.{◌≡◌, ℕ, ◌<◌, ◌+◌, ◌-◌, true, is_marked, first_page, other, Valid, IsSameSet, Stays, IsDrawn, picture_of}
+use Rattle.ee_core.proofs.Words.{◌≡◌, ℕ, ◌<◌, ◌+◌, ◌-◌, true}
+use Rattle.ee_core.proofs.Sets.{is_marked, first_page, other, Valid}
+use Rattle.ee_core.proofs.Calls.{IsSameSet, Stays, IsDrawn, picture_of}
 use Rattle.ee_core.proofs.Drawings.{valid_to}
 use Rattle.std.specs.List.{flat_map, range_with_len}
 use Rattle.ee_core.specs.StepLists.{steps_to_mark}

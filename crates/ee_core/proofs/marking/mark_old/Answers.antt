@@ -1,4 +1,5 @@
-use Rattle.ee_core.proofs.Base.{◌≡◌, ◌<◌, arith, true, page_count, other, Erasing, is_marked, marking}
+use Rattle.ee_core.proofs.Words.{◌≡◌, ◌<◌, arith, true}
+use Rattle.ee_core.proofs.Sets.{page_count, other, Erasing, is_marked, marking}
 use Rattle.ee_core.proofs.AfterCalls.{never_on_ok, not_ok, same_but}
 use Rattle.ee_core.proofs.Drawings.{sets_mark}
 use Rattle.ee_core.proofs.Marks.{mark_keeps_marks, marked_after, marks, old_mark_stays, page_in_device, proper_old}

@@ -1,4 +1,6 @@
-use Rattle.ee_core.proofs.Base.{◌≡◌, arith, false, ap, ◌∙◌, sym, page_at, Size, is_blank, first_page, other, IsOldMarked, rules}
+use Rattle.ee_core.proofs.Words.{◌≡◌, arith, false, ap, ◌∙◌, sym, rules}
+use Rattle.ee_core.proofs.Sets.{page_at, Size, is_blank, first_page, other}
+use Rattle.ee_core.proofs.Calls.{IsOldMarked}
 use Rattle.ee_core.proofs.AfterCalls.{never_on_ok}
 use Rattle.ee_core.proofs.CutMarks.{marked_all, marked_cut, marked_next, marked_start, retired_cut, retired_still, retired_steps}
 use Rattle.ee_core.proofs.Taken.{takes_err}

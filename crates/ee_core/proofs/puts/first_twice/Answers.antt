@@ -1,4 +1,5 @@
-use Rattle.ee_core.proofs.Base.{subst, arith, All, take_all, IsAddress}
+use Rattle.ee_core.proofs.Words.{subst, arith, All, take_all}
+use Rattle.ee_core.proofs.Sets.{IsAddress}
 use Rattle.ee_core.specs.declared.change.Put.{Put}
 use Rattle.ee_core.proofs.puts.first_twice.Goals as goal
 

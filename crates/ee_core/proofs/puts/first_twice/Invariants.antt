@@ -1,4 +1,6 @@
-use Rattle.ee_core.proofs.Base.{◌≡◌, ◌<◌, ℕ, false, take, All, IsAddress, is_twice}
+use Rattle.ee_core.proofs.Words.{◌≡◌, ◌<◌, ℕ, false, take, All}
+use Rattle.ee_core.proofs.Sets.{IsAddress}
+use Rattle.ee_core.proofs.Calls.{is_twice}
 use Rattle.ee_core.proofs.puts.first_twice.Given as goal
 
 abbrev pub invariant-entries : goal.invariant-entries

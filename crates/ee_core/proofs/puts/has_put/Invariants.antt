@@ -1,4 +1,5 @@
-use Rattle.ee_core.proofs.Base.{◌≡◌, false, take, is_put}
+use Rattle.ee_core.proofs.Words.{◌≡◌, false, take}
+use Rattle.ee_core.proofs.Calls.{is_put}
 use Rattle.ee_core.proofs.puts.has_put.Given as goal
 
 abbrev pub invariant-entries : goal.invariant-entries

@@ -1,4 +1,6 @@
-use Rattle.ee_core.proofs.Base.{◌≡◌, false, true, is_some, length, take, not, ap, sym, ◌∙◌, arith, take-length, changed_by, live_in, map_in, puts_of, rules}
+use Rattle.ee_core.proofs.Words.{◌≡◌, false, true, is_some, length, take, not, ap, sym, ◌∙◌, arith, take-length, rules}
+use Rattle.ee_core.proofs.Sets.{changed_by, live_in}
+use Rattle.ee_core.proofs.Calls.{map_in, puts_of}
 use Rattle.ee_core.proofs.Several.{live_few, one_counted}
 use Rattle.ee_core.proofs.puts.live_with.Goals.{then-is_none, else-is_none}
 use Rattle.ee_core.proofs.puts.live_with.Goals as goal

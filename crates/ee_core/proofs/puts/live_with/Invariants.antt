@@ -1,4 +1,6 @@
-use Rattle.ee_core.proofs.Base.{◌≡◌, take, changed_by, live_in, map_in, puts_of}
+use Rattle.ee_core.proofs.Words.{◌≡◌, take}
+use Rattle.ee_core.proofs.Sets.{changed_by, live_in}
+use Rattle.ee_core.proofs.Calls.{map_in, puts_of}
 use Rattle.ee_core.proofs.puts.live_with.Given as goal
 
 abbrev pub invariant-entries : goal.invariant-entries

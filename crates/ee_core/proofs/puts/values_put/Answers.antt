@@ -1,4 +1,4 @@
-use Rattle.ee_core.proofs.Base.{rules}
+use Rattle.ee_core.proofs.Words.{rules}
 use Rattle.ee_core.proofs.puts.values_put.Goals as goal
 
 pub returns-else-forgets : goal.returns-else-forgets

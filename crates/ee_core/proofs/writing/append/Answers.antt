@@ -1,4 +1,6 @@
-use Rattle.ee_core.proofs.Base.{arith, ◌+◌, refl, sym, ap, ◌∙◌, fun_ext, err_from_is_err_and, map_after, map_change, number_written, page_in_range, place_in_range, rules}
+use Rattle.ee_core.proofs.Words.{arith, ◌+◌, refl, sym, ap, ◌∙◌, fun_ext, err_from_is_err_and, rules}
+use Rattle.ee_core.proofs.Sets.{map_after, page_in_range, place_in_range}
+use Rattle.ee_core.proofs.Calls.{map_change, number_written}
 use Rattle.ee_core.proofs.Appending.{cut_after, cut_size, taken_after}
 use Rattle.ee_core.proofs.MarkedSets.{appends_word}
 use Rattle.ee_core.proofs.LiveMarks.{layout_stays}

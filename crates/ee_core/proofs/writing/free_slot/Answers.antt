@@ -1,4 +1,4 @@
-use Rattle.ee_core.proofs.Base.{rules}
+use Rattle.ee_core.proofs.Words.{rules}
 use Rattle.ee_core.proofs.OpenedPages.{free_behind, free_within}
 use Rattle.ee_core.proofs.writing.free_slot.Goals as goal
 

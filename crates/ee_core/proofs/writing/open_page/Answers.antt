@@ -1,4 +1,6 @@
-use Rattle.ee_core.proofs.Base.{◌≡◌, ◌+◌, ◌-◌, ap, ◌∙◌, ◌<◌, arith, refl, sym, subst, Size, page_in_range, first_page, page_of_slot, Active, Valid, SetsMark, IsDrawn, marked_to, picture_of, IsDrawnPartly, SetsPartly, rules}
+use Rattle.ee_core.proofs.Words.{◌≡◌, ◌+◌, ◌-◌, ap, ◌∙◌, ◌<◌, arith, refl, sym, subst, rules}
+use Rattle.ee_core.proofs.Sets.{Size, page_in_range, first_page, page_of_slot, Active, Valid}
+use Rattle.ee_core.proofs.Calls.{SetsMark, IsDrawn, marked_to, picture_of, IsDrawnPartly, SetsPartly}
 use Rattle.ee_core.proofs.AfterCalls.{never_on_ok}
 use Rattle.ee_core.proofs.Drawings.{marks_drawn}
 use Rattle.ee_core.proofs.LiveMarks.{current_below, last_behind, layout_stays, stays_both}

@@ -1,4 +1,5 @@
-use Rattle.ee_core.proofs.Base.{err_from_is_err_and, page_in_range, place_in_range, rules}
+use Rattle.ee_core.proofs.Words.{err_from_is_err_and, rules}
+use Rattle.ee_core.proofs.Sets.{page_in_range, place_in_range}
 use Rattle.ee_core.proofs.Appending.{pushed, pushed_partly, slot_erased}
 use Rattle.ee_core.proofs.SetPages.{page_in_device}
 use Rattle.ee_core.proofs.Taken.{completes_one, stops_one, takes_err, takes_ok}

@@ -1,4 +1,6 @@
-use Rattle.ee_core.proofs.Base.{◌≡◌, ◌⊎◌, inl, inr, ℕ, ◌+◌, ◌-◌, ap, sym, ◌∙◌, arith, Device, KeepsLiveSet, IsLive, other, pending_of, set_of, Side, state_of, with_pending}
+use Rattle.ee_core.proofs.Words.{◌≡◌, ◌⊎◌, inl, inr, ℕ, ◌+◌, ◌-◌, ap, sym, ◌∙◌, arith}
+use Rattle.ee_core.proofs.Sets.{Device, KeepsLiveSet, IsLive, other, pending_of, set_of, Side}
+use Rattle.ee_core.proofs.Calls.{state_of, with_pending}
 use Rattle.ee_core.proofs.Making.{clean_known}
 use Rattle.ee_core.proofs.States.{state_is, state_kept}
 use Rattle.ee_core.proofs.Taken.{among_on, cut_taken, ends_taken}

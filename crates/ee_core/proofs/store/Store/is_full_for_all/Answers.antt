@@ -1,4 +1,4 @@
-use Rattle.ee_core.proofs.Base.{rules}
+use Rattle.ee_core.proofs.Words.{rules}
 use Rattle.ee_core.proofs.Several.{puts_within}
 use Rattle.ee_core.proofs.store.Store.is_full_for_all.Goals as goal
 

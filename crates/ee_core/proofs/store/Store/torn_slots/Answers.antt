@@ -1,4 +1,4 @@
-use Rattle.ee_core.proofs.Base.{rules}
+use Rattle.ee_core.proofs.Words.{rules}
 use Rattle.ee_core.proofs.store.Store.torn_slots.Goals as goal
 
 pub returns : goal.returns

@@ -1,4 +1,5 @@
-use Rattle.ee_core.proofs.Base.{refl, capacity, state_of, rules}
+use Rattle.ee_core.proofs.Words.{refl, rules}
+use Rattle.ee_core.proofs.Calls.{capacity, state_of}
 use Rattle.ee_core.proofs.Listed.{each_apart}
 use Rattle.ee_core.proofs.Several.{needs_transfer, no_generation, no_place, several_proceed, some_place}
 use Rattle.ee_core.proofs.store.Store.write_several.Goals as goal

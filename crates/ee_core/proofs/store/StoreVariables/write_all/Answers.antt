@@ -1,4 +1,4 @@
-use Rattle.ee_core.proofs.Base.{rules}
+use Rattle.ee_core.proofs.Words.{rules}
 use Rattle.ee_core.proofs.Several.{one_listed}
 use Rattle.ee_core.proofs.store.StoreVariables.write_all.Goals as goal
 
