@@ -17,7 +17,8 @@ ghost use Rattle.ee_core.specs.Puts.{AreApart, HasNew, changes_of_puts, puts_of}
 ghost use Rattle.ee_core.specs.State.{capacity, state_of};
 
 use crate::change::{Change, Put};
-use crate::changing::{append_change, move_unindexed};
+use crate::changing::{append_change, move_changes};
+use crate::copying::Cursor;
 use crate::puts::live_with;
 use ee_codec::Address;
 use ee_flash::{Cut, Flash};
@@ -299,6 +300,7 @@ impl Lookup for Slots {
         puts: &[Put],
         forgets: bool,
     ) -> Result<(), Cut> {
-        move_unindexed(flash, layout, puts, forgets)
+        let mut cursor = Cursor::new(flash, layout);
+        move_changes(flash, layout, puts, forgets, &mut cursor)
     }
 }

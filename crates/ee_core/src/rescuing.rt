@@ -10,7 +10,8 @@ ghost use Rattle.ee_core.specs.StepLists.{steps_to_move};
 ghost use Rattle.ee_flash.specs.Taking.{Takes};
 ghost use Rattle.ee_core.specs.Transfers.{MovesSet};
 
-use crate::moving::transfer_by_slots;
+use crate::copying::Cursor;
+use crate::moving::transfer;
 use crate::store::{GREATEST_GENERATION, Store};
 use ee_flash::{Cut, Flash};
 use ee_pages::{Layout, Side, bad_words, named_generation, rescued_side};
@@ -113,6 +114,7 @@ fn rescue_set<F: Flash>(flash: &mut F, side: Side, generation: u32) -> Result<La
         fill: 0,
         current: 0,
     };
-    transfer_by_slots(flash, &mut layout, &[], false)?;
+    let mut cursor = Cursor::new(flash, &layout);
+    transfer(flash, &mut layout, &[], false, &mut cursor)?;
     Ok(layout)
 }
