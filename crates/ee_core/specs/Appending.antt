@@ -10,7 +10,7 @@ use Rattle.ee_pages.specs.Sets.{first_page, other, page_of_slot, place_of_slot}
 use Rattle.ee_pages.specs.declared.find.Layout.{Layout}
 use Rattle.ee_pages.specs.declared.side.Side.{Side}
 use Rattle.ee_core.specs.CallSteps.{IsSameSet, KeepsMarks, PutsWord, map_change, map_in, number_written}
-use Rattle.ee_core.specs.Cuts.{IsDrawnPartly, PutsPartly}
+use Rattle.ee_core.specs.Cuts.{PutsPartly}
 use Rattle.ee_core.specs.Finished.{IsMarked}
 use Rattle.ee_core.specs.Picture.{IsDrawn, picture_of, with_change}
 use Rattle.ee_core.specs.declared.change.Change as declared
@@ -64,18 +64,3 @@ pub record ChangeWritten (old new : Device) (layout after : Layout) (change : de
   pub marked : IsMarked new layout.side
   pub other : IsSameSet (other layout.side) old new
   pub wear : new.wear ≡ old.wear
-
--- or power was cut on the way
-pub record ChangeWrittenPartly (old new : Device) (layout : Layout) (change : declared.Change)
-    : Type 0 where
-  pub cut : MayTakeSlot old new layout.side layout.generation (map_change change)
-  pub begun : IsDrawnPartly layout.side new (picture_of layout.side old)
-      (with_change old.size layout.fill (number_written change) (picture_of layout.side old))
-  pub other : IsSameSet (other layout.side) old new
-  pub wear : new.wear ≡ old.wear
-
--- the appending ends so
-abbrev pub WritesChange : {T E : Type 0} → Result T E → Device → Device → Layout → Layout
-    → declared.Change → Type 0
-WritesChange (Ok done) old new layout after change = ChangeWritten old new layout after change
-WritesChange (Err cut) old new layout after change = ChangeWrittenPartly old new layout change

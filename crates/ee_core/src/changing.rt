@@ -1,4 +1,4 @@
-//! The making of changes that nothing refuses: one in a free slot, or several with a transfer.
+//! The making of changes that nothing refuses with a transfer.
 ghost use Rattle.std.specs.Prelude.{◌≡◌, ◌<◌, ℕ, [], ◌∷◌, None, OnErr, OnOk};
 ghost use Rattle.ee_codec.specs.Words.{IsAddress};
 ghost use Rattle.ee_flash.specs.Device.{IsOn};
@@ -16,37 +16,11 @@ ghost use Rattle.ee_core.specs.Puts.{AreApart, changes_of_puts};
 ghost use Rattle.ee_core.specs.State.{capacity, state_of};
 ghost use Rattle.ee_core.specs.Transfers.{SetMoved};
 
-use crate::change::{Change, Put};
+use crate::change::Put;
 use crate::live_cursor::LiveCursor;
 use crate::moving::{transfer, transfer_nothing};
-use crate::writing::append;
 use ee_flash::{Cut, Flash};
 use ee_pages::Layout;
-
-/// Makes a change to which no refusal applies in the first free slot. The layout follows.
-#[inline(always)]
-pub fn append_change<F: Flash>(
-    flash: &mut F,
-    layout: &mut Layout,
-    change: Change,
-) -> Result<(), Cut>
-    requires layout { IsLayout (F.device flash.old) layout.old }
-    requires marked { IsMarked (F.device flash.old) layout.old.side }
-    requires proceeds { Proceeds (F.device flash.old) (map_change change ∷ []) }
-    requires forgets { ForgetsHeld (state_of (F.device flash.old)).map change }
-    requires free { layout.old.fill < slot_count (F.device flash.old).size }
-    ensures appended { OnOk result
-        (Appends (F.device flash.old) (map_change change) (F.device flash.new)) }
-    ensures written { OnOk result
-        (ChangeWritten (F.device flash.old) (F.device flash.new) layout.old layout.new change) }
-    ensures cut { OnErr result
-        (IsCutChange (F.device flash.old) (map_change change) (F.device flash.new)) }
-    ensures store { IsStore (F.device flash.new) }
-    ensures layout { IsOn (F.device flash.new) → IsLayout (F.device flash.new) layout.new }
-{
-    append(flash, layout, change)?;
-    Ok(())
-}
 
 /// Makes changes to which no refusal applies with a transfer that they need: values that are put,
 /// or the forgettings of their addresses. The cursor, which is before the first, goes over the live

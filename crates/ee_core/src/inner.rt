@@ -5,7 +5,7 @@ ghost use Rattle.std.specs.Prelude.{◌≡◌};
 ghost use Rattle.ee_core.specs.Known.{Knows};
 
 pub use crate::change::Change;
-pub use crate::changing::{append_change, move_changes};
+pub use crate::changing::move_changes;
 pub use crate::cleaning::clean;
 pub use crate::copying::Cursor;
 pub use crate::first_start::start_on;
@@ -18,6 +18,7 @@ pub use crate::opening::open_on;
 pub use crate::puts::{first_twice, values_put};
 pub use crate::store::GREATEST_GENERATION;
 use crate::store::Store;
+pub use crate::writing::append_change;
 use ee_flash::Flash;
 
 /// The device of a store, as it is, and what is known of it.

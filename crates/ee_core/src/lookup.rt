@@ -17,9 +17,10 @@ ghost use Rattle.ee_core.specs.Puts.{AreApart, HasNew, changes_of_puts, puts_of}
 ghost use Rattle.ee_core.specs.State.{capacity, state_of};
 
 use crate::change::{Change, Put};
-use crate::changing::{append_change, move_changes};
+use crate::changing::move_changes;
 use crate::copying::Cursor;
 use crate::puts::live_with;
+use crate::writing::append_change;
 use ee_codec::Address;
 use ee_flash::{Cut, Flash};
 use ee_pages::{Layout, LiveBatch, latest, live_count, next_batch, next_live};

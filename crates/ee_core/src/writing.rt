@@ -1,40 +1,46 @@
 //! The appending of a change: where its slot begins a further page, two marks come first.
 ghost use Rattle.std.specs.Prelude.{◌≡◌, ◌<◌, ◌+◌, [], ◌∷◌, OnErr, OnOk};
+ghost use Rattle.ee_flash.specs.Device.{IsOn};
 ghost use Rattle.ee_flash.specs.Size.{slot_count};
-ghost use Rattle.ee_pages.specs.Layout.{IsLayout};
-ghost use Rattle.ee_pages.specs.Sets.{first_page as first_of, other as other_of, page_of_slot, place_of_slot};
-ghost use Rattle.ee_core.specs.Appending.{Pushes, WritesChange};
-ghost use Rattle.ee_core.specs.CallSteps.{IsReady, IsSameSet, Stays, number_written};
-ghost use Rattle.ee_core.specs.Cuts.{IsDrawnPartly};
-ghost use Rattle.ee_core.specs.Finished.{IsMarked};
-ghost use Rattle.ee_core.specs.Picture.{IsDrawn, marked_to, picture_of};
-ghost use Rattle.ee_core.specs.StepLists.{steps_to_append, steps_to_turn};
 ghost use Rattle.ee_flash.specs.Taking.{Takes};
+ghost use Rattle.ee_pages.specs.Layout.{IsLayout};
 ghost use Rattle.ee_pages.specs.Pushing.{slot_step};
+ghost use Rattle.ee_pages.specs.Sets.{first_page as first_of, other as other_of, page_of_slot, place_of_slot};
+ghost use Rattle.ee_core.specs.Appending.{ChangeWritten, Pushes};
+ghost use Rattle.ee_core.specs.CallSteps.{ForgetsHeld, IsReady, IsSameSet, Stays, map_change, number_written};
+ghost use Rattle.ee_core.specs.Changes.{Appends, IsCutChange, Proceeds};
+ghost use Rattle.ee_core.specs.Cuts.{IsDrawnPartly};
+ghost use Rattle.ee_core.specs.Finished.{IsMarked, IsStore};
+ghost use Rattle.ee_core.specs.Picture.{IsDrawn, marked_to, picture_of};
+ghost use Rattle.ee_core.specs.State.{state_of};
+ghost use Rattle.ee_core.specs.StepLists.{steps_to_turn};
 
 use crate::change::Change;
 use crate::marking::mark_live;
 use ee_flash::{Cut, Flash, HEADER_WORDS};
 use ee_pages::{Layout, Mark, first_page};
 
-/// Writes a change into the first free slot of the live set. If that slot is the first of a further
-/// page, the page before it is marked valid and that one active first. The layout follows.
+/// Makes a change to which no refusal applies in the first free slot. If that slot is the first of a
+/// further page, the page before it is marked valid and that one active first. The layout follows.
 #[inline(always)]
-pub(crate) fn append<F: Flash>(
+pub fn append_change<F: Flash>(
     flash: &mut F,
     layout: &mut Layout,
     change: Change,
 ) -> Result<(), Cut>
     requires layout { IsLayout (F.device flash.old) layout.old }
     requires marked { IsMarked (F.device flash.old) layout.old.side }
+    requires proceeds { Proceeds (F.device flash.old) (map_change change ∷ []) }
+    requires forgets { ForgetsHeld (state_of (F.device flash.old)).map change }
     requires free { layout.old.fill < slot_count (F.device flash.old).size }
-    // At an error power was cut: the change is there in part, or whole, or not at all.
-    ensures writes { WritesChange result (F.device flash.old) (F.device flash.new)
-        layout.old layout.new change }
-    ensures steps { Takes result
-        (steps_to_append (F.device flash.old) layout.old.side layout.old.fill
-        (number_written change))
-        (F.device flash.old) (F.device flash.new) }
+    ensures appended { OnOk result
+        (Appends (F.device flash.old) (map_change change) (F.device flash.new)) }
+    ensures written { OnOk result
+        (ChangeWritten (F.device flash.old) (F.device flash.new) layout.old layout.new change) }
+    ensures cut { OnErr result
+        (IsCutChange (F.device flash.old) (map_change change) (F.device flash.new)) }
+    ensures store { IsStore (F.device flash.new) }
+    ensures layout { IsOn (F.device flash.new) → IsLayout (F.device flash.new) layout.new }
 {
     let (page, at) = free_slot(flash, layout);
     open_page(flash, layout, page)?;
