@@ -32,10 +32,6 @@ flagged_words (number ∷ numbers) (torn ∷ flags) =
 abbrev pub words_from : Device → ℕ → ℕ → ℕ → List Word
 words_from device page at count = take count (drop at (page_at device page))
 
--- their numbers
-abbrev pub run_of : Device → ℕ → ℕ → ℕ → List ℕ
-run_of device page at count = map number_of (words_from device page at count)
-
 -- ---- readings
 
 -- each of these words reads so, by what a word may read as

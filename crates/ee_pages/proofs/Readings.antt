@@ -85,13 +85,6 @@ unnamed_silent Foreign address none = refl
 unnamed_silent (Element named value) address none = absurd (cc none)
 unnamed_silent (Forgotten named value) address none = absurd (cc none)
 
-unnamed_none : (slot : Slot) → slot_names slot ≡ None → is_element slot ≡ false
-unnamed_none Free none = refl
-unnamed_none Spoiled none = refl
-unnamed_none Foreign none = refl
-unnamed_none (Element named value) none = absurd (cc none)
-unnamed_none (Forgotten named value) none = absurd (cc none)
-
 -- ---- a word by its reading
 
 says_by_other : (word : Word) (address : ℕ) → number_of word % 2 ^ 16 ≢ address
@@ -106,41 +99,4 @@ pub silent_by : (word : Word) (reading address : ℕ) → IsShownBy word reading
 silent_by word reading address shown other = elim (slot_or_not (number_of word)) [
   | inl none ↦ unnamed_silent (slot_of word) address (names_nothing word none)
   | inr slot ↦ says_by_other word address (λ same. other (shown.address slot ∙ same))
-]
-
--- ---- by what stands in clear
-
-element_named : (slot : Slot) (named : Option Named) → is_element slot ≡ true
-    → slot_names slot ≡ named → (name : Named) × (slot_names slot ≡ Some name)
-element_named slot None element is =
-    absurd (true≢false (sym element ∙ unnamed_none slot is))
-element_named slot (Some name) element is = (name, is)
-
-held_slot : (word : Word) (number : ℕ) → is_element (slot_of (Held number)) ≡ true
-    → (word ≡ Held number) ⊎ (word ≡ Torn) → holds_slot word ≡ true
-held_slot word number element (inl held) =
-    subst (λ (word : Word). holds_slot word ≡ true) (sym held) element
-held_slot word number element (inr torn) =
-    subst (λ (word : Word). holds_slot word ≡ true) (sym torn) refl
-
-pub shown_slot : (word : Word) (number : ℕ) → IsInClear word number
-    → is_element (slot_of (Held number)) ≡ true → holds_slot word ≡ true
-shown_slot word number clear element =
-    let named = element_named (slot_of (Held number)) (slot_names (slot_of (Held number))) element refl in
-    let names = names_by number named.0 named.1 in
-    held_slot word number element
-    (clear.held (named_number number named.0 named.1) names.proper.1)
-
-none_by : (word : Word) (number : ℕ) → number ≡ number_of word
-    → is_element (slot_of (Held number)) ≡ false → is_element (slot_of word) ≡ false
-none_by Erased number is none = refl
-none_by Torn number is none = refl
-none_by (Held value) number is none =
-    subst (λ (n : ℕ). is_element (slot_of (Held n)) ≡ false) is none
-
-pub shown_none : (word : Word) (number : ℕ) → IsInClear word number
-    → is_element (slot_of (Held number)) ≡ false → is_element (slot_of word) ≡ false
-shown_none word number clear none = elim (slot_or_not (number_of word)) [
-  | inl other ↦ unnamed_none (slot_of word) (names_nothing word other)
-  | inr slot ↦ none_by word number (clear.slot slot) none
 ]
