@@ -142,13 +142,7 @@ fn note_all<F: Flash>(
 }
 
 /// Notes what the word of a reading says, if it is of one of so many addresses above this one.
-fn note_within<F: Flash>(
-    flash: &F,
-    above: u16,
-    span: u32,
-    reading: u64,
-    nearest: &mut Batch,
-) -> u32
+fn note_within<F: Flash>(flash: &F, above: u16, span: u32, reading: u64, nearest: &mut Batch) -> u32
     requires rising { IsRising above nearest.old.named }
     requires few { length nearest.old.named ≤ BATCH }
     requires places { HasPlaces BATCH above span nearest.old.named }

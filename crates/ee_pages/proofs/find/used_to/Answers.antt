@@ -66,7 +66,7 @@ runs-preserved g c =
       within = omega (arith, slots.within, run.within, words);
       before =
           slots_on device c.args.page c.runs.at 4 c.slots_in-slots.result
-    (length c.run_from-run.result.now) c.runs.invariant.before slots.within
-    (slots.before (words_from device c.args.page c.runs.at (length c.run_from-run.result.now))
-    run.readings);
+          (length c.run_from-run.result.now) c.runs.invariant.before slots.within
+          (slots.before (words_from device c.args.page c.runs.at (length c.run_from-run.result.now))
+          run.readings);
     }
