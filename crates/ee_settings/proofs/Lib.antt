@@ -10,6 +10,7 @@ mod Outdated
 mod Forgetting
 mod Unnamed
 mod Tidied
+mod TidySteps
 mod TidiedMaps
 mod Entries
 mod Names

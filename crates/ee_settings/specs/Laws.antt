@@ -1,9 +1,10 @@
 -- What a set setting leaves, over all schemas and all stores, and that tables have one meaning.
-use Rattle.std.specs.Prelude.{◌≡◌, ◌≢◌, ◌⊎◌, ℕ, false, None, List, length, map, Result, Ok, Err}
+use Rattle.std.specs.Prelude.{◌≡◌, ◌≢◌, ◌⊎◌, ◌++◌, ℕ, false, None, List, length, map, Result, Ok, Err}
 use Rattle.std.specs.List.{All, Contains, flat_map}
 use Rattle.std.specs.List.Sorted.{IsStrictlySortedBy}
 use Rattle.std.specs.Ordering.{nat_cmp}
 use Rattle.ee_flash.specs.Device.{Device, IsFormed}
+use Rattle.ee_flash.specs.Taking.{Completes, IsCutAmong}
 use Rattle.ee_pages.specs.Meaning.{Forget, Map}
 use Rattle.ee_core.specs.Runs.{Call, IsWholeRun, changes_of_call}
 use Rattle.ee_core.specs.State.{state_of}
@@ -14,7 +15,7 @@ use Rattle.ee_settings.specs.Setting.{IsSchema, Setting, has_address, reading_in
 use Rattle.ee_settings.specs.Stale.{IsStale, stale_in}
 use Rattle.ee_settings.specs.declared.listing.Listed.{Listed}
 use Rattle.ee_settings.specs.declared.stale.Stale.{Stale}
-use Rattle.ee_settings.specs.Tidying.{IsSpentAmong, Tidies, after_forgettings, kept_map, unnamed_in}
+use Rattle.ee_settings.specs.Tidying.{IsSpentAmong, Tidies, after_forgettings, kept_map, steps_of_forgetting, unnamed_in}
 use Rattle.toml.specs.Data.{Members}
 use Rattle.ee_settings.specs.Calls.{IsNamed, Sets}
 use Rattle.ee_settings.specs.File.{GivesSchema, HaveRisingKeys, entries_of}
@@ -159,6 +160,19 @@ TidyIsARun =
     → (calls : List Call) × IsWholeRun calls old new
     × (flat_map changes_of_call calls ≡ map Forget (unnamed_in settings (state_of old).map))
     × (length calls ≡ count)
+
+-- Its steps are those of these forgettings: all were taken, or power was cut in one; where it is
+-- spent, those of a front were.
+abbrev pub TidyTakesItsSteps : Type 0
+TidyTakesItsSteps =
+    (settings : List Setting) (old new : Device)
+    → let all : List ℕ = unnamed_in settings (state_of old).map in
+    ((count : ℕ) → Tidies settings old (Ok count) new
+    → Completes (steps_of_forgetting all old) old new)
+    × (Tidies settings old (Err tidy.Cut) new → IsCutAmong (steps_of_forgetting all old) old new)
+    × (Tidies settings old (Err tidy.Spent) new
+    → (front rest : List ℕ) × (all ≡ front ++ rest)
+    × Completes (steps_of_forgetting front old) old new)
 
 -- It is spent exactly where one of the forgettings is.
 abbrev pub TidyIsSpent : Type 0

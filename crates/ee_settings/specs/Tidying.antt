@@ -2,11 +2,14 @@
 use Rattle.std.specs.Prelude.{◌≡◌, ◌⊎◌, ◌&&◌, ◌==◌, ℕ, None, Bool, not, is_some, if◌then◌else◌, zero, suc, List, [], ◌∷◌, ◌++◌, length, Result, Ok, Err}
 use Rattle.std.specs.List.{flat_map}
 use Rattle.ee_flash.specs.Device.{Device, IsOff, IsOn}
+use Rattle.ee_flash.specs.Laws.{all_completed}
 use Rattle.ee_flash.specs.Size.{Size, slot_count}
+use Rattle.ee_flash.specs.Step.{Step}
 use Rattle.ee_pages.specs.Meaning.{Forget, Map}
 use Rattle.ee_core.specs.Calls.{Forgets}
 use Rattle.ee_core.specs.Changes.{IsSpent}
 use Rattle.ee_core.specs.State.{State, appended_state, moved_state, state_of}
+use Rattle.ee_core.specs.StepLists.{steps_of_making}
 use Rattle.ee_core.specs.declared.variables.ForgetFault.{ForgetFault}
 use Rattle.ee_core.specs.declared.variables.ForgetFault.TheVariants as forget
 use Rattle.ee_core.specs.declared.variables.Written.{Written}
@@ -89,6 +92,15 @@ IsSpentAmong size [] state = ⊥
 IsSpentAmong size (address ∷ addresses) state =
     IsSpent (slot_count size) state
     ⊎ IsSpentAmong size addresses (after_forgetting size address state)
+
+-- ---- the steps
+
+-- those of forgetting these, one after another: of each on the device that the one before it leaves
+abbrev pub steps_of_forgetting : List ℕ → Device → List Step
+steps_of_forgetting [] device = []
+steps_of_forgetting (address ∷ addresses) device =
+    let steps : List Step = steps_of_making (Forget address ∷ []) device in
+    steps ++ steps_of_forgetting addresses (all_completed steps device)
 
 -- ---- for the functions within
 

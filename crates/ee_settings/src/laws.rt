@@ -1,5 +1,5 @@
 //! What holds of every schema and every store. Each function does nothing: its contract is the law.
-ghost use Rattle.ee_settings.specs.Laws.{CutKeepsOthers, EachTableIsJudged, ListedIsExact, NamesAreApart, RefusalsChangeNothing, SchemasAreAccepted, SetIsRead, StaleIsExact, TablesHaveOneFault, TablesSpellOnce, TidyIsARun, TidyIsSpent, TidyKeepsReadings, TidyLeavesTheNamed, TidyLeavesThisState, TidyTakesTheUnnamed};
+ghost use Rattle.ee_settings.specs.Laws.{CutKeepsOthers, EachTableIsJudged, ListedIsExact, NamesAreApart, RefusalsChangeNothing, SchemasAreAccepted, SetIsRead, StaleIsExact, TablesHaveOneFault, TablesSpellOnce, TidyIsARun, TidyIsSpent, TidyKeepsReadings, TidyLeavesTheNamed, TidyLeavesThisState, TidyTakesItsSteps, TidyTakesTheUnnamed};
 
 /// A setting that was set reads as the value that was set, and each setting of another name reads
 /// as before, also where the store moved its map to the other set.
@@ -81,6 +81,12 @@ pub fn tidy_leaves_this_state()
 /// without cuts holds of tidying.
 pub fn tidy_is_a_run()
     ensures { TidyIsARun }
+{}
+
+/// It takes the steps of these forgettings, one after another, up to a cut in one, or up to the
+/// forgetting for which the store is spent.
+pub fn tidy_takes_its_steps()
+    ensures { TidyTakesItsSteps }
 {}
 
 /// Tidying is spent exactly where one of its forgettings is.

@@ -3,6 +3,10 @@ pub mod TurnByTurn
 pub mod ListedValues
 pub mod KeptChanges
 pub mod FirstStores
+pub mod Refusals
+pub mod FuseSteps
+pub mod Meeting
+pub mod Deciding
 pub mod WholeDrives
 pub mod StayingChanges
 pub mod Premises

@@ -15,6 +15,7 @@ pub use Rattle.ee_core.specs.Starts
 pub use Rattle.ee_core.specs.Rescues
 pub use Rattle.ee_index.specs.Index
 pub use Rattle.ee_store.specs.PowerCuts.Events
+pub use Rattle.ee_store.specs.PowerCuts.Deciding
 pub use Rattle.ee_store.specs.PowerCuts.Outcome
 pub use Rattle.ee_store.specs.PowerCuts.Bench
 pub use Rattle.ee_nor.specs.Nor

@@ -1,3 +1,4 @@
 pub mod Events
+pub mod Deciding
 pub mod Outcome
 pub mod Bench

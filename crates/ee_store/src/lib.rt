@@ -5,7 +5,7 @@
 //! # What a contract sees
 //!
 //! `Variables` (`ee_core`), and of `drive` a list of events and their answers
-//! (`specs/PowerCuts/Events.antt`, `Outcome.antt`).
+//! (`specs/PowerCuts/Events.antt`, `Outcome.antt`, `Deciding.antt`).
 //!
 //! # What is proved
 //!
@@ -14,7 +14,9 @@
 //! any legal image, and from a part on which no value was ever stored, no change that was answered
 //! is lost, whatever is cut and however often; of values written at once that met a cut all are
 //! there, or none (`driven`, `no_answered_change_is_lost`, `none_is_lost_from_none`,
-//! `a_kept_change_stays`). Where memory for the answers is refused, the device is as it was
+//! `a_kept_change_stays`). Where the fuse of the device is known before and behind them, as that of
+//! one in memory is, the answers, what is kept and the device are functions of the device before
+//! and of the events (`by_fuse`). Where memory for the answers is refused, the device is as it was
 //! (`refused`).
 //!
 //! # What is only tested

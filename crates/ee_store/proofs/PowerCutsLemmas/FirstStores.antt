@@ -3,13 +3,13 @@ use Rattle.std.proofs.Common.{◌≡◌, ◌⊎◌, inl, inr, Bool, false, Optio
 use Rattle.ee_flash.specs.Device.{Device}
 use Rattle.ee_pages.specs.Legal.{IsLegal}
 use Rattle.ee_pages.specs.Meaning.{Change, Map, changed_by}
-use Rattle.ee_core.proofs.Public.{changed_by-append, legal_on, legal_stays, startable_on}
+use Rattle.ee_core.proofs.Public.{changed_by-append, legal_stays, startable_on}
 use Rattle.ee_core.specs.Points.{Point, closed_point, with_power_on}
 use Rattle.ee_core.specs.Starts.{IsStartable, IsStarting}
 use Rattle.ee_core.specs.State.{State, formatted_state, state_of}
 use Rattle.ee_core.specs.declared.opening.OpenFault.TheVariants as opening
 use Rattle.ee_store.proofs.PowerCutsLemmas.KeptChanges.{no_answered_change_is_lost_lem}
-use Rattle.ee_store.specs.PowerCuts.Events.{AreTurns, Happens, Idles, IsLookedFor, IsTurn, Reopens, StartsUp, Turn, serves_after}
+use Rattle.ee_store.specs.PowerCuts.Events.{AreTurns, Happens, Idles, Reopens, StartsUp, Turn, serves_after}
 use Rattle.ee_store.specs.PowerCuts.Outcome.{AreValuesFrom, IsValueIn, WasKept, WasKeptFromNone, kept_by, kept_changes}
 use Rattle.ee_store.specs.declared.power_cuts.event.Answer.{Answer}
 use Rattle.ee_store.specs.declared.power_cuts.event.Answer.TheVariants.{NotOpened, Off, Opened}
@@ -17,13 +17,13 @@ use Rattle.ee_store.specs.declared.power_cuts.event.Event.{Event}
 use Rattle.ee_store.specs.declared.power_cuts.event.Event.TheVariants.{Clean, Clear, Forget, Get, Put, PutAll, Reopen, Start}
 
 -- it can still be started, and no store is open on it, or is a store with nothing in it
-abbrev Stands : Bool → Device → Type 0
+abbrev pub Stands : Bool → Device → Type 0
 Stands serving device =
     (IsStartable device × (serving ≡ false))
     ⊎ (IsLegal device × ((state_of device).map ≡ formatted_state.map))
 
 -- what a turn keeps there, where no store is open: nothing
-record KeepsNone (event : Event) (answer : Answer) (found : Option Bool) (new : Device)
+pub record KeepsNone (event : Event) (answer : Answer) (found : Option Bool) (new : Device)
     : Type 0 where
   pub none : kept_by event answer found ≡ []
   pub value : IsValueIn formatted_state.map event answer
@@ -75,7 +75,7 @@ starts (NotOpened (opening.Scan fault)) _ old _ startable fails =
     absurd (fails.0 (startable_on old startable))
 starts _ _ _ _ _ wrong = absurd wrong
 
-first : (event : Event) (answer : Answer) (found : Option Bool) (old new : Device)
+pub first : (event : Event) (answer : Answer) (found : Option Bool) (old new : Device)
     → IsStartable old → Happens false event answer old new → KeepsNone event answer found new
 first Reopen answer found old new startable happens =
     reopens answer found old new startable happens

@@ -21,7 +21,7 @@ use Rattle.ee_core.specs.Finished.{IsStore}
 use Rattle.ee_core.specs.Openings.{IsCutOpening, IsFormatted, Opens}
 use Rattle.ee_core.specs.Puts.{HasAll, IsEachOnce, each_forgotten, puts_of}
 use Rattle.ee_core.specs.Runs.{Call, WroteAll, Cleared as DidClear, Follows, changes_of_call, is_cut}
-use Rattle.ee_core.specs.Starts.{IsCutStart, IsStartable, StartFails, Starts}
+use Rattle.ee_core.specs.Starts.{IsCutStart, IsStartable}
 use Rattle.ee_core.specs.State.{state_of}
 use Rattle.ee_core.specs.declared.change.Put as listed
 use Rattle.ee_core.specs.declared.opening.OpenFault.TheVariants as opening

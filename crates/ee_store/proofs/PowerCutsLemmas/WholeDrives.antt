@@ -3,6 +3,7 @@ use Rattle.std.proofs.Common.{◌≡◌, ℕ, ◌≤◌, Bool, List, length, tak
 use Rattle.std.proofs.lemmas.List.{take_all}
 use Rattle.ee_flash.specs.Device.{Device, IsFormed}
 use Rattle.ee_core.specs.Points.{Point, closed_point}
+use Rattle.ee_store.proofs.PowerCutsLemmas.Deciding.{decided}
 use Rattle.ee_store.proofs.PowerCutsLemmas.KeptChanges.{no_answered_change_is_lost_lem, was_done}
 use Rattle.ee_store.proofs.PowerCutsLemmas.FirstStores.{none_is_lost_from_none_lem}
 use Rattle.ee_store.proofs.PowerCutsLemmas.TurnByTurn.{HasMet}
@@ -17,6 +18,7 @@ all_met : (old new : Device) (events : List Event) (log : List Answer) (kept : L
 all_met old new events log kept end formed met same = record {
   turns = met.turns;
   told = met.told;
+  by_fuse = decided met.turns old new events log kept end met.told met.turns_are same;
   done = was_done met.turns old new end met.turns_are (sym same) formed.cuts_fit;
   changes_kept = λ legal.
       subst (WasKept met.turns old) (sym same)

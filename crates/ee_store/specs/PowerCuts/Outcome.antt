@@ -13,6 +13,7 @@ use Rattle.ee_core.specs.Puts.{each_forgotten, is_put, puts_of}
 use Rattle.ee_core.specs.Starts.{IsStartable}
 use Rattle.ee_core.specs.State.{formatted_state, state_of}
 use Rattle.ee_core.specs.declared.opening.OpenFault.TheVariants.{Scan}
+use Rattle.ee_store.specs.PowerCuts.Deciding.{ByFuse}
 use Rattle.ee_store.specs.PowerCuts.Events.{AreTold, AreTurns, Turn, WasDone}
 use Rattle.ee_store.specs.declared.power_cuts.event.Answer.{Answer}
 use Rattle.ee_store.specs.declared.power_cuts.event.Answer.TheVariants.{Cleared, Done, NotCleared, NotForgotten, NotOpened, NotWritten, Refused, Value}
@@ -80,6 +81,7 @@ pub record Drives (old : Device) (events : List Event) (log : List Answer) (kept
   pub done : WasDone turns old new
   pub changes_kept : IsLegal old → WasKept turns old new
   pub from_none : IsStartable old → WasKeptFromNone turns new
+  pub by_fuse : ByFuse old events log kept new
 
 -- Whatever is cut, and however often, no change that was answered is lost, and each that
 -- a cut left is known.

@@ -266,7 +266,8 @@ fn has_all<F: Flash>(flash: &F, puts: &[Put]) -> bool
 /// before the first event.
 ///
 /// From any legal image, and from a device on which no value was ever stored, no change that was
-/// answered as done is lost, and of each that met a cut `kept` says whether the image has it.
+/// answered as done is lost, and of each that met a cut `kept` says whether the image has it. Where
+/// the fuse is known, as that of a device in memory is, the events and the device decide all of it.
 ///
 /// Source: ours.
 ///
