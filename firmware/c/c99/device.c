@@ -54,11 +54,26 @@ EE_IN_PLACE Step numbers_program(const Numbers *numbers, uint32_t page, uint32_t
     return step_ended(numbers, flash->program(flash->context, page, at, number));
 }
 
+/* The same of a flash of coded words. */
+EE_IN_PLACE Step ecc_numbers_program(const EccNumbers *numbers, uint32_t page, uint32_t at,
+        uint64_t number) {
+    return numbers_program(numbers, page, at, number);
+}
+
+/* A number of a flash of coded words, where it can be read. */
+EE_APART MaybeU64 ecc_numbers_read(const EccNumbers *numbers, uint32_t page, uint32_t at) {
+    const ee_flash *const flash = numbers->power->flash;
+    uint64_t number = 0u;
+    const bool some = flash != NULL && is_read(numbers, flash, page, at, &number);
+    return (MaybeU64){ .some = some, .value = number };
+}
+
 /* What a word holds. One that reads as all ones is erased, and one that can't be read is torn. */
 static Word device_word(const Device *device, uint32_t page, uint32_t at) {
     const ee_flash *const flash = flash_with(device, page, at);
     if (flash == NULL) { return word_torn(); }
     if (EE_IS_OF_PAIRS(flash)) { return pairs_word(device, page, at); }
+    if (EE_IS_CODED(flash)) { return coded_word(device, page, at); }
     uint64_t number = 0u;
     if (!is_read(device, flash, page, at, &number)) { return word_torn(); }
     return number == UINT64_MAX ? word_erased() : word_held(number);
@@ -89,6 +104,8 @@ EE_APART const uint64_t *run_at(const Device *device, uint32_t page, uint32_t at
         fill_unread(items, len);
     } else if (EE_IS_OF_PAIRS(flash)) {
         pairs_run(device, page, at, items, len);
+    } else if (EE_IS_CODED(flash)) {
+        coded_run(device, page, at, items, len);
     } else {
         const uint64_t *const seen = numbers_window(device, page, at, len).items;
         if (seen != NULL) { return seen; }
@@ -105,6 +122,7 @@ EE_IN_PLACE ListOfU64 device_run(const Device *device, uint32_t page, uint32_t a
 static Step device_program(Device *device, uint32_t page, uint32_t at, uint64_t value) {
     const ee_flash *const flash = flash_with(device, page, 0u);
     if (flash == NULL) { return CUT; }
+    if (EE_IS_CODED(flash)) { return coded_program(device, page, at, value); }
     return EE_IS_OF_PAIRS(flash) ? pairs_program(device, page, at, value)
             : numbers_program(device, page, at, value);
 }

@@ -24,16 +24,21 @@
 #endif
 
 /* By hand. Functions that only calls use which are left out have no use. */
-#if defined(__GNUC__) && (defined(EE_NO_PAIRS) || defined(EE_NO_LISTS) || defined(EE_NO_FORGET) || \
-        defined(EE_NO_RESCUE))
+#if defined(__GNUC__) && (defined(EE_NO_PAIRS) || defined(EE_NO_CODED) || defined(EE_NO_LISTS) || \
+        defined(EE_NO_FORGET) || defined(EE_NO_RESCUE))
 #pragma GCC diagnostic ignored "-Wunused-function"
 #endif
 
-/* By hand. What a flash may have, and whether it has numbers, two for each word. */
+/* By hand. Whether a flash has numbers, two for each word, and whether it has coded words. */
 #ifdef EE_NO_PAIRS
-#define EE_GREATEST_KIND EE_WORDS
 #define EE_IS_OF_PAIRS(flash) ((void)(flash), false)
-#else
-#define EE_GREATEST_KIND EE_PAIRS_CLEARING
+#elif defined(EE_NO_CODED)
 #define EE_IS_OF_PAIRS(flash) ((flash)->kind != EE_WORDS)
+#else
+#define EE_IS_OF_PAIRS(flash) ((flash)->kind - EE_PAIRS <= EE_PAIRS_CLEARING - EE_PAIRS)
+#endif
+#ifdef EE_NO_CODED
+#define EE_IS_CODED(flash) ((void)(flash), false)
+#else
+#define EE_IS_CODED(flash) ((flash)->kind == EE_CODED)
 #endif

@@ -9,7 +9,8 @@ from .types import is_slice, known, referred
 from .values import ASKING
 
 # What the hand-written part has for a device: a field for a method, and functions.
-FIELDS = {("Device", "shape"): "shape", ("Numbers", "shape"): "shape"}
+FIELDS = {("Device", "shape"): "shape", ("Numbers", "shape"): "shape",
+          ("EccNumbers", "shape"): "shape"}
 # Names that C libraries have, or the calls of ee.h.
 RESERVED = {"open", "remove", "read", "write", "close", "start", "format", "mark", "clean"}
 
