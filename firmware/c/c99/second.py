@@ -9,17 +9,19 @@ from collections import namedtuple
 
 TOKEN = re.compile(r"0x[0-9a-fA-F_]+|\d[\d_]*|[A-Za-z_]\w*|\.\.|::|->|=>|==|!=|<=|>=|&&|\|\||<<|>>"
                    r"|\+\+|--|\+=|-=|[^\s\w]")
-FOLDERS = ("ee_flash", "ee_codec", "ee_pages", "ee_core", "ee_index", "ee_nor")
-OPERATORS = {"&&", "||", "+", "-", "*", "/", "%", "<<", ">>", "&", "|", "+=", "-=", "<", "<=", ">",
+FOLDERS = ("ee_flash", "ee_codec", "ee_pages", "ee_core", "ee_index", "ee_nor",
+           "ee_nor/coded")
+OPERATORS = {"&&", "||", "+", "-", "*", "/", "%", "<<", ">>", "&", "|", "^", "+=", "-=", "<", "<=", ">",
              ">="}
 # Signs behind which `&`, `*` and `-` have one operand.
 BEFORE = {"", "(", ",", "=", "{", "}", ";", "return", "&&", "||", "=>", "!", "in", ":", "?", "[",
           "if", "match", "const", "mut", "==", *OPERATORS}
 # Methods of the device, which are written by hand in ee.c, and Rust's own.
-DEVICE = {f"{owner}_{name}": name for owner in ("device", "numbers")
+DEVICE = {f"{owner}_{name}": name for owner in ("device", "numbers", "ecc_numbers")
           for name in ("word", "run", "read", "window", "program", "erase", "is_on")}
 OWN = {"u32_saturating_sub": "saturating_sub", "u32_wrapping_sub": "wrapping_sub",
        "u32_wrapping_add": "wrapping_add", "u16_wrapping_sub": "wrapping_sub", "u32_least": "min",
+       "u32_count_ones": "count_ones",
        "copy_within": "copy_within", "get": "get"}
 # Methods that give a field, where they have no argument.
 FIELDS = {"shape", "pages", "words", "get", "len", "count"}
@@ -169,8 +171,9 @@ class Rust:
         """Counts a token outside of patterns."""
         token, (before, after) = tokens[at], around
         if token in ("Some", "Ok", "Err", "None"):
-            # `None => None, Some(..` is as `?`.
-            if tokens[at - 2:at + 3] != ["None", "=>", "None", ",", "Some"]:
+            # `None => None, Some(..` and `else { return None; }` of a `let` are as `?`.
+            is_tried = tokens[at - 3:at + 2] == ["else", "{", "return", "None", ";"]
+            if tokens[at - 2:at + 3] != ["None", "=>", "None", ",", "Some"] and not is_tried:
                 rows.made.append(token)
         elif after == "(" and token in self.known and token != "is_empty":
             if not (before == "." and token in FIELDS and tokens[at + 2] == ")"):
