@@ -857,8 +857,8 @@ static uint64_t set_number(const Device *flash, Side side, uint32_t slot);
 static MaybeU32 committed(const Device *flash, Side side);
 EE_IN_PLACE bool state_is_blank(const Device *flash, uint32_t page);
 static uint32_t blank_to(const Device *flash, uint32_t page, uint32_t from);
-EE_APART bool is_erased(const uint64_t *numbers_items, uint32_t numbers_len);
-static uint32_t erased_in(const uint64_t *numbers_items, uint32_t numbers_len);
+EE_APART bool is_erased(const uint64_t *readings_items, uint32_t readings_len);
+static uint32_t erased_in(const uint64_t *readings_items, uint32_t readings_len);
 static bool state_is_written(Word word);
 static bool is_torn(Word word);
 static bool is_slot(uint64_t number);
@@ -880,7 +880,8 @@ static MaybeIndex foreign_in_header(const Device *flash, Side side, uint32_t gen
         uint32_t page);
 static uint32_t first_told(uint32_t page);
 EE_APART uint32_t used_to(const Device *flash, uint32_t page);
-static uint32_t slots_in(const uint64_t *numbers_items, uint32_t numbers_len);
+static uint32_t slots_in(const Device *flash, const uint64_t *readings_items,
+        uint32_t readings_len);
 static void batch_new(Batch *made);
 EE_IN_PLACE MaybeLive batch_get(const Batch *self, uint32_t place);
 static void batch_take_out(Batch *self);
@@ -906,9 +907,10 @@ static uint16_t batch_number_of(MaybeAddress after);
 static void gather(const Device *flash, Side side, uint16_t above, Batch *nearest);
 static void gather_page(const Device *flash, Side side, uint32_t page, uint16_t above,
         Batch *nearest);
-EE_APART uint32_t note_all(uint16_t above, uint32_t span, const uint64_t *numbers_items,
-        uint32_t numbers_len, Batch *nearest);
-static uint32_t note_within(uint16_t above, uint32_t span, uint64_t number, Batch *nearest);
+EE_APART uint32_t note_all(const Device *flash, uint16_t above, uint32_t span,
+        const uint64_t *readings_items, uint32_t readings_len, Batch *nearest);
+static uint32_t note_within(const Device *flash, uint16_t above, uint32_t span, uint64_t reading,
+        Batch *nearest);
 static uint32_t span_of(const Batch *nearest, uint16_t above);
 static bool is_within(uint16_t address, uint16_t above, uint32_t span);
 #ifdef EE_INDEX
@@ -922,25 +924,28 @@ static uint32_t torn_slots(const Device *flash, const Layout *layout);
 static uint32_t torn_through(const Device *flash, Side side, uint32_t page, uint32_t before);
 static MaybeSaidValue said_in_page(const Device *flash, Side side, uint32_t page, uint32_t used,
         Address address);
-EE_APART uint32_t ending_in(const uint64_t *numbers_items, uint32_t numbers_len, Address address);
+EE_APART uint32_t ending_in(const uint64_t *readings_items, uint32_t readings_len, Address address);
+EE_IN_PLACE MaybeSaidValue said_by(const Device *flash, uint64_t reading);
 EE_IN_PLACE MaybeSaidValue said(uint64_t number);
 static void load(const Device *flash, const Layout *layout, Wanted *entries_items,
         uint32_t entries_len);
 static void clear_values(Wanted *entries_items, uint32_t entries_len);
 static void loading_tell_page(const Device *flash, Side side, uint32_t page, Wanted *entries_items,
         uint32_t entries_len);
-static void loading_tell_run(const uint64_t *numbers_items, uint32_t numbers_len,
-        Wanted *entries_items, uint32_t entries_len);
-static MaybeSaidValue said_in(const uint64_t *numbers_items, uint32_t numbers_len, Address address);
+static void loading_tell_run(const Device *flash, const uint64_t *readings_items,
+        uint32_t readings_len, Wanted *entries_items, uint32_t entries_len);
+static MaybeSaidValue said_in(const Device *flash, const uint64_t *readings_items,
+        uint32_t readings_len, Address address);
 static void span_new(Address first, uint32_t count, Span *made);
 static void span_of_one(Address address, MaybeU32 value, Span *made);
-static void span_note(Span *self, uint64_t number);
+static void span_note(Span *self, const Device *flash, uint64_t reading);
 static uint32_t span_said_from(const Span *self, uint32_t before);
 static void read_span(const Device *flash, const Layout *layout, Address first, uint32_t count,
         Span *made);
 static uint32_t span_tell_page(const Device *flash, Side side, uint32_t page, uint32_t used,
         Span *span, uint32_t before);
-static void span_tell_run(const uint64_t *numbers_items, uint32_t numbers_len, Span *span);
+static void span_tell_run(const Device *flash, const uint64_t *readings_items,
+        uint32_t readings_len, Span *span);
 static Step marking_mark(Device *flash, uint32_t page, Mark mark);
 static MaybeSide rescued_side(const Device *flash);
 static uint32_t named_generation(const Device *flash, Side side);
@@ -1172,20 +1177,18 @@ EE_IN_PLACE MaybeU64 decode(uint64_t word);
 static uint32_t low_half(uint32_t value, uint32_t low);
 static uint32_t parity_bits(uint32_t value, uint32_t low);
 static uint32_t weight_row_of(uint32_t half_weight);
-static uint64_t coded_number(Shape shape, uint64_t number);
+static uint64_t words_coded_number(Shape shape, uint64_t number);
 static Word word_of_reading(Shape shape, MaybeU64 reading);
+static uint64_t without_check(uint64_t number);
 static Word word_of_payload(Shape shape, uint64_t payload);
-static uint64_t payload_of(Shape shape, uint64_t number);
+EE_APART uint64_t payload_of(Shape shape, uint64_t number);
 static uint64_t mark_payload(Shape shape);
 static uint64_t words_number_of(uint64_t payload);
-static void coded_runs_fill_run(const EccNumbers *nor, uint32_t page, uint32_t at,
-        uint64_t *room_items, uint32_t room_len);
-static MaybeOtherShape other_shape(const EccNumbers *nor);
-static MaybeOtherShape other_named(const EccNumbers *nor, uint32_t page);
+EE_IN_PLACE MaybeOtherShape other_shape(const EccNumbers *nor);
+EE_APART MaybeOtherShape other_named(const EccNumbers *nor, uint32_t page);
 EE_IN_PLACE MaybeShape shape_of_mark(uint64_t number);
-static Word coded_word(const EccNumbers *self, uint32_t page, uint32_t at);
-static ListOfU64 coded_run(const EccNumbers *self, uint32_t page, uint32_t at,
-        uint64_t *room_items, uint32_t room_len);
+static uint64_t coded_number(const EccNumbers *self, uint64_t reading);
+static uint64_t coded_in_clear(const EccNumbers *self, uint64_t reading);
 static Step coded_program(EccNumbers *self, uint32_t page, uint32_t at, uint64_t value);
 
 /* ---- By hand: the device over the three functions of an `ee_flash`. It is on while the pointer to
@@ -1251,22 +1254,41 @@ EE_IN_PLACE Step ecc_numbers_program(const EccNumbers *numbers, uint32_t page, u
     return numbers_program(numbers, page, at, number);
 }
 
-/* A number of a flash of coded words, where it can be read. */
-EE_APART MaybeU64 ecc_numbers_read(const EccNumbers *numbers, uint32_t page, uint32_t at) {
-    const ee_flash *const flash = numbers->power->flash;
-    uint64_t number = 0u;
-    const bool some = flash != NULL && is_read(numbers, flash, page, at, &number);
-    return (MaybeU64){ .some = some, .value = number };
+/* One that can't be read is none, and so is 0, which is no coded word either. */
+EE_IN_PLACE MaybeU64 ecc_numbers_read(const EccNumbers *numbers, uint32_t page, uint32_t at) {
+    const uint64_t number = numbers_read(numbers, page, at);
+    return (MaybeU64){ .some = number != 0u, .value = number };
 }
 
-/* What a word holds. One that reads as all ones is erased, and one that can't be read is torn. */
+/* What a reading of a run says. Of words and of pairs it is the number of the word; of a device
+ * that is off it counts for nothing. */
+#ifdef EE_NO_CODED
+#define device_number(device, reading) ((void)(device), (reading))
+#define device_in_clear(device, reading) ((void)(device), (reading))
+#else
+EE_APART uint64_t device_number(const Device *device, uint64_t reading) {
+    const ee_flash *const flash = device->power->flash;
+    return flash != NULL && EE_IS_CODED(flash) ? coded_number(device, reading) : reading;
+}
+
+EE_IN_PLACE uint64_t device_in_clear(const Device *device, uint64_t reading) {
+    const ee_flash *const flash = device->power->flash;
+    return flash != NULL && EE_IS_CODED(flash) ? coded_in_clear(device, reading) : reading;
+}
+#endif
+
+/* What a word holds. One that reads as all ones is erased, and one that can't be read is torn. So
+ * is one of the number 0 where words are coded: no coded word has it. */
 static Word device_word(const Device *device, uint32_t page, uint32_t at) {
     const ee_flash *const flash = flash_with(device, page, at);
     if (flash == NULL) { return word_torn(); }
     if (EE_IS_OF_PAIRS(flash)) { return pairs_word(device, page, at); }
-    if (EE_IS_CODED(flash)) { return coded_word(device, page, at); }
     uint64_t number = 0u;
     if (!is_read(device, flash, page, at, &number)) { return word_torn(); }
+    if (EE_IS_CODED(flash)) {
+        number = device_number(device, number);
+        if (number == 0u) { return word_torn(); }
+    }
     return number == UINT64_MAX ? word_erased() : word_held(number);
 }
 
@@ -1287,8 +1309,8 @@ static void device_fill(const Device *device, const ee_flash *flash, uint32_t pa
     }
 }
 
-/* The numbers of the words from a place on, as many as there is room for: all ones of an erased
- * word, 0 of a torn one. They stand in the room, or where C has them. */
+/* Readings of the words from a place on, as many as there is room for: all ones of an erased word,
+ * 0 of one that can't be read. They stand in the room, or where C has them. */
 EE_APART const uint64_t *run_at(const Device *device, uint32_t page, uint32_t at, uint64_t *items,
         uint32_t len) {
     const ee_flash *const flash = flash_with(device, page, at);
@@ -1296,8 +1318,6 @@ EE_APART const uint64_t *run_at(const Device *device, uint32_t page, uint32_t at
         fill_unread(items, len);
     } else if (EE_IS_OF_PAIRS(flash)) {
         pairs_run(device, page, at, items, len);
-    } else if (EE_IS_CODED(flash)) {
-        coded_run(device, page, at, items, len);
     } else {
         const uint64_t *const seen = numbers_window(device, page, at, len).items;
         if (seen != NULL) { return seen; }
@@ -1582,7 +1602,7 @@ static Slot read_held(uint64_t number) {
 
 /* ---- ee_pages/runs.rs: The words of a page, several at a time. */
 
-/* The numbers of the words of a page from a place on: up to `RUN` of them, all before
+/* Readings of the words of a page from a place on: up to `RUN` of them, all before
  * `end`, and at least one. */
 EE_IN_PLACE ListOfU64 run_from(const Device *flash, uint32_t page, uint32_t at, uint32_t end,
         uint64_t *room) {
@@ -1635,7 +1655,7 @@ static uint64_t page_number(const Device *flash, Side side, uint32_t page, uint3
     }
     const ListOfU64 run = device_run(flash, first_page(flash, side) + page, HEADER_WORDS + slot,
             (RoomOfU64){ .items = room, .len = 1u });
-    return run.items[0u];
+    return device_number(flash, run.items[0u]);
 }
 
 /* The number of the slot of this number of a set, counted from 0: it says what the slot says. */
@@ -1651,12 +1671,12 @@ static MaybeU32 committed(const Device *flash, Side side) {
     for (uint32_t at = 0u; at < COMMITTING; at++) {
         room[at] = 1u;
     }
-    const ListOfU64 numbers = device_run(flash, first_page(flash, side), 0u,
+    const ListOfU64 run = device_run(flash, first_page(flash, side), 0u,
             (RoomOfU64){ .items = room, .len = COMMITTING });
-    /* A torn word is 0 in a run, and an erased one all ones: neither is a mark or a receive
+    /* The number of a torn word is 0, of an erased one all ones: neither is a mark or a receive
      * word. */
-    if (numbers.items[1u] == MARK) {
-        return read_receive(word_held(numbers.items[0u]));
+    if (device_number(flash, run.items[1u]) == MARK) {
+        return read_receive(word_held(device_number(flash, run.items[0u])));
     }
     return maybe_u32_none();
 }
@@ -1689,35 +1709,35 @@ static uint32_t blank_to(const Device *flash, uint32_t page, uint32_t from) {
     return words;
 }
 
-/* Whether all numbers are all ones. */
-EE_APART bool is_erased(const uint64_t *numbers_items, uint32_t numbers_len) {
-    const ListOfU64 numbers = { .items = numbers_items, .len = numbers_len };
+/* Whether all readings are all ones. */
+EE_APART bool is_erased(const uint64_t *readings_items, uint32_t readings_len) {
+    const ListOfU64 readings = { .items = readings_items, .len = readings_len };
     uint64_t all = UINT64_MAX;
-    if (numbers.len != 0u) {
-        const uint64_t *number = numbers.items;
-        const uint64_t *const number_end = number + numbers.len;
+    if (readings.len != 0u) {
+        const uint64_t *reading = readings.items;
+        const uint64_t *const reading_end = reading + readings.len;
         do {
-            all &= *number;
-            number++;
-        } while (number != number_end);
+            all &= *reading;
+            reading++;
+        } while (reading != reading_end);
     }
     return all == UINT64_MAX;
 }
 
-/* How many numbers, from the first on, are all ones. */
-static uint32_t erased_in(const uint64_t *numbers_items, uint32_t numbers_len) {
-    const ListOfU64 numbers = { .items = numbers_items, .len = numbers_len };
-    if (numbers.len != 0u) {
-        const uint64_t *number = numbers.items;
-        const uint64_t *const number_end = number + numbers.len;
+/* How many readings, from the first on, are all ones. */
+static uint32_t erased_in(const uint64_t *readings_items, uint32_t readings_len) {
+    const ListOfU64 readings = { .items = readings_items, .len = readings_len };
+    if (readings.len != 0u) {
+        const uint64_t *reading = readings.items;
+        const uint64_t *const reading_end = reading + readings.len;
         do {
-            if (*number != UINT64_MAX) {
-                return (uint32_t)(number - numbers.items);
+            if (*reading != UINT64_MAX) {
+                return (uint32_t)(reading - readings.items);
             }
-            number++;
-        } while (number != number_end);
+            reading++;
+        } while (reading != reading_end);
     }
-    return numbers.len;
+    return readings.len;
 }
 
 /* Whether something was programmed into the word, whole or torn. */
@@ -1984,11 +2004,10 @@ EE_APART uint32_t used_to(const Device *flash, uint32_t page) {
     uint32_t at = HEADER_WORDS;
     while (at < words) {
         const ListOfU64 run = run_from(flash, page, at, words, room);
-        const uint32_t slots = slots_in(run.items, run.len);
+        const uint32_t slots = slots_in(flash, run.items, run.len);
         const bool all = slots == run.len;
         at += slots;
         if (!all) {
-            /* A torn word is 0 in a run, as one that holds 0 is. */
             if (!is_torn(device_word(flash, page, at))) {
                 return at;
             }
@@ -1998,20 +2017,22 @@ EE_APART uint32_t used_to(const Device *flash, uint32_t page) {
     return words;
 }
 
-/* How many numbers, from the first on, are each of an element or a forgetting. */
-static uint32_t slots_in(const uint64_t *numbers_items, uint32_t numbers_len) {
-    const ListOfU64 numbers = { .items = numbers_items, .len = numbers_len };
-    if (numbers.len != 0u) {
-        const uint64_t *number = numbers.items;
-        const uint64_t *const number_end = number + numbers.len;
+/* How many words of these readings, from the first on, each are torn or have an element or a
+ * forgetting. The next has neither, and may be torn. */
+static uint32_t slots_in(const Device *flash, const uint64_t *readings_items,
+        uint32_t readings_len) {
+    const ListOfU64 readings = { .items = readings_items, .len = readings_len };
+    if (readings.len != 0u) {
+        const uint64_t *reading = readings.items;
+        const uint64_t *const reading_end = reading + readings.len;
         do {
-            if (!is_slot(*number)) {
-                return (uint32_t)(number - numbers.items);
+            if (!is_slot(device_in_clear(flash, *reading))) {
+                return (uint32_t)(reading - readings.items);
             }
-            number++;
-        } while (number != number_end);
+            reading++;
+        } while (reading != reading_end);
     }
-    return numbers.len;
+    return readings.len;
 }
 
 /* ---- ee_pages/batch_items.rs: The room of a batch: up to `BATCH` addresses with their values,
@@ -2208,33 +2229,36 @@ static void gather_page(const Device *flash, Side side, uint32_t page, uint16_t 
     while (at < words) {
         const ListOfU64 run = run_from(flash, here, at, words, room);
         at += run.len;
-        span = note_all(above, span, run.items, run.len, nearest);
+        span = note_all(flash, above, span, run.items, run.len, nearest);
     }
 }
 
-/* Notes what these numbers say, of so many addresses above this one, which are those that have a
- * place in the batch. Gives how many have one then. */
-EE_APART uint32_t note_all(uint16_t above, uint32_t span, const uint64_t *numbers_items,
-        uint32_t numbers_len, Batch *nearest) {
-    const ListOfU64 numbers = { .items = numbers_items, .len = numbers_len };
-    if (numbers.len != 0u) {
-        const uint64_t *number = numbers.items;
-        const uint64_t *const number_end = number + numbers.len;
+/* Notes what the words of these readings say, of so many addresses above this one, which are those
+ * that have a place in the batch. Gives how many have one then. */
+EE_APART uint32_t note_all(const Device *flash, uint16_t above, uint32_t span,
+        const uint64_t *readings_items, uint32_t readings_len, Batch *nearest) {
+    const ListOfU64 readings = { .items = readings_items, .len = readings_len };
+    if (readings.len != 0u) {
+        const uint64_t *reading = readings.items;
+        const uint64_t *const reading_end = reading + readings.len;
         do {
-            span = note_within(above, span, *number, nearest);
-            number++;
-        } while (number != number_end);
+            span = note_within(flash, above, span, *reading, nearest);
+            reading++;
+        } while (reading != reading_end);
     }
     return span;
 }
 
-/* Notes what a number says, if it is of one of so many addresses above this one. */
-static uint32_t note_within(uint16_t above, uint32_t span, uint64_t number, Batch *nearest) {
+/* Notes what the word of a reading says, if it is of one of so many addresses above this one. */
+static uint32_t note_within(const Device *flash, uint16_t above, uint32_t span, uint64_t reading,
+        Batch *nearest) {
     /* Asked first, since most words are of an address that has no place in a batch. */
-    if (!is_within(address_in(number), above, span)) {
+    const uint16_t address = address_in(reading);
+    if (!is_within(address, above, span)) {
         return span;
     }
-    if (batch_note_any(nearest, number)) {
+    const uint64_t number = device_number(flash, reading);
+    if (address_in(number) == address && batch_note_any(nearest, number)) {
         return span_of(nearest, above);
     }
     return span;
@@ -2366,7 +2390,7 @@ static MaybeSaidValue said_in_page(const Device *flash, Side side, uint32_t page
                 (RoomOfU64){ .items = room, .len = count });
         const uint32_t ends = ending_in(run.items, run.len, address);
         if (ends > 0u) {
-            const MaybeSaidValue maybe_said = said(run.items[ends - 1u]);
+            const MaybeSaidValue maybe_said = said_by(flash, run.items[ends - 1u]);
             if (maybe_said.some) {
                 return maybe_said_value_some(maybe_said.value);
             }
@@ -2376,16 +2400,27 @@ static MaybeSaidValue said_in_page(const Device *flash, Side side, uint32_t page
     return maybe_said_value_none();
 }
 
-/* How many of these numbers stand up to the last that ends in an address, 0 where none does. It
- * does no more than that, since most numbers end in another one. */
-EE_APART uint32_t ending_in(const uint64_t *numbers_items, uint32_t numbers_len, Address address) {
-    const ListOfU64 numbers = { .items = numbers_items, .len = numbers_len };
-    uint32_t left = numbers.len;
-    const uint64_t *last = numbers.items + left;
+/* How many of these readings stand up to the last that ends in an address, 0 where none does. It
+ * does no more than that, since most end in another one. */
+EE_APART uint32_t ending_in(const uint64_t *readings_items, uint32_t readings_len,
+        Address address) {
+    const ListOfU64 readings = { .items = readings_items, .len = readings_len };
+    uint32_t left = readings.len;
+    const uint64_t *last = readings.items + left;
     while (left > 0u && address_in(*--last) != address) {
         left -= 1u;
     }
     return left;
+}
+
+/* What the word of a reading says of the address that this ends in. */
+EE_IN_PLACE MaybeSaidValue said_by(const Device *flash, uint64_t reading) {
+    const uint64_t number = device_number(flash, reading);
+    /* Another one ends in another address, as 0 does, the number of a torn word. */
+    if (address_in(number) != address_in(reading)) {
+        return maybe_said_value_none();
+    }
+    return said(number);
 }
 
 /* What a number says of the address that it ends in: nothing, or that it has a value
@@ -2439,19 +2474,19 @@ static void loading_tell_page(const Device *flash, Side side, uint32_t page, Wan
     while (at < words) {
         const ListOfU64 run = run_from(flash, here, at, words, room);
         at += run.len;
-        loading_tell_run(run.items, run.len, entries.items, entries.len);
+        loading_tell_run(flash, run.items, run.len, entries.items, entries.len);
     }
 }
 
-/* Gives the entries what these numbers of slots say. */
-static void loading_tell_run(const uint64_t *numbers_items, uint32_t numbers_len,
-        Wanted *entries_items, uint32_t entries_len) {
-    const ListOfU64 numbers = { .items = numbers_items, .len = numbers_len };
+/* Gives the entries what the words of these readings say. */
+static void loading_tell_run(const Device *flash, const uint64_t *readings_items,
+        uint32_t readings_len, Wanted *entries_items, uint32_t entries_len) {
+    const ListOfU64 readings = { .items = readings_items, .len = readings_len };
     const RoomOfWanted entries = { .items = entries_items, .len = entries_len };
     if (entries.len != 0u) {
         uint32_t at = 0u;
         do {
-            const MaybeSaidValue maybe_said = said_in(numbers.items, numbers.len,
+            const MaybeSaidValue maybe_said = said_in(flash, readings.items, readings.len,
                     entries.items[at].address);
             if (maybe_said.some) {
                 const MaybeU32 said_2 = maybe_said.value;
@@ -2462,15 +2497,15 @@ static void loading_tell_run(const uint64_t *numbers_items, uint32_t numbers_len
     }
 }
 
-/* What these numbers of slots say of an address: the last that says something counts. */
-static MaybeSaidValue said_in(const uint64_t *numbers_items, uint32_t numbers_len,
-        Address address) {
-    const ListOfU64 numbers = { .items = numbers_items, .len = numbers_len };
-    uint32_t left = numbers.len;
+/* What the words of these readings say of an address: the last that says something counts. */
+static MaybeSaidValue said_in(const Device *flash, const uint64_t *readings_items,
+        uint32_t readings_len, Address address) {
+    const ListOfU64 readings = { .items = readings_items, .len = readings_len };
+    uint32_t left = readings.len;
     while (left > 0u) {
         left -= 1u;
-        if (address_in(numbers.items[left]) == address) {
-            const MaybeSaidValue said_2 = said(numbers.items[left]);
+        if (address_in(readings.items[left]) == address) {
+            const MaybeSaidValue said_2 = said_by(flash, readings.items[left]);
             if (said_2.some) {
                 return said_2;
             }
@@ -2501,11 +2536,16 @@ static void span_of_one(Address address, MaybeU32 value, Span *made) {
     }
 }
 
-/* Notes what a number says, if it is of one of the addresses, of which nothing is said. */
-static void span_note(Span *self, uint64_t number) {
-    const uint32_t at = (uint32_t)u16_wrapping_sub(address_in(number), self->first);
+/* Notes what the word of a reading says, if it is of one of the addresses, of which nothing is
+ * said. */
+static void span_note(Span *self, const Device *flash, uint64_t reading) {
+    const uint16_t address = address_in(reading);
+    const uint32_t at = (uint32_t)u16_wrapping_sub(address, self->first);
     if (at < self->count && !said(self->numbers[at]).some) {
-        self->numbers[at] = number;
+        const uint64_t number = device_number(flash, reading);
+        if (address_in(number) == address) {
+            self->numbers[at] = number;
+        }
     }
 }
 
@@ -2551,19 +2591,20 @@ static uint32_t span_tell_page(const Device *flash, Side side, uint32_t page, ui
         left -= count;
         const ListOfU64 run = device_run(flash, here, HEADER_WORDS + left,
                 (RoomOfU64){ .items = room, .len = count });
-        span_tell_run(run.items, run.len, span);
+        span_tell_run(flash, run.items, run.len, span);
         said_to = span_said_from(span, said_to);
     }
     return said_to;
 }
 
-/* Notes what these numbers say, which stand before those noted. */
-static void span_tell_run(const uint64_t *numbers_items, uint32_t numbers_len, Span *span) {
-    const ListOfU64 numbers = { .items = numbers_items, .len = numbers_len };
-    uint32_t left = numbers.len;
+/* Notes what the words of these readings say, which stand before those noted. */
+static void span_tell_run(const Device *flash, const uint64_t *readings_items,
+        uint32_t readings_len, Span *span) {
+    const ListOfU64 readings = { .items = readings_items, .len = readings_len };
+    uint32_t left = readings.len;
     while (left > 0u) {
         left -= 1u;
-        span_note(span, numbers.items[left]);
+        span_note(span, flash, readings.items[left]);
     }
 }
 
@@ -4498,9 +4539,9 @@ static Word pairs_word(const Numbers *self, uint32_t page, uint32_t at) {
     return word_of(number, check);
 }
 
-/* The numbers of the words from a place on, as many as there is room for, whether power is on
- * or off: `u64::MAX` of an erased word, 0 of a torn one. They stand in the room, or where the
- * device has them. `word` tells a torn word from one that holds 0. */
+/* Readings of the words from a place on, as many as there is room for, whether power is on or
+ * off. They stand in the room, or where the device has them. An erased word alone reads as
+ * `u64::MAX`, and a slot's number as one that ends in the same 16 bits. */
 static ListOfU64 pairs_run(const Numbers *self, uint32_t page, uint32_t at, uint64_t *room_items,
         uint32_t room_len) {
     const RoomOfU64 room = { .items = room_items, .len = room_len };
@@ -4737,7 +4778,7 @@ static uint32_t weight_row_of(uint32_t half_weight) {
 
 /* The coded word of a number on a device of this shape: of a number that a store writes, else of
  * some other. The mark says the shape. */
-static uint64_t coded_number(Shape shape, uint64_t number) {
+static uint64_t words_coded_number(Shape shape, uint64_t number) {
     return encode(payload_of(shape, number));
 }
 
@@ -4760,6 +4801,11 @@ static Word word_of_reading(Shape shape, MaybeU64 reading) {
     return word_torn();
 }
 
+/* A number of the flash with zeros where a coded word has its check. */
+static uint64_t without_check(uint64_t number) {
+    return (number >> 32u) * UINT64_C(0x100000000) + (number & UINT64_C(0x1FFFF));
+}
+
 /* The word of a payload: held where it is a number's. */
 static Word word_of_payload(Shape shape, uint64_t payload) {
     const uint64_t number = words_number_of(payload);
@@ -4770,7 +4816,7 @@ static Word word_of_payload(Shape shape, uint64_t payload) {
 }
 
 /* The payload of a number. */
-static uint64_t payload_of(Shape shape, uint64_t number) {
+EE_APART uint64_t payload_of(Shape shape, uint64_t number) {
     const uint64_t value = number >> 32u;
     const uint64_t low = number & UINT64_C(0xFFFFFFFF);
     if (low < UINT64_C(0x20000) && (low & 0xFFFFu) > 0u) {
@@ -4800,29 +4846,10 @@ static uint64_t words_number_of(uint64_t payload) {
     return value * UINT64_C(0x100000000) + low;
 }
 
-/* ---- coded/runs.rs: The numbers of words one behind another. */
-
-/* Puts the numbers of as many words as there is room for into the room, from a place of a page
- * on. */
-static void coded_runs_fill_run(const EccNumbers *nor, uint32_t page, uint32_t at,
-        uint64_t *room_items, uint32_t room_len) {
-    const RoomOfU64 room = { .items = room_items, .len = room_len };
-    const Shape shape = nor->shape;
-    if (room.len != 0u) {
-        uint64_t *number = room.items;
-        uint64_t *const number_end = number + room.len;
-        do {
-            *number = word_number(word_of_reading(shape, ecc_numbers_read(nor, page,
-                    at + (uint32_t)(number - room.items))));
-            number++;
-        } while (number != number_end);
-    }
-}
-
 /* ---- coded/shapes.rs: The shape that the mark of a flash of coded numbers says. */
 
 /* The other shape that the first page of a set names. */
-static MaybeOtherShape other_shape(const EccNumbers *nor) {
+EE_IN_PLACE MaybeOtherShape other_shape(const EccNumbers *nor) {
     const MaybeOtherShape maybe_other_named = other_named(nor, 0u);
     if (maybe_other_named.some) {
         return maybe_other_shape_some(maybe_other_named.value);
@@ -4831,7 +4858,7 @@ static MaybeOtherShape other_shape(const EccNumbers *nor) {
 }
 
 /* The other shape whose mark stands in word 1 of a page. */
-static MaybeOtherShape other_named(const EccNumbers *nor, uint32_t page) {
+EE_APART MaybeOtherShape other_named(const EccNumbers *nor, uint32_t page) {
     const MaybeU64 maybe_number = ecc_numbers_read(nor, page, 1u);
     if (!maybe_number.some) {
         return maybe_other_shape_none();
@@ -4867,19 +4894,17 @@ EE_IN_PLACE MaybeShape shape_of_mark(uint64_t number) {
 
 /* ---- coded/coded.rs: A device of words on a flash of coded numbers. */
 
-/* What a word holds, whether power is on or off. */
-static Word coded_word(const EccNumbers *self, uint32_t page, uint32_t at) {
-    return word_of_reading((*self).shape, ecc_numbers_read(self, page, at));
+/* The number of the word of a reading: `u64::MAX` of an erased word, 0 of a torn one. `word`
+ * tells a torn word from one that holds 0. */
+static uint64_t coded_number(const EccNumbers *self, uint64_t reading) {
+    return word_number(word_of_reading((*self).shape, maybe_u64_some(reading)));
 }
 
-/* The numbers of the words from a place on, as many as there is room for, whether power is on
- * or off: `u64::MAX` of an erased word, 0 of a torn one. They stand in the room, or where the
- * device has them. `word` tells a torn word from one that holds 0. */
-static ListOfU64 coded_run(const EccNumbers *self, uint32_t page, uint32_t at,
-        uint64_t *room_items, uint32_t room_len) {
-    const RoomOfU64 room = { .items = room_items, .len = room_len };
-    coded_runs_fill_run(self, page, at, room.items, room.len);
-    return (ListOfU64){ .items = room.items, .len = room.len };
+/* What a reading says of a slot with no check: its number, or, where that ends in less than
+ * 65535, one that a torn word may seem to hold. */
+static uint64_t coded_in_clear(const EccNumbers *self, uint64_t reading) {
+    (void)self;
+    return without_check(reading);
 }
 
 /* Programs an erased word with a number below `u64::MAX`, one of those that a store writes.
@@ -4889,7 +4914,7 @@ static ListOfU64 coded_run(const EccNumbers *self, uint32_t page, uint32_t at,
  * `Cut`, only with the device off afterwards: power failed in this step, or was off before it
  * and nothing changed. */
 static Step coded_program(EccNumbers *self, uint32_t page, uint32_t at, uint64_t value) {
-    const uint64_t number = coded_number((*self).shape, value);
+    const uint64_t number = words_coded_number((*self).shape, value);
     return ecc_numbers_program(self, page, at, number);
 }
 
@@ -4984,12 +5009,16 @@ EE_APART ee_result opening_ended(ee_result status, ee_store *memory) {
 }
 
 /* The same of a flash that may hold a store: coded words are of this shape, or of none. */
-EE_IN_PLACE ee_result known_in(ee_store *memory, const ee_flash *flash) {
+#ifdef EE_NO_CODED
+#define known_in device_in
+#else
+EE_APART ee_result known_in(ee_store *memory, const ee_flash *flash) {
     const ee_result status = device_in(memory, flash);
     if (status != EE_OK || !EE_IS_CODED(flash)) { return status; }
-    const bool is_other = other_shape(&store_of(memory)->flash).some;
-    return is_other ? opening_ended(EE_OTHER_SHAPE, memory) : status;
+    return other_shape(&store_of(memory)->flash).some ? opening_ended(EE_OTHER_SHAPE,
+            memory) : status;
 }
+#endif
 
 /* Whether a word is written that a first start which was cut doesn't leave: any but the first two
  * of page 0, or but those of page 0 where an erase clears first. */
@@ -5011,10 +5040,11 @@ static ee_result started(ee_store *memory, const ee_flash *flash, bool may_be_ne
     Device *const device = &store_of(memory)->flash;
     Layout *const layout = &store_of(memory)->known.layout;
     if (EE_IS_OF_PAIRS(flash) || EE_IS_CODED(flash)) {
-        const bool is_low = EE_IS_OF_PAIRS(flash) && flash->kind == EE_PAIRS &&
-                first_low(device).some;
-        if (is_low) { return opening_ended(EE_FOREIGN, memory); }
-        may_be_new = may_be_new && !holds_more(device, flash->kind == EE_PAIRS_CLEARING);
+        const bool clears_first = flash->kind == EE_PAIRS_CLEARING;
+        const bool is_looked_through = EE_IS_OF_PAIRS(flash) && !clears_first;
+        if (is_looked_through && first_low(device).some) { return opening_ended(EE_FOREIGN,
+                memory); }
+        may_be_new = may_be_new && !holds_more(device, clears_first);
     }
     return opening_ended(may_be_new ? start_on(device, layout) : open_on(device, layout), memory);
 }

@@ -88,12 +88,15 @@ EE_APART ee_result opening_ended(ee_result status, ee_store *memory) {
 }
 
 /* The same of a flash that may hold a store: coded words are of this shape, or of none. */
-EE_IN_PLACE ee_result known_in(ee_store *memory, const ee_flash *flash) {
+#ifdef EE_NO_CODED
+#define known_in device_in
+#else
+EE_APART ee_result known_in(ee_store *memory, const ee_flash *flash) {
     const ee_result status = device_in(memory, flash);
     if (status != EE_OK || !EE_IS_CODED(flash)) { return status; }
-    const bool is_other = other_shape(&store_of(memory)->flash).some;
-    return is_other ? opening_ended(EE_OTHER_SHAPE, memory) : status;
+    return other_shape(&store_of(memory)->flash).some ? opening_ended(EE_OTHER_SHAPE, memory) : status;
 }
+#endif
 
 /* Whether a word is written that a first start which was cut doesn't leave: any but the first two of
  * page 0, or but those of page 0 where an erase clears first. */
@@ -115,9 +118,10 @@ static ee_result started(ee_store *memory, const ee_flash *flash, bool may_be_ne
     Device *const device = &store_of(memory)->flash;
     Layout *const layout = &store_of(memory)->known.layout;
     if (EE_IS_OF_PAIRS(flash) || EE_IS_CODED(flash)) {
-        const bool is_low = EE_IS_OF_PAIRS(flash) && flash->kind == EE_PAIRS && first_low(device).some;
-        if (is_low) { return opening_ended(EE_FOREIGN, memory); }
-        may_be_new = may_be_new && !holds_more(device, flash->kind == EE_PAIRS_CLEARING);
+        const bool clears_first = flash->kind == EE_PAIRS_CLEARING;
+        const bool is_looked_through = EE_IS_OF_PAIRS(flash) && !clears_first;
+        if (is_looked_through && first_low(device).some) { return opening_ended(EE_FOREIGN, memory); }
+        may_be_new = may_be_new && !holds_more(device, clears_first);
     }
     return opening_ended(may_be_new ? start_on(device, layout) : open_on(device, layout), memory);
 }

@@ -60,22 +60,41 @@ EE_IN_PLACE Step ecc_numbers_program(const EccNumbers *numbers, uint32_t page, u
     return numbers_program(numbers, page, at, number);
 }
 
-/* A number of a flash of coded words, where it can be read. */
-EE_APART MaybeU64 ecc_numbers_read(const EccNumbers *numbers, uint32_t page, uint32_t at) {
-    const ee_flash *const flash = numbers->power->flash;
-    uint64_t number = 0u;
-    const bool some = flash != NULL && is_read(numbers, flash, page, at, &number);
-    return (MaybeU64){ .some = some, .value = number };
+/* One that can't be read is none, and so is 0, which is no coded word either. */
+EE_IN_PLACE MaybeU64 ecc_numbers_read(const EccNumbers *numbers, uint32_t page, uint32_t at) {
+    const uint64_t number = numbers_read(numbers, page, at);
+    return (MaybeU64){ .some = number != 0u, .value = number };
 }
 
-/* What a word holds. One that reads as all ones is erased, and one that can't be read is torn. */
+/* What a reading of a run says. Of words and of pairs it is the number of the word; of a device that
+ * is off it counts for nothing. */
+#ifdef EE_NO_CODED
+#define device_number(device, reading) ((void)(device), (reading))
+#define device_in_clear(device, reading) ((void)(device), (reading))
+#else
+EE_APART uint64_t device_number(const Device *device, uint64_t reading) {
+    const ee_flash *const flash = device->power->flash;
+    return flash != NULL && EE_IS_CODED(flash) ? coded_number(device, reading) : reading;
+}
+
+EE_IN_PLACE uint64_t device_in_clear(const Device *device, uint64_t reading) {
+    const ee_flash *const flash = device->power->flash;
+    return flash != NULL && EE_IS_CODED(flash) ? coded_in_clear(device, reading) : reading;
+}
+#endif
+
+/* What a word holds. One that reads as all ones is erased, and one that can't be read is torn. So is
+ * one of the number 0 where words are coded: no coded word has it. */
 static Word device_word(const Device *device, uint32_t page, uint32_t at) {
     const ee_flash *const flash = flash_with(device, page, at);
     if (flash == NULL) { return word_torn(); }
     if (EE_IS_OF_PAIRS(flash)) { return pairs_word(device, page, at); }
-    if (EE_IS_CODED(flash)) { return coded_word(device, page, at); }
     uint64_t number = 0u;
     if (!is_read(device, flash, page, at, &number)) { return word_torn(); }
+    if (EE_IS_CODED(flash)) {
+        number = device_number(device, number);
+        if (number == 0u) { return word_torn(); }
+    }
     return number == UINT64_MAX ? word_erased() : word_held(number);
 }
 
@@ -95,8 +114,8 @@ static void device_fill(const Device *device, const ee_flash *flash, uint32_t pa
     }
 }
 
-/* The numbers of the words from a place on, as many as there is room for: all ones of an erased
- * word, 0 of a torn one. They stand in the room, or where C has them. */
+/* Readings of the words from a place on, as many as there is room for: all ones of an erased word, 0
+ * of one that can't be read. They stand in the room, or where C has them. */
 EE_APART const uint64_t *run_at(const Device *device, uint32_t page, uint32_t at, uint64_t *items,
         uint32_t len) {
     const ee_flash *const flash = flash_with(device, page, at);
@@ -104,8 +123,6 @@ EE_APART const uint64_t *run_at(const Device *device, uint32_t page, uint32_t at
         fill_unread(items, len);
     } else if (EE_IS_OF_PAIRS(flash)) {
         pairs_run(device, page, at, items, len);
-    } else if (EE_IS_CODED(flash)) {
-        coded_run(device, page, at, items, len);
     } else {
         const uint64_t *const seen = numbers_window(device, page, at, len).items;
         if (seen != NULL) { return seen; }

@@ -35,7 +35,7 @@ ROOTS = [
       "generation live_count pending torn_slots".split()],
     ("span", "read_span"), ("Span", "of_one"),
     ("Pairs", "word"), ("Pairs", "run"), ("Pairs", "program"),
-    ("Coded", "word"), ("Coded", "run"), ("Coded", "program"), ("shapes", "other_shape"),
+    ("Coded", "number"), ("Coded", "in_clear"), ("Coded", "program"), ("shapes", "other_shape"),
     ("state", "is_blank"), ("state", "blank_to"),
     ("Shape", "new"), ("Address", "new"),
 ]
