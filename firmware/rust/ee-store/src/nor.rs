@@ -146,7 +146,7 @@ impl<F: NorFlash, E: Ecc<F>> NorDriver<F, E> {
     /// The first [`Unfit`] that applies.
     pub fn new(flash: F, offset: u32, shape: Shape, kind: Kind, ecc: E) -> Result<Self, Unfit> {
         Self::check_sizes(offset)?;
-        if (kind == Kind::Words) != (F::WRITE_SIZE >= 8) {
+        if matches!(kind, Kind::Words | Kind::Coded) != (F::WRITE_SIZE >= 8) {
             return Err(Unfit::Kind);
         }
         let stride = (shape.words() * Self::WORD_BYTES).next_multiple_of(F::ERASE_SIZE) as u64;
@@ -256,7 +256,7 @@ impl<F: NorFlash, E: Ecc<F>> Driver for NorDriver<F, E> {
         let bytes = &mut bytes[..Self::UNIT];
         match self.kind {
             _ if self.look(page, at, bytes)? => Ok(Self::word_in(bytes)),
-            Kind::Words => Ok(Word::Torn),
+            Kind::Words | Kind::Coded => Ok(Word::Torn),
             _ => Ok(Word::Held(TORN)),
         }
     }
