@@ -205,9 +205,15 @@ impl<A: Allocator> Flash for ListFlash<'_, A> {
     ghost use Rattle.ee_fakes.specs.Listed.{after_listed_step, IsNextDone, device_of_list, state_of_list};
     ghost use Rattle.ee_flash.specs.Step.{Erase, with_page_erased, IsCutIn, IsUntouched, Program, with_word_programmed};
     ghost use Rattle.ee_fakes.specs.Formed.{IsFormed-listed};
+    ghost use Rattle.ee_flash.specs.OwnReadings.{own_shown};
+    ghost use Rattle.ee_flash.specs.Runs.{IsOwnReading};
     ghost use Rattle.std.proofs.Common.{sym, ◌∙◌};
 
     ghost device = { device_of_list };
+
+    ghost reads = { λ flash. IsOwnReading };
+
+    ghost shown = { λ flash. own_shown };
 
     ghost formed = { λ flash.
         IsFormed-listed flash.shape flash.cells.items flash.wear.items flash.cuts flash.on
@@ -236,6 +242,14 @@ impl<A: Allocator> Flash for ListFlash<'_, A> {
             *number = self.word(page, at + behind).number();
         }
         room
+    }
+
+    fn number(&self, reading: u64) -> u64 {
+        reading
+    }
+
+    fn in_clear(&self, reading: u64) -> u64 {
+        reading
     }
 
     // As of any device, and besides exactly what the list says.

@@ -3,7 +3,7 @@ use Rattle.std.proofs.Common.{◌≡◌, ℕ, ◌+◌, ◌<◌, ◌≤◌, List,
 use Rattle.std.proofs.lemmas.List.{get_or-drop, get_or-map, get_or-take, length-drop, length-map, length-take}
 use Rattle.std.proofs.lemmas.Grind.{same_number_lists}
 use Rattle.ee_flash.specs.Device.{Device, IsFormed, page_at, word_at}
-use Rattle.ee_flash.specs.Runs.{number_of, run_of}
+use Rattle.ee_flash.specs.Runs.{AreReadings, IsOwnReading, number_of, run_of}
 use Rattle.ee_flash.specs.Size.{page_count}
 use Rattle.ee_flash.specs.declared.word.Word.{Word}
 use Rattle.ee_flash.specs.declared.word.Word.TheVariants.{Erased}
@@ -16,6 +16,15 @@ same_numbers words numbers as_long each =
     same_number_lists numbers (map number_of words) (as_long ∙ sym (length-map words number_of))
     (λ k h. each k (omega arith)
     ∙ sym (get_or-map number_of words k Erased 0 (omega (arith, length-map words number_of))))
+
+-- words read as their numbers
+pub own_readings : (words : List Word) (readings : List ℕ) → readings ≡ map number_of words
+    → AreReadings IsOwnReading words readings
+own_readings words readings is = record {
+  as_many = ap (λ (list : List ℕ). length list) is ∙ length-map words number_of;
+  each = λ k h. ap (λ (list : List ℕ). get_or list k 0) is
+      ∙ get_or-map number_of words k Erased 0 h;
+}
 
 -- a run has as many numbers as it has words
 pub length-run_of : (device : Device) (page at count : ℕ) → IsFormed device

@@ -5,6 +5,7 @@ pub mod Wear
 pub mod Step
 pub mod Power
 pub mod Runs
+pub mod OwnReadings
 pub mod Fuse
 pub mod Pages
 pub mod Formed

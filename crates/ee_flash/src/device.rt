@@ -1,9 +1,9 @@
 //! The flash device as the layers above know it: words are programmed, pages erased, and power is
 //! cut.
-ghost use Rattle.std.specs.Prelude.{◌<◌, ◌≤◌, ◌+◌, ◌≡◌, ◌⊎◌, OnErr, OnOk, length, true};
+ghost use Rattle.std.specs.Prelude.{◌<◌, ◌≤◌, ◌+◌, ◌≡◌, ◌⊎◌, ℕ, OnErr, OnOk, length, true};
 ghost use Rattle.ee_flash.specs.Device.{Device, IsBelowAllOnes, IsFormed, IsOn, all_ones, wear_at, word_at};
 ghost use Rattle.ee_flash.specs.Numbers.{IsStoreNumber};
-ghost use Rattle.ee_flash.specs.Runs.{run_of};
+ghost use Rattle.ee_flash.specs.Runs.{AreReadings, IsInClear, IsShownBy, number_of, words_from};
 ghost use Rattle.ee_flash.specs.Size.{page_count};
 ghost use Rattle.ee_flash.specs.Step.{Erase, IsCutIn, IsUntouched, Program, with_page_erased, with_word_programmed};
 
@@ -26,6 +26,9 @@ pub trait Flash {
     /// The device as a value.
     ghost device: { Self → Device };
 
+    /// As what a word may read, in a run.
+    ghost reads: { Self → Word → ℕ → Type 0 };
+
     /// The pages of each set and the words of each page.
     fn shape(&self) -> Shape
         ensures { result ≡ (device self.now).size };
@@ -46,13 +49,24 @@ pub trait Flash {
         ensures value { result ≡ word_at (device self.now) page at }
         ensures below_all_ones { IsBelowAllOnes result };
 
-    /// The numbers of the words from a place on, as many as there is room for, whether power is on
-    /// or off: `u64::MAX` of an erased word, 0 of a torn one. They stand in the room, or where the
-    /// device has them. `word` tells a torn word from one that holds 0.
+    /// Readings of the words from a place on, as many as there is room for, whether power is on or
+    /// off. They stand in the room, or where the device has them. An erased word alone reads as
+    /// `u64::MAX`, and a slot's number as one that ends in the same 16 bits.
     fn run<'a>(&'a self, page: usize, at: usize, room: &'a mut [u64]) -> &'a [u64]
         requires page_in_range { page < page_count (device self.now).size }
         requires places_in_range { at + length room.old ≤ (device self.now).size.words }
-        ensures { result.now ≡ run_of (device self.now) page at (length room.old) };
+        ensures { let words = words_from (device self.now) page at (length room.old) in
+            AreReadings (reads self.now) words result.now };
+
+    /// The number of the word of a reading: `u64::MAX` of an erased word, 0 of a torn one. `word`
+    /// tells a torn word from one that holds 0.
+    fn number(&self, reading: u64) -> u64
+        ensures { (word : Word) → reads self.now word reading → result ≡ number_of word };
+
+    /// What a reading says of a slot with no check: its number, or, where that ends in less than
+    /// 65535, one that a torn word may seem to hold.
+    fn in_clear(&self, reading: u64) -> u64
+        ensures { (word : Word) → reads self.now word reading → IsInClear word result };
 
     /// Programs an erased word with a number below `u64::MAX`, one of those that a store writes.
     ///
@@ -101,4 +115,8 @@ pub trait Flash {
 
     /// Every device is formed as its size says.
     ghost formed: { (flash : Self) → IsFormed (device flash) };
+
+    /// What each reading shows as it is.
+    ghost shown: { (flash : Self) (word : Word) (reading : ℕ) → reads flash word reading
+        → IsShownBy word reading };
 }

@@ -247,9 +247,15 @@ impl<A: Allocator> Flash for MemFlash<A> {
     ghost use Rattle.ee_flash.specs.Device.{IsOn, word_at};
     ghost use Rattle.ee_flash.specs.Step.{Erase, IsCutIn, IsUntouched, Program, with_page_erased, with_word_programmed};
     ghost use Rattle.ee_flash.specs.Formed.{IsFormed-pages_of};
+    ghost use Rattle.ee_flash.specs.OwnReadings.{own_shown};
+    ghost use Rattle.ee_flash.specs.Runs.{IsOwnReading};
     ghost use Rattle.std.proofs.Common.{sym, ◌∙◌};
 
     ghost device = { device_of };
+
+    ghost reads = { λ flash. IsOwnReading };
+
+    ghost shown = { λ flash. own_shown };
 
     ghost formed = { λ flash. IsFormed-pages_of
         flash.shape (words_of flash.cells) flash.wear.items flash.cuts flash.fuse flash.on
@@ -274,6 +280,14 @@ impl<A: Allocator> Flash for MemFlash<A> {
 
     fn run<'a>(&'a self, page: usize, at: usize, room: &'a mut [u64]) -> &'a [u64] {
         self.cells.run(self.page_start(page) + at, room)
+    }
+
+    fn number(&self, reading: u64) -> u64 {
+        reading
+    }
+
+    fn in_clear(&self, reading: u64) -> u64 {
+        reading
     }
 
     /// Programs an erased word, as any device does; what a cut leaves is what the fuse says.

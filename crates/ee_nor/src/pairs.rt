@@ -119,8 +119,14 @@ impl<N: Nor + Drop> Flash for Pairs<N> {
     ghost use Rattle.ee_flash.specs.Step.{IsCutIn, IsUntouched, Program, with_word_programmed};
     ghost use Rattle.ee_nor.specs.Pairs.{paired_device};
     ghost use Rattle.ee_nor.specs.Formed.{pairs_are_formed};
+    ghost use Rattle.ee_flash.specs.OwnReadings.{own_shown};
+    ghost use Rattle.ee_flash.specs.Runs.{IsOwnReading};
 
     ghost device = { λ pairs. paired_device (N.nor pairs.nor) };
+
+    ghost reads = { λ pairs. IsOwnReading };
+
+    ghost shown = { λ pairs. own_shown };
 
     ghost formed = { λ pairs. pairs_are_formed (N.nor pairs.nor) (N.formed pairs.nor) };
 
@@ -143,6 +149,14 @@ impl<N: Nor + Drop> Flash for Pairs<N> {
     fn run<'a>(&'a self, page: usize, at: usize, room: &'a mut [u64]) -> &'a [u64] {
         fill_run(&self.nor, page, at, room);
         room
+    }
+
+    fn number(&self, reading: u64) -> u64 {
+        reading
+    }
+
+    fn in_clear(&self, reading: u64) -> u64 {
+        reading
     }
 
     /// Programs an erased word with any number below `u64::MAX`.

@@ -1,7 +1,7 @@
 //! The next live addresses, as many as are found in one look through the slots.
 ghost use Rattle.std.specs.Prelude.{◌≡◌, ◌≤◌, ◌<◌, ◌⊎◌, ◌+◌, ◌-◌, ◌*◌, ◌%◌, ◌/◌, ◌^◌, ℕ, [], None, length, map, take, true, false};
+ghost use Rattle.ee_flash.specs.Runs.{AreReadings};
 ghost use Rattle.ee_flash.specs.Size.{header_words};
-ghost use Rattle.ee_flash.specs.declared.word.Word.TheVariants.{Held};
 ghost use Rattle.std.specs.List.{All};
 ghost use Rattle.ee_codec.specs.Reading.{slot_of};
 ghost use Rattle.ee_codec.specs.Words.{IsAddress};
@@ -17,7 +17,7 @@ use crate::number::address_in;
 use crate::runs::{RUN, UNREAD, run_from};
 use crate::side::{Side, first_page};
 use ee_codec::Address;
-use ee_flash::{Flash, HEADER_WORDS};
+use ee_flash::{Flash, HEADER_WORDS, Word};
 
 /// The live addresses of a stretch of addresses, with their values: as many as are found in one
 /// look through the slots.
@@ -113,42 +113,56 @@ fn gather_page<F: Flash>(flash: &F, side: Side, page: usize, above: u16, nearest
     'runs: while at < words {
         let run = run_from(flash, here, at, words, &mut room);
         at += run.len();
-        span = note_all(above, span, run, nearest);
+        span = note_all(flash, above, span, run, nearest);
     }
 }
 
-/// Notes what these numbers say, of so many addresses above this one, which are those that have a
+/// Notes what the words of these readings say, of so many addresses above this one, which are those that have a
 /// place in the batch. Gives how many have one then.
 #[inline(never)]
-fn note_all(above: u16, span: u32, numbers: &[u64], nearest: &mut Batch) -> u32
+fn note_all<F: Flash>(
+    flash: &F,
+    above: u16,
+    span: u32,
+    readings: &[u64],
+    nearest: &mut Batch,
+) -> u32
     requires rising { IsRising above nearest.old.named }
     requires few { length nearest.old.named ≤ BATCH }
     requires places { HasPlaces BATCH above span nearest.old.named }
-    ensures noted { nearest.new.named
-        ≡ take BATCH (with_each_named above (map Held numbers.now) nearest.old.named) }
+    ensures noted { (words : List Word) → AreReadings (F.reads flash.now) words readings.now
+        → nearest.new.named ≡ take BATCH (with_each_named above words nearest.old.named) }
     ensures places { HasPlaces BATCH above result nearest.new.named }
 {
     let mut span = span;
-    for number in numbers {
-        span = note_within(above, span, *number, nearest);
+    for reading in readings {
+        span = note_within(flash, above, span, *reading, nearest);
     }
     span
 }
 
-/// Notes what a number says, if it is of one of so many addresses above this one.
-fn note_within(above: u16, span: u32, number: u64, nearest: &mut Batch) -> u32
+/// Notes what the word of a reading says, if it is of one of so many addresses above this one.
+fn note_within<F: Flash>(
+    flash: &F,
+    above: u16,
+    span: u32,
+    reading: u64,
+    nearest: &mut Batch,
+) -> u32
     requires rising { IsRising above nearest.old.named }
     requires few { length nearest.old.named ≤ BATCH }
     requires places { HasPlaces BATCH above span nearest.old.named }
-    ensures noted { nearest.new.named
-        ≡ take BATCH (noted_above above (slot_names (slot_of (Held number))) nearest.old.named) }
+    ensures noted { (word : Word) → F.reads flash.now word reading → nearest.new.named
+        ≡ take BATCH (noted_above above (slot_names (slot_of word)) nearest.old.named) }
     ensures places { HasPlaces BATCH above result nearest.new.named }
 {
     // Asked first, since most words are of an address that has no place in a batch.
-    if !is_within(address_in(number), above, span) {
+    let address = address_in(reading);
+    if !is_within(address, above, span) {
         return span;
     }
-    if nearest.note_any(number) {
+    let number = flash.number(reading);
+    if address_in(number) == address && nearest.note_any(number) {
         span_of(nearest, above)
     } else {
         span

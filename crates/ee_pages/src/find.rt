@@ -5,8 +5,8 @@ ghost use Rattle.std.specs.Prelude.{◌≡◌, ◌≢◌, ◌<◌, ◌≤◌, �
 ghost use Rattle.ee_codec.specs.Reading.{slot_of};
 ghost use Rattle.ee_codec.specs.Words.{IsGeneration};
 ghost use Rattle.ee_flash.specs.Device.{word_at};
+ghost use Rattle.ee_flash.specs.Runs.{AreReadings};
 ghost use Rattle.ee_flash.specs.Size.{header_words, page_count};
-ghost use Rattle.ee_flash.specs.declared.word.Word.TheVariants.{Held};
 ghost use Rattle.ee_pages.specs.Layout.{IsFirstForeign, IsLayout, IsScanFault, IsUnformatted, IsUsedTo};
 ghost use Rattle.ee_pages.specs.Legal.{IsLegal, fits as may_stand, holds_slot, is_allowed_at, is_element, place_of as place};
 ghost use Rattle.ee_pages.specs.Page.{is_written as written};
@@ -17,7 +17,7 @@ use crate::runs::{RUN, UNREAD, run_from};
 use crate::side::{Side, committed, first_page, set_word};
 use crate::state::{blank_to, is_blank, is_torn};
 use crate::table::fits_header;
-use ee_flash::{Flash, HEADER_WORDS};
+use ee_flash::{Flash, HEADER_WORDS, Word};
 
 /// Where the live set of a legal image is and how far it is used.
 ///
@@ -281,11 +281,10 @@ fn used_to<F: Flash>(flash: &F, page: usize) -> usize
     let mut at = HEADER_WORDS;
     'runs: while at < words {
         let run = run_from(flash, page, at, words, &mut room);
-        let slots = slots_in(run);
+        let slots = slots_in(flash, run);
         let all = slots == run.len();
         at += slots;
         if !all {
-            // A torn word is 0 in a run, as one that holds 0 is.
             if !is_torn(flash.word(page, at)) {
                 return at;
             }
@@ -295,18 +294,20 @@ fn used_to<F: Flash>(flash: &F, page: usize) -> usize
     words
 }
 
-/// How many numbers, from the first on, are each of an element or a forgetting.
-fn slots_in(numbers: &[u64]) -> usize
-    ensures within { result ≤ length numbers.now }
-    ensures before { (k : ℕ) → k < result
-        → is_element (slot_of (Held (slice_index numbers.now k))) ≡ true }
-    ensures end { result < length numbers.now
-        → is_element (slot_of (Held (slice_index numbers.now result))) ≡ false }
+/// How many words of these readings, from the first on, each are torn or have an element or a
+/// forgetting. The next has neither, and may be torn.
+fn slots_in<F: Flash>(flash: &F, readings: &[u64]) -> usize
+    ensures within { result ≤ length readings.now }
+    ensures before { (words : List Word) → AreReadings (F.reads flash.now) words readings.now
+        → (k : ℕ) → k < result → holds_slot (slice_index_or words k Word.Erased) ≡ true }
+    ensures end { (words : List Word) → AreReadings (F.reads flash.now) words readings.now
+        → result < length readings.now
+        → is_element (slot_of (slice_index_or words result Word.Erased)) ≡ false }
 {
-    for (place, number) in numbers.iter().enumerate() {
-        if !is_slot(*number) {
+    for (place, reading) in readings.iter().enumerate() {
+        if !is_slot(flash.in_clear(*reading)) {
             return place;
         }
     }
-    numbers.len()
+    readings.len()
 }

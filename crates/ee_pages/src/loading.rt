@@ -1,7 +1,7 @@
 //! The values of a list of addresses, by one look through the slots.
 ghost use Rattle.std.specs.Prelude.{◌≡◌, ◌<◌, ◌≤◌, ◌+◌, ◌-◌, ◌*◌, None, drop, map, take};
+ghost use Rattle.ee_flash.specs.Runs.{AreReadings};
 ghost use Rattle.ee_flash.specs.Size.{header_words};
-ghost use Rattle.ee_flash.specs.declared.word.Word.TheVariants.{Held};
 ghost use Rattle.ee_pages.specs.Layout.{IsLayout};
 ghost use Rattle.ee_pages.specs.Loading.{loaded, told};
 ghost use Rattle.ee_pages.specs.Meaning.{latest_in, meaning};
@@ -9,11 +9,11 @@ ghost use Rattle.ee_pages.specs.Sets.{set_of, slots_of};
 
 use crate::find::Layout;
 use crate::number::address_in;
-use crate::read::said;
+use crate::read::said_by;
 use crate::runs::{RUN, UNREAD, run_from};
 use crate::side::{Side, first_page};
 use ee_codec::Address;
-use ee_flash::{Flash, HEADER_WORDS};
+use ee_flash::{Flash, HEADER_WORDS, Word};
 
 /// An address whose value is wanted, and the value that a load finds.
 ///
@@ -65,30 +65,32 @@ fn tell_page<F: Flash>(flash: &F, side: Side, page: usize, entries: &mut [Wanted
     'runs: while at < words {
         let run = run_from(flash, here, at, words, &mut room);
         at += run.len();
-        tell_run(run, entries);
+        tell_run(flash, run, entries);
     }
 }
 
-/// Gives the entries what these numbers of slots say.
-fn tell_run(numbers: &[u64], entries: &mut [Wanted])
-    ensures { entries.new ≡ told (map Held numbers.now) entries.old }
+/// Gives the entries what the words of these readings say.
+fn tell_run<F: Flash>(flash: &F, readings: &[u64], entries: &mut [Wanted])
+    ensures { (words : List Word) → AreReadings (F.reads flash.now) words readings.now
+        → entries.new ≡ told words entries.old }
 {
     for at in 0..entries.len() {
-        if let Some(said) = said_in(numbers, entries[at].address) {
+        if let Some(said) = said_in(flash, readings, entries[at].address) {
             entries[at].value = said;
         }
     }
 }
 
-/// What these numbers of slots say of an address: the last that says something counts.
-fn said_in(numbers: &[u64], address: Address) -> Option<Option<u32>>
-    ensures { result ≡ latest_in (map Held numbers.now) address }
+/// What the words of these readings say of an address: the last that says something counts.
+fn said_in<F: Flash>(flash: &F, readings: &[u64], address: Address) -> Option<Option<u32>>
+    ensures { (words : List Word) → AreReadings (F.reads flash.now) words readings.now
+        → result ≡ latest_in words address }
 {
-    let mut left = numbers.len();
+    let mut left = readings.len();
     'behind: while left > 0 {
         left -= 1;
-        if address_in(numbers[left]) == address.get() {
-            let said = said(numbers[left]);
+        if address_in(readings[left]) == address.get() {
+            let said = said_by(flash, readings[left]);
             if said.is_some() {
                 return said;
             }

@@ -1,7 +1,7 @@
 //! The values of addresses that follow one another, by one look through the slots.
 ghost use Rattle.std.specs.Prelude.{◌≡◌, ◌<◌, ◌≤◌, ◌+◌, ◌-◌, ◌*◌, ℕ, IfNone, IfSome, None, drop, map, take};
+ghost use Rattle.ee_flash.specs.Runs.{AreReadings};
 ghost use Rattle.ee_flash.specs.Size.{header_words};
-ghost use Rattle.ee_flash.specs.declared.word.Word.TheVariants.{Held};
 ghost use Rattle.ee_pages.specs.Layout.{IsLayout};
 ghost use Rattle.ee_pages.specs.Meaning.{Map, latest_in, meaning, says as word_says};
 ghost use Rattle.ee_pages.specs.Sets.{set_of, slots_of};
@@ -14,7 +14,7 @@ use crate::read::said;
 use crate::runs::{RUN, UNREAD};
 use crate::side::{Side, first_page};
 use ee_codec::{Address, element_word};
-use ee_flash::{Flash, HEADER_WORDS};
+use ee_flash::{Flash, HEADER_WORDS, Word};
 use std::marker::Model;
 
 /// How many addresses a span has at the most.
@@ -105,13 +105,19 @@ impl Span {
         }
     }
 
-    /// Notes what a number says, if it is of one of the addresses, of which nothing is said.
-    fn note(&mut self, number: u64)
-        ensures { TellsBefore (word_says (Held number)) self.old self.new }
+    /// Notes what the word of a reading says, if it is of one of the addresses, of which nothing is
+    /// said.
+    fn note<F: Flash>(&mut self, flash: &F, reading: u64)
+        ensures { (word : Word) → F.reads flash.now word reading
+            → TellsBefore (word_says word) self.old self.new }
     {
-        let at = usize::from(address_in(number).wrapping_sub(self.first.get()));
+        let address = address_in(reading);
+        let at = usize::from(address.wrapping_sub(self.first.get()));
         if at < self.count && said(self.numbers[at]).is_none() {
-            self.numbers[at] = number;
+            let number = flash.number(reading);
+            if address_in(number) == address {
+                self.numbers[at] = number;
+            }
         }
     }
 
@@ -188,19 +194,20 @@ fn tell_page<F: Flash>(
         let count = RUN.min(left);
         left -= count;
         let run = flash.run(here, HEADER_WORDS + left, &mut room[..count]);
-        tell_run(run, span);
+        tell_run(flash, run, span);
         said_to = span.said_from(said_to);
     }
     said_to
 }
 
-/// Notes what these numbers say, which stand before those noted.
-fn tell_run(numbers: &[u64], span: &mut Span)
-    ensures { TellsBefore (latest_in (map Held numbers.now)) span.old span.new }
+/// Notes what the words of these readings say, which stand before those noted.
+fn tell_run<F: Flash>(flash: &F, readings: &[u64], span: &mut Span)
+    ensures { (words : List Word) → AreReadings (F.reads flash.now) words readings.now
+        → TellsBefore (latest_in words) span.old span.new }
 {
-    let mut left = numbers.len();
+    let mut left = readings.len();
     'behind: while left > 0 {
         left -= 1;
-        span.note(numbers[left]);
+        span.note(flash, readings[left]);
     }
 }

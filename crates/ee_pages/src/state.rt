@@ -101,32 +101,32 @@ pub fn blank_to<F: Flash>(flash: &F, page: usize, from: usize) -> usize
     words
 }
 
-/// Whether all numbers are all ones.
-fn is_erased(numbers: &[u64]) -> bool
-    ensures yes { result ≡ true → (k : ℕ) → k < length numbers.now
-        → slice_index numbers.now k ≡ all_ones }
-    ensures no { result ≡ false → ¬ ((k : ℕ) → k < length numbers.now
-        → slice_index numbers.now k ≡ all_ones) }
+/// Whether all readings are all ones.
+fn is_erased(readings: &[u64]) -> bool
+    ensures yes { result ≡ true → (k : ℕ) → k < length readings.now
+        → slice_index readings.now k ≡ all_ones }
+    ensures no { result ≡ false → ¬ ((k : ℕ) → k < length readings.now
+        → slice_index readings.now k ≡ all_ones) }
 {
     let mut all = u64::MAX;
-    for number in numbers {
-        all &= *number;
+    for reading in readings {
+        all &= *reading;
     }
     all == u64::MAX
 }
 
-/// How many numbers, from the first on, are all ones.
-fn erased_in(numbers: &[u64]) -> usize
-    ensures within { result ≤ length numbers.now }
-    ensures before { (k : ℕ) → k < result → slice_index numbers.now k ≡ all_ones }
-    ensures end { result < length numbers.now → slice_index numbers.now result ≢ all_ones }
+/// How many readings, from the first on, are all ones.
+fn erased_in(readings: &[u64]) -> usize
+    ensures within { result ≤ length readings.now }
+    ensures before { (k : ℕ) → k < result → slice_index readings.now k ≡ all_ones }
+    ensures end { result < length readings.now → slice_index readings.now result ≢ all_ones }
 {
-    for (place, number) in numbers.iter().enumerate() {
-        if *number != u64::MAX {
+    for (place, reading) in readings.iter().enumerate() {
+        if *reading != u64::MAX {
             return place;
         }
     }
-    numbers.len()
+    readings.len()
 }
 
 /// Whether something was programmed into the word, whole or torn.

@@ -105,10 +105,16 @@ fn wear_of(wears: &[u64]) -> ArrayVec<u64, GREATEST_PAGES>
 impl<'w, 'l, K: Lent> Flash for DraftFlash<'w, 'l, K> {
     ghost use Rattle.ee_web.specs.Draft.{drafted_device};
     ghost use Rattle.ee_web.specs.DraftLaws.{IsFormed-drafted};
+    ghost use Rattle.ee_flash.specs.OwnReadings.{own_shown};
+    ghost use Rattle.ee_flash.specs.Runs.{IsOwnReading};
     ghost use Rattle.std.proofs.Common.{sym, ap, ◌∙◌};
 
     ghost device = { λ draft. drafted_device K.start (steps_of draft.count draft.listed.now)
         draft.wear.items draft.cuts draft.on };
+
+    ghost reads = { λ draft. IsOwnReading };
+
+    ghost shown = { λ draft. own_shown };
 
     ghost formed = { λ draft. IsFormed-drafted K.start (steps_of draft.count draft.listed.now)
         draft.wear.items draft.cuts draft.on draft.fresh draft.taken
@@ -140,6 +146,14 @@ impl<'w, 'l, K: Lent> Flash for DraftFlash<'w, 'l, K> {
             *number = self.word(page, at + behind).number();
         }
         room
+    }
+
+    fn number(&self, reading: u64) -> u64 {
+        reading
+    }
+
+    fn in_clear(&self, reading: u64) -> u64 {
+        reading
     }
 
     fn program(&mut self, page: usize, at: usize, value: u64) -> Result<(), Cut> {

@@ -1,9 +1,8 @@
 -- The words of a flash whose numbers are coded.
-use Rattle.std.specs.Prelude.{◌≡◌, ◌≢◌, ◌<◌, ℕ, ◌+◌, ◌*◌, ◌/◌, ◌%◌, ◌^◌, ◌==◌, ◌&&◌, nat_lt, Bool, if◌then◌else◌, Option, Some, None, List, map}
+use Rattle.std.specs.Prelude.{◌≡◌, ◌≢◌, ◌<◌, ℕ, ◌+◌, ◌*◌, ◌/◌, ◌%◌, ◌^◌, ◌==◌, ◌&&◌, nat_lt, Bool, if◌then◌else◌, Option, Some, None, List, map, unwrap_or}
 use Rattle.std.specs.List.{range_with_len}
 use Rattle.ee_flash.specs.Device.{Device, all_ones}
 use Rattle.ee_flash.specs.Numbers.{IsSlotNumber, header_half}
-use Rattle.ee_flash.specs.Runs.{number_of}
 use Rattle.ee_flash.specs.Size.{Size}
 use Rattle.ee_flash.specs.declared.word.Word.{Word}
 use Rattle.ee_flash.specs.declared.word.Word.TheVariants.{Erased, Held, Torn}
@@ -77,10 +76,14 @@ coded_device ecc = record {
   on = ecc.on;
 }
 
--- the numbers of so many words of a page, from a place on, as a run of them has them
-abbrev pub run_of_codes : Size → List EccNumber → ℕ → ℕ → List ℕ
-run_of_codes size numbers at count =
-    map (λ place. number_of (word_of_ecc size (ecc_in numbers place))) (range_with_len at count)
+-- a word reads as a number of which it is the word
+abbrev pub ReadsCoded : Size → Word → ℕ → Type 0
+ReadsCoded size word reading = word ≡ coded_word size reading
+
+-- what so many numbers of a page read as, from a place on: 0 where one can't be read
+abbrev pub readings_from : List EccNumber → ℕ → ℕ → List ℕ
+readings_from numbers at count =
+    map (λ place. unwrap_or (ecc_in numbers place).reading 0) (range_with_len at count)
 
 -- What a look needs no decoding for: a number whose 16 lowest bits aren't 0 is a slot's or torn,
 -- and in a slot's the value, kind and address stand as they are.

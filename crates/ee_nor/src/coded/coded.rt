@@ -12,7 +12,7 @@ use crate::coded::ecc_nor::EccNor;
 use crate::coded::runs::fill_run;
 use crate::coded::shapes::{OtherShape, other_shape};
 use crate::coded::wiping::{may_be_new, wipe};
-use crate::coded::words::{coded_number, word_of_reading};
+use crate::coded::words::{coded_number, without_check, word_of_reading};
 use ee_flash::{Cut, Flash, Shape, Word};
 
 /// A device of words on a flash of numbers, each of which is a coded word.
@@ -99,10 +99,15 @@ impl<N: EccNor + Drop> Coded<N> {
 }
 
 impl<N: EccNor + Drop> Flash for Coded<N> {
-    ghost use Rattle.ee_nor.specs.Coded.Coded.{coded_device};
+    ghost use Rattle.ee_nor.specs.Coded.Clear.{coded_shown};
+    ghost use Rattle.ee_nor.specs.Coded.Coded.{ReadsCoded, coded_device};
     ghost use Rattle.ee_nor.specs.Coded.Formed.{coded_is_formed};
 
     ghost device = { λ coded. coded_device (N.ecc coded.nor) };
+
+    ghost reads = { λ coded word reading. ReadsCoded (N.ecc coded.nor).size word reading };
+
+    ghost shown = { λ coded word reading. coded_shown (N.ecc coded.nor).size word reading };
 
     ghost formed = { λ coded. coded_is_formed (N.ecc coded.nor) (N.formed coded.nor) };
 
@@ -125,6 +130,14 @@ impl<N: EccNor + Drop> Flash for Coded<N> {
     fn run<'a>(&'a self, page: usize, at: usize, room: &'a mut [u64]) -> &'a [u64] {
         fill_run(&self.nor, page, at, room);
         room
+    }
+
+    fn number(&self, reading: u64) -> u64 {
+        word_of_reading(self.nor.shape(), Some(reading)).number()
+    }
+
+    fn in_clear(&self, reading: u64) -> u64 {
+        without_check(reading)
     }
 
     fn program(&mut self, page: usize, at: usize, value: u64) -> Result<(), Cut> {

@@ -1,5 +1,5 @@
 //! A number of a store as a coded word, and the word that a number of the flash is.
-ghost use Rattle.std.specs.Prelude.{◌≡◌, ◌<◌, ◌^◌, Some};
+ghost use Rattle.std.specs.Prelude.{◌≡◌, ◌<◌, ◌+◌, ◌*◌, ◌/◌, ◌%◌, ◌^◌, Some};
 ghost use Rattle.ee_nor.specs.Coded.Code.{IsPayload};
 ghost use Rattle.ee_nor.specs.Coded.Coded.{coded_number as coded_number_of, held_payload, mark_payload as mark_payload_of, number_of_payload, payload_of_number, word_read};
 
@@ -37,6 +37,13 @@ pub fn word_of_reading(shape: Shape, reading: Option<u64>) -> Word
         Some(payload) => word_of_payload(shape, payload),
         None => Word::Torn,
     }
+}
+
+/// A number of the flash with zeros where a coded word has its check.
+pub(crate) fn without_check(number: u64) -> u64
+    ensures { result ≡ number / 2 ^ 32 * 2 ^ 32 + number % 2 ^ 17 }
+{
+    (number >> 32) * 0x1_0000_0000 + (number & 0x1_ffff)
 }
 
 /// The word of a payload: held where it is a number's.
