@@ -247,14 +247,20 @@ impl<F: NorFlash, E: Ecc<F>> Driver for NorDriver<F, E> {
         self.shape
     }
 
+    // By what the flash writes at a time a program leaves out pairs, or all but these.
     fn kind(&self) -> Kind {
-        self.kind
+        match self.kind {
+            Kind::Coded if F::WRITE_SIZE >= 8 => Kind::Coded,
+            _ if F::WRITE_SIZE >= 8 => Kind::Words,
+            Kind::Pairs => Kind::Pairs,
+            _ => Kind::PairsClearing,
+        }
     }
 
     fn word(&self, page: usize, at: usize) -> Result<Word, Self::Error> {
         let mut bytes = [0; 32];
         let bytes = &mut bytes[..Self::UNIT];
-        match self.kind {
+        match self.kind() {
             _ if self.look(page, at, bytes)? => Ok(Self::word_in(bytes)),
             Kind::Words | Kind::Coded => Ok(Word::Torn),
             _ => Ok(Word::Held(TORN)),

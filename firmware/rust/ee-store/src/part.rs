@@ -170,28 +170,35 @@ impl<D: Driver> Flash for Part<D> {
         }
     }
 
-    // What the room has when the part is off counts for nothing.
+    // What the room has when the part is off counts for nothing. Coded words read as their numbers, of which 0 is none.
     fn run<'a>(&'a self, page: usize, at: usize, room: &'a mut [u64]) -> &'a [u64] {
         let count = room.len();
         if count == 0 || !self.has(page, at + count - 1) {
             return room;
         }
-        match self.driver.kind() {
-            Kind::Words => {
-                if let Some(words) = self.window(page, at, count) {
-                    return words;
-                }
-                let answer = self.driver.read_run(page, at, room);
-                let _ = self.told((Step::Read, page, at), answer);
-            }
-            Kind::Coded => {
-                Coded::known(Codes(self)).run(page, at, room);
-            }
-            _ => {
-                Pairs::known(Numbers::of(self, 2 * count)).run(page, at, room);
-            }
+        if matches!(self.driver.kind(), Kind::Pairs | Kind::PairsClearing) {
+            Pairs::known(Numbers::of(self, 2 * count)).run(page, at, room);
+        } else if let Some(words) = self.window(page, at, count) {
+            return words;
+        } else {
+            let answer = self.driver.read_run(page, at, room);
+            let _ = self.told((Step::Read, page, at), answer);
         }
         room
+    }
+
+    fn number(&self, reading: u64) -> u64 {
+        match self.driver.kind() {
+            Kind::Coded => Coded::known(Codes(self)).number(reading),
+            _ => reading,
+        }
+    }
+
+    fn in_clear(&self, reading: u64) -> u64 {
+        match self.driver.kind() {
+            Kind::Coded => Coded::known(Codes(self)).in_clear(reading),
+            _ => reading,
+        }
     }
 
     // Steps stay out of the calls that make them: a call costs nothing beside a step of flash, and there are several.

@@ -6,7 +6,7 @@ use crate::ee_nor::coded::ecc_nor::EccNor;
 use crate::ee_nor::coded::runs::fill_run;
 use crate::ee_nor::coded::shapes::{OtherShape, other_shape};
 use crate::ee_nor::coded::wiping::{may_be_new, wipe};
-use crate::ee_nor::coded::words::{coded_number, word_of_reading};
+use crate::ee_nor::coded::words::{coded_number, without_check, word_of_reading};
 use crate::ee_flash::{Cut, Flash, Shape, Word};
 
 /// A device of words on a flash of numbers, each of which is a coded word.
@@ -86,6 +86,14 @@ impl<N: EccNor> Flash for Coded<N> {
     fn run<'a>(&'a self, page: usize, at: usize, room: &'a mut [u64]) -> &'a [u64] {
         fill_run(&self.nor, page, at, room);
         room
+    }
+
+    fn number(&self, reading: u64) -> u64 {
+        word_of_reading(self.nor.shape(), Some(reading)).number()
+    }
+
+    fn in_clear(&self, reading: u64) -> u64 {
+        without_check(reading)
     }
 
     fn program(&mut self, page: usize, at: usize, value: u64) -> Result<(), Cut> {

@@ -30,6 +30,11 @@ pub fn word_of_reading(shape: Shape, reading: Option<u64>) -> Word {
     }
 }
 
+/// A number of the flash with zeros where a coded word has its check.
+pub(crate) fn without_check(number: u64) -> u64 {
+    (number >> 32) * 0x1_0000_0000 + (number & 0x1_ffff)
+}
+
 /// The word of a payload: held where it is a number's.
 fn word_of_payload(shape: Shape, payload: u64) -> Word {
     let number = number_of(payload);
