@@ -141,6 +141,9 @@ impl<D: Driver> Store<D> {
     pub fn rescue(driver: D) -> Result<(Store<D>, Rescued), OpenError<D::Error>> {
         let mut part = Part::new(driver);
         part.begin_anew();
+        if let Some(other) = part.other_shape() {
+            return Err(other);
+        }
         let (part, fault) = match proved::rescue(part) {
             Ok((store, rescued)) if store.flash().is_on() => return Ok((Store { store }, rescued)),
             Ok((store, _)) => (store.into_flash(), proved::RescueFault::Cut),
@@ -161,19 +164,16 @@ impl<D: Driver> Store<D> {
         }
     }
 
-    // Turns the part on, and refuses pairs that no store wrote.
+    // Turns the part on, and refuses pairs that no store wrote, and coded words of another shape.
     fn begin(&mut self) -> Result<(), OpenError<D::Error>> {
         let part = &mut self.store.flash;
         part.begin_anew();
-        let low = part.low_pair();
-        match (low, part.is_on()) {
+        let fault = part.fault();
+        match (fault, part.is_on()) {
             (_, false) => Err(open_error(part, OpenFault::Cut)),
-            (Some(low), true) => {
+            (Some(fault), true) => {
                 part.turn_off();
-                Err(OpenError::Foreign {
-                    page: low.page,
-                    at: low.word,
-                })
+                Err(fault)
             }
             (None, true) => Ok(()),
         }
@@ -239,8 +239,16 @@ impl<D: Driver, L: Finds> Store<D, L> {
     pub fn reopen(&mut self) -> Result<(), OpenError<D::Error>> {
         self.store.flash.begin_anew();
         self.store.flash.is_busy.set(true);
-        let opened = open_on(&mut self.store.flash);
-        let answer = self.opened(opened);
+        let answer = match self.store.flash.other_shape() {
+            None => {
+                let opened = open_on(&mut self.store.flash);
+                self.opened(opened)
+            }
+            Some(other) => {
+                self.store.flash.turn_off();
+                Err(other)
+            }
+        };
         self.store.flash.is_busy.set(false);
         answer
     }
