@@ -11,15 +11,18 @@
 #include <stdint.h>
 
 /* By hand. A function that stands in the places where it is called, at every level of optimisation,
- * and one that stands in none of them, so that its stack is not theirs. C99 has no words for it. An
- * interrupt sees what stands before EE_IN_ORDER, and nothing of what stands behind it. */
+ * and one that stands in none of them, so that its stack is not theirs; one that changes nothing,
+ * so that a loop asks it once. C99 has no words for it. An interrupt sees what stands before
+ * EE_IN_ORDER, and nothing of what stands behind it. */
 #if defined(__GNUC__)
 #define EE_IN_PLACE static inline __attribute__((always_inline))
 #define EE_APART static __attribute__((noinline))
+#define EE_PURE static __attribute__((noinline, pure))
 #define EE_IN_ORDER() __asm__ volatile("" : : : "memory")
 #else
 #define EE_IN_PLACE static inline
 #define EE_APART static
+#define EE_PURE static
 #define EE_IN_ORDER() ((void)0)
 #endif
 
@@ -1271,9 +1274,14 @@ EE_APART uint64_t device_number(const Device *device, uint64_t reading) {
     return flash != NULL && EE_IS_CODED(flash) ? coded_number(device, reading) : reading;
 }
 
-EE_IN_PLACE uint64_t device_in_clear(const Device *device, uint64_t reading) {
+/* Which bits of a reading stand in clear: asked once for all of a run. */
+EE_PURE uint64_t clear_bits(const Device *device) {
     const ee_flash *const flash = device->power->flash;
-    return flash != NULL && EE_IS_CODED(flash) ? coded_in_clear(device, reading) : reading;
+    return flash != NULL && EE_IS_CODED(flash) ? coded_in_clear(device, UINT64_MAX) : UINT64_MAX;
+}
+
+EE_IN_PLACE uint64_t device_in_clear(const Device *device, uint64_t reading) {
+    return reading & clear_bits(device);
 }
 #endif
 
@@ -5103,6 +5111,18 @@ ee_result ee_foreign_word(const ee_flash *flash, uint32_t *page, uint32_t *word)
     status = told(found.some ? EE_OK : EE_NOTHING, &looked, found.value.word, word);
     if (status == EE_OK) { *page = found.value.page; }
     return status;
+}
+
+ee_result ee_word_of(const ee_flash *flash, uint32_t page, uint32_t word, uint64_t *number) {
+    ee_store looked;
+    const ee_result status = device_in(&looked, number == NULL ? NULL : flash);
+    if (status != EE_OK) { return status; }
+    if (page >= 2u * flash->pages || word >= flash->page_words) { return EE_WRONG_NUMBER; }
+    const Word found = device_word(&looked.memory.parts.store.flash, page, word);
+    if (looked.memory.parts.power.flash == NULL) { return EE_DRIVER; }
+    if (found.tag == Word_Torn) { return EE_TORN; }
+    *number = found.tag == Word_Held ? found.held : UINT64_MAX;
+    return EE_OK;
 }
 
 ee_result ee_other_shape(const ee_flash *flash, uint32_t *pages, uint32_t *page_words) {

@@ -47,6 +47,7 @@
  *     ee_bad_words                      2 * W            0                0
  *     ee_foreign_word                   3 * W            0                0
  *     ee_other_shape                    2                0                0
+ *     ee_word_of                        1                0                0
  *
  * On pairs a word read or programmed is two numbers, ee_open reads W words more, and ee_start 2 * W. On coded words ee_start reads
  * W words more, and all that answer EE_OTHER_SHAPE two. For each torn word, which a
@@ -58,8 +59,8 @@
  * ee_write_all first compares each two addresses of its list, and ee_load each 16 words with 32 addresses.
  *
  * ee.c leaves calls out where these are defined, for a program that makes none of them: EE_NO_LISTS ee_write_all, EE_NO_FORGET
- * ee_forget and ee_forget_all, EE_NO_RESCUE ee_rescue, ee_bad_words, ee_foreign_word and ee_other_shape, EE_NO_OPEN ee_open and
- * ee_format. With EE_NO_PAIRS it takes no pairs, with EE_NO_CODED no coded words. With EE_INDEX it takes an index (ee_index).
+ * ee_forget and ee_forget_all, EE_NO_RESCUE ee_rescue, ee_bad_words, ee_foreign_word, ee_word_of and ee_other_shape, EE_NO_OPEN
+ * ee_open and ee_format. With EE_NO_PAIRS it takes no pairs, with EE_NO_CODED no coded words. With EE_INDEX it takes an index (ee_index).
  *
  * The stack that a call takes, beside what the three functions take, is in README.md and ../RESULTS.md.
  */
@@ -377,6 +378,10 @@ ee_result ee_bad_words(const ee_flash *flash, uint32_t *count);
  * or EE_NULL and EE_WRONG_SHAPE. Both are written with EE_OK alone. A program that doesn't call it has no byte of it. */
 ee_result ee_foreign_word(const ee_flash *flash, uint32_t *page, uint32_t *word);
 
+/* What the store takes a word of a flash for: EE_OK, and its number, all ones for an erased one; EE_TORN; EE_DRIVER where a read
+ * failed, EE_WRONG_NUMBER where there is no such word, EE_NULL and EE_WRONG_SHAPE. It takes no store and writes nothing. */
+ee_result ee_word_of(const ee_flash *flash, uint32_t page, uint32_t word, uint64_t *number);
+
 /* The shape for which ee_start and the like answer EE_OTHER_SHAPE. It takes no store and writes nothing. EE_OK; EE_NOTHING where
  * they don't answer that; EE_DRIVER, or EE_NULL and EE_WRONG_SHAPE. Both are written with EE_OK alone. */
 ee_result ee_other_shape(const ee_flash *flash, uint32_t *pages, uint32_t *page_words);
@@ -474,7 +479,7 @@ static inline uint32_t ee_noted_step(ee_noted *noted, uint32_t step, uint32_t pa
     if (code != 0) {
         noted->last.step = step;
         noted->last.page = page;
-        noted->last.word = noted->flash.kind == EE_WORDS || noted->flash.kind == EE_CODED ? place : place / 2;
+        noted->last.word = noted->flash.kind == EE_PAIRS || noted->flash.kind == EE_PAIRS_CLEARING ? place / 2 : place;
         noted->last.code = code;
     }
     return code;

@@ -182,6 +182,18 @@ ee_result ee_foreign_word(const ee_flash *flash, uint32_t *page, uint32_t *word)
     return status;
 }
 
+ee_result ee_word_of(const ee_flash *flash, uint32_t page, uint32_t word, uint64_t *number) {
+    ee_store looked;
+    const ee_result status = device_in(&looked, number == NULL ? NULL : flash);
+    if (status != EE_OK) { return status; }
+    if (page >= 2u * flash->pages || word >= flash->page_words) { return EE_WRONG_NUMBER; }
+    const Word found = device_word(&looked.memory.parts.store.flash, page, word);
+    if (looked.memory.parts.power.flash == NULL) { return EE_DRIVER; }
+    if (found.tag == Word_Torn) { return EE_TORN; }
+    *number = found.tag == Word_Held ? found.held : UINT64_MAX;
+    return EE_OK;
+}
+
 ee_result ee_other_shape(const ee_flash *flash, uint32_t *pages, uint32_t *page_words) {
     ee_store looked;
     ee_result status = device_in(&looked, pages == NULL || page_words == NULL ? NULL : flash);

@@ -77,9 +77,14 @@ EE_APART uint64_t device_number(const Device *device, uint64_t reading) {
     return flash != NULL && EE_IS_CODED(flash) ? coded_number(device, reading) : reading;
 }
 
-EE_IN_PLACE uint64_t device_in_clear(const Device *device, uint64_t reading) {
+/* Which bits of a reading stand in clear: asked once for all of a run. */
+EE_PURE uint64_t clear_bits(const Device *device) {
     const ee_flash *const flash = device->power->flash;
-    return flash != NULL && EE_IS_CODED(flash) ? coded_in_clear(device, reading) : reading;
+    return flash != NULL && EE_IS_CODED(flash) ? coded_in_clear(device, UINT64_MAX) : UINT64_MAX;
+}
+
+EE_IN_PLACE uint64_t device_in_clear(const Device *device, uint64_t reading) {
+    return reading & clear_bits(device);
 }
 #endif
 

@@ -11,15 +11,18 @@
 #include <stdint.h>
 
 /* By hand. A function that stands in the places where it is called, at every level of optimisation,
- * and one that stands in none of them, so that its stack is not theirs. C99 has no words for it. An
+ * and one that stands in none of them, so that its stack is not theirs; one that changes nothing, so
+ * that a loop asks it once. C99 has no words for it. An
  * interrupt sees what stands before EE_IN_ORDER, and nothing of what stands behind it. */
 #if defined(__GNUC__)
 #define EE_IN_PLACE static inline __attribute__((always_inline))
 #define EE_APART static __attribute__((noinline))
+#define EE_PURE static __attribute__((noinline, pure))
 #define EE_IN_ORDER() __asm__ volatile("" : : : "memory")
 #else
 #define EE_IN_PLACE static inline
 #define EE_APART static
+#define EE_PURE static
 #define EE_IN_ORDER() ((void)0)
 #endif
 
