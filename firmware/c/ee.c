@@ -823,7 +823,7 @@ static inline uint16_t u16_wrapping_sub(uint16_t a, uint16_t b) {
 }
 
 /* By hand. How many ones a number has: of each two bits, each four, each eight, and all. */
-static inline uint32_t u32_count_ones(uint32_t number) {
+EE_IN_PLACE uint32_t u32_count_ones(uint32_t number) {
     const uint32_t twos = number - ((number >> 1u) & UINT32_C(0x55555555));
     const uint32_t fours = (twos & UINT32_C(0x33333333)) + ((twos >> 2u) & UINT32_C(0x33333333));
     return ((fours + (fours >> 4u)) & UINT32_C(0x0f0f0f0f)) * UINT32_C(0x01010101) >> 24u;
@@ -1184,7 +1184,7 @@ static uint64_t words_coded_number(Shape shape, uint64_t number);
 static Word word_of_reading(Shape shape, MaybeU64 reading);
 static uint64_t without_check(uint64_t number);
 static Word word_of_payload(Shape shape, uint64_t payload);
-EE_APART uint64_t payload_of(Shape shape, uint64_t number);
+EE_IN_PLACE uint64_t payload_of(Shape shape, uint64_t number);
 static uint64_t mark_payload(Shape shape);
 static uint64_t words_number_of(uint64_t payload);
 EE_IN_PLACE MaybeOtherShape other_shape(const EccNumbers *nor);
@@ -4824,7 +4824,7 @@ static Word word_of_payload(Shape shape, uint64_t payload) {
 }
 
 /* The payload of a number. */
-EE_APART uint64_t payload_of(Shape shape, uint64_t number) {
+EE_IN_PLACE uint64_t payload_of(Shape shape, uint64_t number) {
     const uint64_t value = number >> 32u;
     const uint64_t low = number & UINT64_C(0xFFFFFFFF);
     if (low < UINT64_C(0x20000) && (low & 0xFFFFu) > 0u) {

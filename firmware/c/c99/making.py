@@ -56,7 +56,7 @@ HELPERS = {
                          "static inline uint16_t u16_wrapping_sub(uint16_t a, uint16_t b) {",
                          "    return (uint16_t)((uint32_t)a - b);", "}"],
     "u32_count_ones": ["/* By hand. How many ones a number has: of each two bits, each four, each eight, and all. */",
-                       "static inline uint32_t u32_count_ones(uint32_t number) {",
+                       "EE_IN_PLACE uint32_t u32_count_ones(uint32_t number) {",
                        "    const uint32_t twos = number - ((number >> 1u) & UINT32_C(0x55555555));",
                        "    const uint32_t fours = (twos & UINT32_C(0x33333333)) + ((twos >> 2u) & UINT32_C(0x33333333));",
                        "    return ((fours + (fours >> 4u)) & UINT32_C(0x0f0f0f0f)) * UINT32_C(0x01010101) >> 24u;", "}"],
