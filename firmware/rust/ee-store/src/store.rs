@@ -54,6 +54,18 @@ const NOWHERE: Layout = Layout {
     current: 0,
 };
 
+// Refuses a part of coded words that hold a store of another shape.
+fn refuse_other_shape<D: Driver>(part: &Part<D>) -> Result<(), OpenError<D::Error>> {
+    let Some(other) = part.other_shape() else {
+        return Ok(());
+    };
+    part.turn_off();
+    Err(OpenError::OtherShape {
+        pages: other.pages,
+        words: other.words,
+    })
+}
+
 // Why a part couldn't be opened of which the proved code says this.
 pub(crate) fn open_error<D: Driver>(part: &Part<D>, fault: OpenFault) -> OpenError<D::Error> {
     let is_on = part.is_on();
@@ -141,9 +153,7 @@ impl<D: Driver> Store<D> {
     pub fn rescue(driver: D) -> Result<(Store<D>, Rescued), OpenError<D::Error>> {
         let mut part = Part::new(driver);
         part.begin_anew();
-        if let Some(other) = part.other_shape() {
-            return Err(other);
-        }
+        refuse_other_shape(&part)?;
         let (part, fault) = match proved::rescue(part) {
             Ok((store, rescued)) if store.flash().is_on() => return Ok((Store { store }, rescued)),
             Ok((store, _)) => (store.into_flash(), proved::RescueFault::Cut),
@@ -168,12 +178,16 @@ impl<D: Driver> Store<D> {
     fn begin(&mut self) -> Result<(), OpenError<D::Error>> {
         let part = &mut self.store.flash;
         part.begin_anew();
-        let fault = part.fault();
-        match (fault, part.is_on()) {
+        refuse_other_shape(part)?;
+        let low = part.low_pair();
+        match (low, part.is_on()) {
             (_, false) => Err(open_error(part, OpenFault::Cut)),
-            (Some(fault), true) => {
+            (Some(low), true) => {
                 part.turn_off();
-                Err(fault)
+                Err(OpenError::Foreign {
+                    page: low.page,
+                    at: low.word,
+                })
             }
             (None, true) => Ok(()),
         }
@@ -239,18 +253,16 @@ impl<D: Driver, L: Finds> Store<D, L> {
     pub fn reopen(&mut self) -> Result<(), OpenError<D::Error>> {
         self.store.flash.begin_anew();
         self.store.flash.is_busy.set(true);
-        let answer = match self.store.flash.other_shape() {
-            None => {
-                let opened = open_on(&mut self.store.flash);
-                self.opened(opened)
-            }
-            Some(other) => {
-                self.store.flash.turn_off();
-                Err(other)
-            }
-        };
+        let answer = self.open_here();
         self.store.flash.is_busy.set(false);
         answer
+    }
+
+    // Opens the store on its part.
+    fn open_here(&mut self) -> Result<(), OpenError<D::Error>> {
+        refuse_other_shape(&self.store.flash)?;
+        let opened = open_on(&mut self.store.flash);
+        self.opened(opened)
     }
 
     // The store, while it is on.
