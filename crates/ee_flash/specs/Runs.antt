@@ -39,8 +39,8 @@ run_of device page at count = map number_of (words_from device page at count)
 -- ---- readings
 
 -- each of these words reads so, by what a word may read as
-pub record AreReadings (reads : Word → ℕ → Type 0) (words : List Word) (readings : List ℕ) : Type 0
-where
+pub record AreReadings (reads : Word → ℕ → Type 0) (words : List Word) (readings : List ℕ)
+    : Type 0 where
   pub as_many : length readings ≡ length words
   pub each : (k : ℕ) → k < length words
       → reads (slice_index_or words k Erased) (slice_index readings k)

@@ -23,6 +23,8 @@ pub struct Cut;
 /// Source: programming by 64-bit words, erasing by pages and words that read as unreadable, AN4894;
 /// the rest, and what a cut may leave, is ours.
 pub trait Flash {
+    ghost use Rattle.ee_flash.specs.declared.word.Word.{Word};
+
     /// The device as a value.
     ghost device: { Self → Device };
 

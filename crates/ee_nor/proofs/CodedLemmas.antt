@@ -4,7 +4,6 @@ pub mod Near
 pub mod Spelling
 pub mod Numbers
 pub mod Marks
-pub mod Clear
 pub mod Steps
 pub mod CodeRuns
 pub mod Wipes

@@ -4,4 +4,5 @@ pub mod EccNor
 pub mod Coded
 pub mod Shapes
 pub mod Formed
+pub mod Clear
 pub mod Wiping

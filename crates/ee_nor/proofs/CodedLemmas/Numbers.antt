@@ -9,6 +9,7 @@ use Rattle.ee_flash.specs.Device.{all_ones}
 use Rattle.ee_flash.specs.Numbers.{IsSlotNumber, IsStoreNumber, header_half}
 use Rattle.ee_flash.specs.Size.{IsWithinLimits, Size}
 use Rattle.ee_flash.specs.declared.word.Word.TheVariants.{Erased, Held, Torn}
+use Rattle.ee_nor.specs.Coded.Clear.{number_cases}
 use Rattle.ee_nor.specs.Coded.Code.{IsPayload, codeword, decoded, payload_in}
 use Rattle.ee_nor.specs.Coded.Coded.{IsOverCoded, coded_number, coded_word, held_payload, mark_payload, number_of_payload, payload_of_number, word_of_ecc, word_read}
 use Rattle.ee_nor.specs.Coded.EccNor.{EccNumber, IsReadingOf}
@@ -17,51 +18,6 @@ use Rattle.ee_nor.specs.Coded.Laws.{HasOnes}
 use Rattle.ee_nor.proofs.CodedLemmas.Near.{coded_fits, coded_ones, decoded_again, erase_makes_no_number, torn_is_told}
 
 -- ---- a number and its payload
-
--- a slot's, the mark, or another
-pub number_cases : (size : Size) (number : ℕ)
-    → ((number % 2 ^ 32 < 2 ^ 17) × (0 < number % 2 ^ 16)
-    × (payload_of_number size number ≡ number / 2 ^ 32 * 2 ^ 17 + number % 2 ^ 17))
-    ⊎ (((IsSlotNumber number → ⊥) × (number % 2 ^ 32 ≡ header_half)
-    × (payload_of_number size number ≡ mark_payload size))
-    ⊎ ((IsSlotNumber number → ⊥) × (payload_of_number size number ≡ number % 2 ^ 32 * 2 ^ 17)))
-unfolding payload_of_number
-number_cases size number = elim (cases_lt (number % 2 ^ 32) (2 ^ 17)) [
-  | inl low ↦ elim (cases_lt 0 (number % 2 ^ 16)) [
-    | inl some ↦ inl (
-      low,
-      some,
-      rw (lt-ltb (number % 2 ^ 32) (2 ^ 17) low, lt-ltb 0 (number % 2 ^ 16) some) refl,
-    )
-    | inr none ↦ inr (inr (
-      λ slot. let some = slot.1 in omega (arith, some, none),
-      rw (
-        lt-ltb (number % 2 ^ 32) (2 ^ 17) low,
-        le-ltb 0 (number % 2 ^ 16) none,
-        ne_eqb (number % 2 ^ 32) header_half (λ same. omega (arith, same, low)),
-      ) refl,
-    ))
-  ]
-  | inr high ↦
-      let no_slot : IsSlotNumber number → ⊥ = λ slot. let low = slot.0 in omega (arith, low, high) in
-      elim (cases_eq (number % 2 ^ 32) header_half) [
-        | inl mark ↦ inr (inl (
-          no_slot,
-          mark,
-          rw (
-            le-ltb (number % 2 ^ 32) (2 ^ 17) high,
-            eq-eqb (number % 2 ^ 32) header_half mark,
-          ) refl,
-        ))
-        | inr other ↦ inr (inr (
-          no_slot,
-          rw (
-            le-ltb (number % 2 ^ 32) (2 ^ 17) high,
-            ne_eqb (number % 2 ^ 32) header_half other,
-          ) refl,
-        ))
-      ]
-]
 
 pub mark_is : (size : Size)
     → payload_of_number size (header_half * 2 ^ 32 + header_half) ≡ mark_payload size

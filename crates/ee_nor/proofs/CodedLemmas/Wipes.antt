@@ -49,20 +49,6 @@ pub page_long : (ecc : EccDevice) (page : ℕ) → IsEccFormed ecc → page < pa
 page_long ecc page formed in_range =
     formed.page_lengths page [] (omega (arith, formed.image_length))
 
--- all pages but the first two words of page 0 are blank
-pub new_flash : (ecc : EccDevice) (count : ℕ) → IsEccFormed ecc → page_count ecc.size ≤ count
-    → is_ecc_blank (drop 2 (ecc_page ecc 0)) ≡ true
-    → ((page : ℕ) → 1 ≤ page → page < count → is_ecc_blank (ecc_page ecc page) ≡ true)
-    → MayBeNew ecc
-new_flash ecc count formed all first each = record {
-  first = first;
-  others = λ page behind. elim (cases_lt page count) [
-    | inl within ↦ each page behind within
-    | inr past ↦
-        rw (get_or_past ecc.image page [] (omega (arith, formed.image_length, all, past))) refl
-  ];
-}
-
 reads_erased : (reading : Option ℕ) → is_other_read reading ≡ false → reading ≡ Some all_ones
 reads_erased None is = cc
 reads_erased (Some number) is = ap Some (eqb-true _ _ (not-false _ is))
