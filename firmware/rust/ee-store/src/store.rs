@@ -82,9 +82,9 @@ impl<D: Driver> Store<D> {
     /// live and each word behind a page's header is erased or torn. It is the call to make at each start: a first start in which
     /// power failed is made again, and no stored value is erased.
     ///
-    /// Of [pairs](crate::Kind::Pairs), whose numbers a cut leaves with every bit that they had, it makes the first store only
-    /// where all numbers are all ones but those of the first two words of page 0. A first start that was cut leaves no others.
-    /// Where an erase clears first, page 0 may hold any numbers but a value.
+    /// Of [pairs](crate::Kind::Pairs) and [coded words](crate::Kind::Coded) it makes the first store only where all words are erased
+    /// but the first two of page 0. A first start that was cut leaves no others. Where an erase clears first, page 0 may hold any
+    /// numbers but a value.
     ///
     /// # Errors
     ///
@@ -137,10 +137,10 @@ impl<D: Driver> Store<D> {
     /// Makes a store of what the slots of the flash say, whatever stands in it: the call behind an opening that refused since a
     /// word went bad. One word that went bad costs its own value, and no more: its address has an older one or none.
     /// `docs/PROMISES.md` in the repository has the premises. The values move to the other set, as in a write that finds no free
-    /// slot. Of [pairs](crate::Kind::Pairs), a word that no store wrote is torn.
+    /// slot. Of [pairs](crate::Kind::Pairs) and coded words, one that no store wrote is torn.
     ///
-    /// It comes last. Under another shape than that of the firmware which wrote the store it destroys values, and so it does on
-    /// a flash that isn't ready to be read. So look at the shape, and open again with pauses, before it.
+    /// It comes last. Under another shape than that of the firmware which wrote the store it destroys values, unless words are
+    /// coded, and so it does on a flash that isn't ready to be read. So look at the shape, and open again with pauses, before it.
     ///
     /// Where pairs had such a word, its page waits to be erased, and the openings refuse the flash until it is. So call
     /// [`clean_step`](Store::clean_step) behind it until that answers `false`. If power fails while that page is erased, nothing
@@ -148,7 +148,7 @@ impl<D: Driver> Store<D> {
     ///
     /// # Errors
     ///
-    /// The first [`OpenError`] that applies: `NothingBegun`, `Spent`, `Driver` or `Unsteady`.
+    /// The first [`OpenError`] that applies: `OtherShape`, `NothingBegun`, `Spent`, `Driver` or `Unsteady`.
     #[doc(alias = "repair")]
     pub fn rescue(driver: D) -> Result<(Store<D>, Rescued), OpenError<D::Error>> {
         let mut part = Part::new(driver);
