@@ -1488,7 +1488,7 @@ EE_IN_PLACE void lookup_find_nothing(Lookup *self) {
 
 /* ---- ee_flash/word.rs: A word of flash as it reads: erased, held or torn. */
 
-/* Its number in a run: `u64::MAX` where it is erased, and 0 where it is torn. */
+/* Its number: `u64::MAX` where it is erased, and 0 where it is torn. */
 static uint64_t word_number(Word self) {
     switch (self.tag) {
     case Word_Erased:
@@ -2266,7 +2266,10 @@ static uint32_t note_within(const Device *flash, uint16_t above, uint32_t span, 
         return span;
     }
     const uint64_t number = device_number(flash, reading);
-    if (address_in(number) == address && batch_note_any(nearest, number)) {
+    if (address_in(number) != address) {
+        return span;
+    }
+    if (batch_note_any(nearest, number)) {
         return span_of(nearest, above);
     }
     return span;
@@ -4902,14 +4905,14 @@ EE_IN_PLACE MaybeShape shape_of_mark(uint64_t number) {
 
 /* ---- coded/coded.rs: A device of words on a flash of coded numbers. */
 
-/* The number of the word of a reading: `u64::MAX` of an erased word, 0 of a torn one. `word`
+/* The number of the word that reads so: `u64::MAX` of an erased word, 0 of a torn one. `word`
  * tells a torn word from one that holds 0. */
 static uint64_t coded_number(const EccNumbers *self, uint64_t reading) {
     return word_number(word_of_reading((*self).shape, maybe_u64_some(reading)));
 }
 
-/* What a reading says of a slot with no check: its number, or, where that ends in less than
- * 65535, one that a torn word may seem to hold. */
+/* What a reading says of a slot with no check: its number, which a torn word may seem to hold.
+ * One that ends in 65535 may be that of any word. */
 static uint64_t coded_in_clear(const EccNumbers *self, uint64_t reading) {
     (void)self;
     return without_check(reading);

@@ -3,7 +3,7 @@ use Rattle.std.specs.Prelude.{◌≡◌, ◌⊎◌, ◌<◌, ◌%◌, ◌^◌, �
 use Rattle.std.proofs.Common.{ap, arith, inl, inr, refl, sym, ◌∙◌}
 use Rattle.ee_flash.specs.Device.{IsBelowAllOnes, all_ones}
 use Rattle.ee_flash.specs.Numbers.{IsSlotNumber}
-use Rattle.ee_flash.specs.Runs.{IsInClear, IsOwnReading, IsShownBy, number_of}
+use Rattle.ee_flash.specs.Runs.{IsOwnReading, IsShownBy, number_of}
 use Rattle.ee_flash.specs.declared.word.Word.{Word}
 use Rattle.ee_flash.specs.declared.word.Word.TheVariants.{Erased, Held, Torn}
 
@@ -22,16 +22,4 @@ own_shown word reading is = record {
   erased = λ erased. is ∙ erased_number word erased;
   only_erased = λ ones below. only_erased word (sym is ∙ ones) below;
   address = λ slot. ap (λ n. n % 2 ^ 16) is;
-}
-
-held_number : (word : Word) (number : ℕ) → number ≡ number_of word → number % 2 ^ 16 < 65535
-    → (word ≡ Held number) ⊎ (word ≡ Torn)
-held_number Erased number is low = absurd (omega (arith, is, low))
-held_number Torn number is low = inr refl
-held_number (Held value) number is low = inl (ap Held (sym is))
-
-pub own_in_clear : (word : Word) (reading : ℕ) → IsOwnReading word reading → IsInClear word reading
-own_in_clear word reading is = record {
-  slot = λ slot. is;
-  held = λ slot low. held_number word reading is low;
 }

@@ -1,4 +1,4 @@
--- Words of a page one behind another, as numbers.
+-- Words of a page one behind another, as numbers, and as what they read as.
 use Rattle.std.specs.Prelude.{◌≡◌, ◌<◌, ◌⊎◌, ℕ, ◌%◌, ◌^◌, ◌==◌, ◌&&◌, if◌then◌else◌, Bool, true, false, List, [], ◌∷◌, length, map, take, drop, slice_index, slice_index_or}
 use Rattle.ee_flash.specs.Device.{Device, IsBelowAllOnes, all_ones, page_at}
 use Rattle.ee_flash.specs.Numbers.{IsSlotNumber}
@@ -31,10 +31,6 @@ flagged_words (number ∷ numbers) (torn ∷ flags) =
 -- so many words of a page, from a place on
 abbrev pub words_from : Device → ℕ → ℕ → ℕ → List Word
 words_from device page at count = take count (drop at (page_at device page))
-
--- their numbers
-abbrev pub run_of : Device → ℕ → ℕ → ℕ → List ℕ
-run_of device page at count = map number_of (words_from device page at count)
 
 -- ---- readings
 

@@ -28,7 +28,7 @@ pub trait Flash {
     /// The device as a value.
     ghost device: { Self → Device };
 
-    /// As what a word may read, in a run.
+    /// As what a word may read in a run.
     ghost reads: { Self → Word → ℕ → Type 0 };
 
     /// The pages of each set and the words of each page.
@@ -60,13 +60,13 @@ pub trait Flash {
         ensures { let words = words_from (device self.now) page at (length room.old) in
             AreReadings (reads self.now) words result.now };
 
-    /// The number of the word of a reading: `u64::MAX` of an erased word, 0 of a torn one. `word`
+    /// The number of the word that reads so: `u64::MAX` of an erased word, 0 of a torn one. `word`
     /// tells a torn word from one that holds 0.
     fn number(&self, reading: u64) -> u64
         ensures { (word : Word) → reads self.now word reading → result ≡ number_of word };
 
-    /// What a reading says of a slot with no check: its number, or, where that ends in less than
-    /// 65535, one that a torn word may seem to hold.
+    /// What a reading says of a slot with no check: its number, which a torn word may seem to hold.
+    /// One that ends in 65535 may be that of any word.
     fn in_clear(&self, reading: u64) -> u64
         ensures { (word : Word) → reads self.now word reading → IsInClear word result };
 

@@ -4,13 +4,15 @@ use Rattle.std.proofs.lemmas.List.{get_or-drop, get_or-map, get_or-take, length-
 use Rattle.std.proofs.lemmas.List.FromFn.{get_or-map-range_with_len, length-map-range_with_len}
 use Rattle.std.proofs.lemmas.Grind.{same_number_lists}
 use Rattle.ee_flash.specs.Device.{all_ones, page_at}
-use Rattle.ee_flash.specs.Runs.{number_of, run_of}
+use Rattle.ee_flash.specs.Runs.{AreReadings, IsOwnReading, number_of, words_from}
+use Rattle.ee_flash.proofs.Public.{read_by_place}
 use Rattle.ee_flash.specs.Size.{page_count}
 use Rattle.ee_flash.specs.declared.word.Word.{Word}
 use Rattle.ee_flash.specs.declared.word.Word.TheVariants.{Erased}
 use Rattle.ee_nor.specs.Nor.{IsNorFormed, NorDevice, number_in, numbers_at}
 use Rattle.ee_nor.specs.Pairs.{AreHigh, run_of_pairs, pair_in, pair_words, paired_device}
-use Rattle.ee_nor.specs.Formed.{get_or-pair_words, length-pair_words}
+use Rattle.ee_nor.specs.Formed.{pairs_are_formed}
+use Rattle.ee_nor.proofs.Steps.{word_there}
 
 -- numbers that are those of the words place by place are their run
 pub same_run_of_pairs : (numbers room : List ℕ) (at count : ℕ) → length room ≡ count
@@ -65,21 +67,17 @@ module _ (numbers : List ℕ) (at count : ℕ) where
       ∙ ap (λ (place : ℕ). number_in numbers (2 * place + 1)) same in
       omega (arith, high k (omega arith) (omega arith), first, second)
 
--- it is the run of the device of words
-pub run-pairs : (nor : NorDevice) (page at count : ℕ) → IsNorFormed nor → page < page_count nor.size
-    → at + count ≤ nor.size.words
-    → run_of_pairs (numbers_at nor page) at count ≡ run_of (paired_device nor) page at count
-run-pairs nor page at count formed in_range within =
-    let numbers = numbers_at nor page in
-    let words = pair_words nor.size.words numbers in
-    let there : page_at (paired_device nor) page ≡ words =
-    get_or-map (pair_words nor.size.words) nor.image page [] []
-    (omega (arith, formed.image_length)) in
-    let long : length (take count (drop at words)) ≡ count =
-    simp (length-take, length-drop) (omega (arith, length-pair_words nor.size.words numbers)) in
-    sym (same_run_of_pairs numbers (map number_of (take count (drop at words))) at count
-    (length-map (take count (drop at words)) number_of ∙ long) (λ k h.
-    get_or-map number_of (take count (drop at words)) k Erased 0 (omega arith)
-    ∙ ap number_of (get_or-take count (drop at words) k Erased h ∙ get_or-drop at words k Erased
-    ∙ get_or-pair_words nor.size.words numbers (at + k) Erased (omega arith))))
-    ∙ ap (λ (those : List Word). map number_of (take count (drop at those))) (sym there)
+-- they are readings of the words of the device
+pub pair_readings : (nor : NorDevice) (page at count : ℕ) (room : List ℕ) → IsNorFormed nor
+    → page < page_count nor.size → at + count ≤ nor.size.words
+    → room ≡ run_of_pairs (numbers_at nor page) at count
+    → AreReadings IsOwnReading (words_from (paired_device nor) page at count) room
+pair_readings nor page at count room formed in_range within are =
+    let number_of_word = λ (word : ℕ). number_of (pair_in (numbers_at nor page) word) in
+    read_by_place IsOwnReading (paired_device nor) page at count room (pairs_are_formed nor formed)
+    in_range within
+    (ap (λ (list : List ℕ). length list) are ∙ length-map-range_with_len number_of_word at count)
+    (λ k h.
+    ap (λ (list : List ℕ). get_or list k 0) are
+    ∙ get_or-map-range_with_len number_of_word at count k (at + k) 0 h (omega arith)
+    ∙ ap number_of (sym (word_there nor page (at + k) formed in_range (omega arith))))

@@ -24,6 +24,7 @@ mod Nearest
 mod BatchLists
 mod Premises
 mod Noting
+mod Readings
 mod RunWords
 mod RunSlots
 mod ToldLists

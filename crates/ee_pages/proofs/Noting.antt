@@ -1,14 +1,18 @@
 -- What a batch notes of a word.
-use Rattle.std.proofs.Common.{◌≡◌, inl, inr, ℕ, ◌+◌, ◌-◌, ◌<◌, ◌≤◌, ◌/◌, ◌%◌, ◌^◌, ◌⊎◌, Option, Some, None, List, length, take, get_or, set, refl, sym, ap, ◌∙◌, arith}
+use Rattle.std.proofs.Common.{◌≡◌, inl, inr, ℕ, ◌+◌, ◌-◌, ◌<◌, ◌≤◌, ◌/◌, ◌%◌, ◌^◌, ◌⊎◌, Option, Some, None, List, length, take, get_or, set, refl, sym, subst, ap, ◌∙◌, arith}
 use Rattle.std.proofs.lemmas.Bool.{cases_lt, lt-ltb}
 use Rattle.std.specs.List.{insert}
 use Rattle.std.specs.Prelude.{◌≢◌}
 use Rattle.ee_codec.specs.Reading.{slot_of}
 use Rattle.ee_codec.specs.Words.{IsAddress}
+use Rattle.ee_flash.specs.Numbers.{IsSlotNumber}
+use Rattle.ee_flash.specs.Runs.{IsShownBy, number_of}
+use Rattle.ee_flash.specs.declared.word.Word.{Word}
 use Rattle.ee_flash.specs.declared.word.Word.TheVariants.{Held}
 use Rattle.ee_pages.specs.Nearest.{HasPlaces, IsOfAddress, IsPlace, IsRising, Named, last_named, named_by, noted_above, slot_names, with_named}
 use Rattle.ee_pages.proofs.BatchLists.{names_by, says_by}
-use Rattle.ee_pages.proofs.Nearest.{place_is, put_among, put_over, rising_at, kept_full, kept_none, kept_unnamed, last-at_least}
+use Rattle.ee_pages.proofs.Readings.{names_by_number, names_nothing, slot_or_not}
+use Rattle.ee_pages.proofs.Nearest.{place_is, put_among, put_over, rising_at, kept_full, kept_none, kept_unnamed, last-at_least, few_taken, rising-noted, rising-take}
 
 module _ (room above span number : ℕ) (list : List Named) (rising : IsRising above list)
     (few : length list ≤ room) (places : HasPlaces room above span list) where
@@ -71,6 +75,76 @@ module _ (room above span number : ℕ) (list : List Named) (rising : IsRising a
   noted_either after high low noted unsaid = elim (cases_lt (number / 2 ^ 16 % 2 ^ 16) 2) [
     | inl kind ↦ noted kind ∙ noted_by high low kind
     | inr none ↦ unsaid none ∙ kept_unsaid none
+  ]
+
+-- the same of a word, by its reading
+module _ (room above span : ℕ) (list : List Named) (rising : IsRising above list)
+    (few : length list ≤ room) (places : HasPlaces room above span list) (word : Word) where
+  -- one that is no slot's
+  word_of_none : (IsSlotNumber (number_of word) → ⊥)
+      → list ≡ take room (noted_above above (slot_names (slot_of word)) list)
+  word_of_none none =
+      kept_none room above (slot_names (slot_of word)) list few (names_nothing word none)
+
+  by_number : (after : List Named)
+      → after ≡ take room (noted_above above (slot_names (slot_of (Held (number_of word)))) list)
+      → after ≡ take room (noted_above above (slot_names (slot_of word)) list)
+  by_number after noted =
+      noted
+      ∙ ap (λ (named : Option Named). take room (noted_above above named list))
+      (names_by_number word)
+
+  -- an address with no place
+  pub word_kept_away : (reading : ℕ) → IsShownBy word reading
+      → (reading % 2 ^ 16 ≤ above) ⊎ (above + span < reading % 2 ^ 16)
+      → list ≡ take room (noted_above above (slot_names (slot_of word)) list)
+  word_kept_away reading shown away = elim (slot_or_not (number_of word)) [
+    | inl none ↦ word_of_none none
+    | inr slot ↦
+        by_number list
+        (kept_away room above span (number_of word) list rising few places
+        (subst (λ n. (n ≤ above) ⊎ (above + span < n)) (shown.address slot) away))
+  ]
+
+  -- another address than that of the reading
+  pub word_of_other : (reading number : ℕ) → IsShownBy word reading → number ≡ number_of word
+      → number % 2 ^ 16 ≢ reading % 2 ^ 16
+      → list ≡ take room (noted_above above (slot_names (slot_of word)) list)
+  word_of_other reading number shown is other = elim (slot_or_not (number_of word)) [
+    | inl none ↦ word_of_none none
+    | inr slot ↦ absurd (other (ap (λ n. n % 2 ^ 16) is ∙ sym (shown.address slot)))
+  ]
+
+  -- an address with a place
+  pub word_noted : (number : ℕ) (after : List Named) → number ≡ number_of word
+      → above < number % 2 ^ 16 → number % 2 ^ 16 ≤ above + span
+      → (number / 2 ^ 16 % 2 ^ 16 < 2 → after ≡ take room (with_named (named_by number) list))
+      → (2 ≤ number / 2 ^ 16 % 2 ^ 16 → after ≡ list)
+      → after ≡ take room (noted_above above (slot_names (slot_of word)) list)
+  word_noted number after is high low noted unsaid =
+      by_number after
+      (subst
+      (λ (n : ℕ). after ≡ take room (noted_above above (slot_names (slot_of (Held n))) list)) is
+      (noted_either room above span number list rising few places after high low noted unsaid))
+
+-- what is noted of it rises, and has room
+module _ (room above number : ℕ) (list after : List Named) (rising : IsRising above list)
+    (few : length list ≤ room) (high : above < number % 2 ^ 16)
+    (noted : number / 2 ^ 16 % 2 ^ 16 < 2 → after ≡ take room (with_named (named_by number) list))
+    (unsaid : 2 ≤ number / 2 ^ 16 % 2 ^ 16 → after ≡ list) where
+  pub still_rising : IsRising above after
+  still_rising = elim (cases_lt (number / 2 ^ 16 % 2 ^ 16) 2) [
+    | inl kind ↦
+        subst (IsRising above) (sym (noted kind))
+        (rising-take room above (with_named (named_by number) list)
+        (rising-noted above (named_by number) list rising high))
+    | inr none ↦ subst (IsRising above) (sym (unsaid none)) rising
+  ]
+
+  pub still_few : length after ≤ room
+  still_few = elim (cases_lt (number / 2 ^ 16 % 2 ^ 16) 2) [
+    | inl kind ↦ few_taken room (with_named (named_by number) list) after (noted kind)
+    | inr none ↦ subst (λ (list : List Named). length list ≤ room) (sym (unsaid none)) few
   ]
 
 -- ---- the addresses that have a place

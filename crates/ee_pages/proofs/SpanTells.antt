@@ -3,7 +3,7 @@ use Rattle.std.proofs.Common.{◌≡◌, ℕ, ◌+◌, ◌-◌, ◌*◌, ◌<◌
 use Rattle.std.proofs.lemmas.List.{drop-drop, drop-take, get_or-map, length-map, take-take}
 use Rattle.std.proofs.lemmas.Simd.{chunk-drop}
 use Rattle.ee_flash.specs.Device.{Device, IsFormed, page_at}
-use Rattle.ee_flash.specs.Runs.{run_of}
+use Rattle.ee_flash.specs.Runs.{words_from}
 use Rattle.ee_flash.specs.declared.word.Word.{Word}
 use Rattle.ee_flash.specs.declared.word.Word.TheVariants.{Erased, Held}
 use Rattle.ee_pages.specs.Meaning.{later_of, latest_in, meaning, says, value_said}
@@ -12,7 +12,7 @@ use Rattle.ee_pages.specs.Spans.{AreSaidTo, IsSpan, Span, TellsBefore, span_says
 use Rattle.ee_pages.specs.declared.side.Side.{Side}
 use Rattle.ee_pages.proofs.LastSaid.{latest_in-append, latest_in-step, later-later, later-none, length-row}
 use Rattle.ee_pages.proofs.Slots.{row_within}
-use Rattle.ee_pages.proofs.RunSlots.{latest_by_numbers, words_here}
+use Rattle.ee_pages.proofs.RunSlots.{words_here}
 
 -- nothing more is said
 pub tells_nothing : (said : ℕ → Option (Option ℕ)) (span : Span)
@@ -73,18 +73,6 @@ one_before words left address some within =
     (λ n. later_of (says (get_or words (left - 1) Erased) address)
     (latest_in (drop n words) address)) next
 
--- the number at a place of a list of numbers, as a word
-pub number_before : (numbers : List ℕ) (left address : ℕ) → 0 < left → left ≤ length numbers
-    → latest_in (drop (left - 1) (map Held numbers)) address
-    ≡ later_of (says (Held (get_or numbers (left - 1) 0)) address)
-    (latest_in (drop left (map Held numbers)) address)
-number_before numbers left address some within =
-    let inside : left - 1 < length numbers = omega arith in
-    one_before (map Held numbers) left address some (rw (length-map numbers Held) within)
-    ∙ ap
-    (λ (word : Word). later_of (says word address) (latest_in (drop left (map Held numbers)) address))
-    (get_or-map Held numbers (left - 1) 0 Erased inside)
-
 pub behind_all : (words : List Word) (end address : ℕ) → end ≡ length words
     → latest_in (drop end words) address ≡ None
 behind_all [] zero address e = refl
@@ -109,22 +97,21 @@ in_two start end words address h =
 -- what a row of slots says, in a row of them and those behind it
 module _ (device : Device) (side : Side) (page here : ℕ) (formed : IsFormed device)
     (inside : page < device.size.pages) (here_is : here ≡ first_page device.size side + page) where
-  pub run_before : (from count used : ℕ) (numbers : List ℕ) (address : ℕ)
-      → numbers ≡ run_of device here (4 + from) count → from + count ≤ used
+  pub run_before : (from count used : ℕ) (address : ℕ) → from + count ≤ used
       → used ≤ device.size.words - 4
       → latest_in
       (drop from (take used (drop (page * (device.size.words - 4)) (slots_of (set_of side device)))))
       address
-      ≡ later_of (latest_in (map Held numbers) address)
+      ≡ later_of (latest_in (words_from device here (4 + from) count) address)
       (latest_in
       (drop (from + count)
       (take used (drop (page * (device.size.words - 4)) (slots_of (set_of side device)))))
       address)
-  run_before from count used numbers address run few most =
+  run_before from count used address few most =
       let slots = slots_of (set_of side device) in
       let start = page * (device.size.words - 4) in
       let row = take used (drop start slots) in
-      let words = take count (drop (4 + from) (page_at device here)) in
+      let words = words_from device here (4 + from) count in
       let all : from + (used - from) ≡ used = omega (arith, few) in
       let some : from + count - from ≡ count = omega arith in
       let row_from : drop from row ≡ take (used - from) (drop from (drop start slots)) =
@@ -136,22 +123,16 @@ module _ (device : Device) (side : Side) (page here : ℕ) (formed : IsFormed de
       ∙ take-take count (used - from) (drop from (drop start slots)) (omega (arith, few))
       ∙ ap (take count) (drop-drop from start slots)
       ∙ words_here device side page here formed inside here_is from count (omega (arith, few, most)) in
-      let said : latest_in (map Held numbers) address ≡ latest_in (take count (drop from row)) address =
-      ap (λ (numbers : List ℕ). latest_in (map Held numbers) address) run
-      ∙ latest_by_numbers words address
-      ∙ ap (λ (words : List Word). latest_in words address) (sym here_words) in
       in_two from (from + count) row address (omega arith)
       ∙ ap
       (λ n. later_of (latest_in (take n (drop from row)) address)
       (latest_in (drop (from + count) row) address)) some
       ∙ ap
-      (λ (before : Option (Option ℕ)). later_of before (latest_in (drop (from + count) row) address))
-      (sym said)
+      (λ (words : List Word). later_of (latest_in words address)
+      (latest_in (drop (from + count) row) address))
+      here_words
 
 -- ---- the values of a span
-
-later_last : (said : Option (Option ℕ)) → later_of said None ≡ said
-later_last said = refl
 
 pub all_values : (slots : List Word) (old new : Span) → 0 < new.count → old.count ≤ 16
     → ((at : ℕ) → at < 16 → span_says old at ≡ None) → TellsBefore (latest_in slots) old new

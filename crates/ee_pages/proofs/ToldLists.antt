@@ -3,7 +3,7 @@ use Rattle.std.proofs.Common.{◌≡◌, ℕ, ◌+◌, ◌-◌, ◌*◌, ◌<◌
 use Rattle.std.proofs.lemmas.List.{drop-drop, get_or-map, get_or_default, length-map, set-get_or}
 use Rattle.std.proofs.Math.Seq.{take-add}
 use Rattle.ee_flash.specs.Device.{Device, IsFormed, page_at}
-use Rattle.ee_flash.specs.Runs.{number_of, run_of}
+use Rattle.ee_flash.specs.Runs.{words_from}
 use Rattle.ee_flash.specs.declared.word.Word.{Word}
 use Rattle.ee_flash.specs.declared.word.Word.TheVariants.{Erased, Held}
 use Rattle.ee_pages.specs.Loading.{loaded, told, value_over}
@@ -14,24 +14,17 @@ use Rattle.ee_pages.specs.declared.find.Layout.{Layout}
 use Rattle.ee_pages.specs.declared.side.Side.{Side}
 use Rattle.ee_pages.specs.declared.loading.Wanted.{Wanted}
 use Rattle.ee_pages.proofs.LastSaid.{latest_in-append, latest_in-drop, latest_in-row, latest_in-step, silent_behind}
-use Rattle.ee_pages.proofs.RunSlots.{latest_by_numbers, words_here}
+use Rattle.ee_pages.proofs.RunSlots.{words_here}
+use Rattle.ee_pages.proofs.SpanTells.{one_before}
 
--- ---- numbers, from the last down
+-- ---- words, from the last down
 
-pub one_number_lower : (numbers : List ℕ) (left address : ℕ) → 0 < left → left ≤ length numbers
-    → latest_in (drop left (map Held numbers)) address ≡ None
-    → latest_in (drop (left - 1) (map Held numbers)) address
-    ≡ says (Held (get_or numbers (left - 1) 0)) address
-one_number_lower numbers left address some within silent =
-    let words = map Held numbers in
-    let inside : left - 1 < length numbers = omega arith in
-    let next : left - 1 + 1 ≡ left = omega arith in
-    latest_in-step (left - 1) words address (rw (length-map numbers Held) inside)
-    ∙ ap
-    (λ n. later_of (says (get_or words (left - 1) Erased) address)
-    (latest_in (drop n words) address)) next
+pub one_word_lower : (words : List Word) (left address : ℕ) → 0 < left → left ≤ length words
+    → latest_in (drop left words) address ≡ None
+    → latest_in (drop (left - 1) words) address ≡ says (get_or words (left - 1) Erased) address
+one_word_lower words left address some within silent =
+    one_before words left address some within
     ∙ ap (later_of (says (get_or words (left - 1) Erased) address)) silent
-    ∙ ap (λ (word : Word). says word address) (get_or-map Held numbers (left - 1) 0 Erased inside)
 
 -- what the last ones say, where they say something, all say
 pub all_say : (k : ℕ) (words : List Word) (address : ℕ) (said : Option (Option ℕ))
@@ -168,25 +161,22 @@ told_more from count slots entries now after so_far more =
 -- a run of a page
 module _ (device : Device) (side : Side) (page here : ℕ) (formed : IsFormed device)
     (inside : page < device.size.pages) (here_is : here ≡ first_page device.size side + page) where
-  pub run_told : (from count : ℕ) (numbers : List ℕ) (entries now after : List Wanted)
-      → numbers ≡ run_of device here (4 + from) count → from + count ≤ device.size.words - 4
+  pub run_told : (from count : ℕ) (entries now after : List Wanted)
+      → from + count ≤ device.size.words - 4
       → now
       ≡ told
       (take from (drop (page * (device.size.words - 4)) (slots_of (set_of side device))))
       entries
-      → after ≡ told (map Held numbers) now
+      → after ≡ told (words_from device here (4 + from) count) now
       → after
       ≡ told
       (take (from + count) (drop (page * (device.size.words - 4)) (slots_of (set_of side device))))
       entries
-  run_told from count numbers entries now after run few so_far more =
+  run_told from count entries now after few so_far more =
       let slots = slots_of (set_of side device) in
       let start = page * (device.size.words - 4) in
-      let words = take count (drop (4 + from) (page_at device here)) in
       told_more from count (drop start slots) entries now after so_far
       (more
-      ∙ ap (λ (numbers : List ℕ). told (map Held numbers) now) run
-      ∙ told_same (map Held (map number_of words)) words now (latest_by_numbers words)
       ∙ ap (λ (words : List Word). told words now)
       (sym (words_here device side page here formed inside here_is from count few)
       ∙ ap (take count) (sym (drop-drop from start slots))))

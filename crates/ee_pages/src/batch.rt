@@ -1,5 +1,5 @@
 //! The next live addresses, as many as are found in one look through the slots.
-ghost use Rattle.std.specs.Prelude.{◌≡◌, ◌≤◌, ◌<◌, ◌⊎◌, ◌+◌, ◌-◌, ◌*◌, ◌%◌, ◌/◌, ◌^◌, ℕ, [], None, length, map, take, true, false};
+ghost use Rattle.std.specs.Prelude.{◌≡◌, ◌≤◌, ◌<◌, ◌⊎◌, ◌+◌, ◌-◌, ◌*◌, ◌%◌, ◌/◌, ◌^◌, ℕ, [], None, length, map, take, true, false, List};
 ghost use Rattle.ee_flash.specs.Runs.{AreReadings};
 ghost use Rattle.ee_flash.specs.Size.{header_words};
 ghost use Rattle.std.specs.List.{All};
@@ -142,18 +142,14 @@ fn note_all<F: Flash>(
 }
 
 /// Notes what the word of a reading says, if it is of one of so many addresses above this one.
-fn note_within<F: Flash>(
-    flash: &F,
-    above: u16,
-    span: u32,
-    reading: u64,
-    nearest: &mut Batch,
-) -> u32
+fn note_within<F: Flash>(flash: &F, above: u16, span: u32, reading: u64, nearest: &mut Batch) -> u32
     requires rising { IsRising above nearest.old.named }
     requires few { length nearest.old.named ≤ BATCH }
     requires places { HasPlaces BATCH above span nearest.old.named }
     ensures noted { (word : Word) → F.reads flash.now word reading → nearest.new.named
         ≡ take BATCH (noted_above above (slot_names (slot_of word)) nearest.old.named) }
+    ensures rising { IsRising above nearest.new.named }
+    ensures few { length nearest.new.named ≤ BATCH }
     ensures places { HasPlaces BATCH above result nearest.new.named }
 {
     // Asked first, since most words are of an address that has no place in a batch.
@@ -162,7 +158,10 @@ fn note_within<F: Flash>(
         return span;
     }
     let number = flash.number(reading);
-    if address_in(number) == address && nearest.note_any(number) {
+    if address_in(number) != address {
+        return span;
+    }
+    if nearest.note_any(number) {
         span_of(nearest, above)
     } else {
         span

@@ -1,7 +1,7 @@
 //! The scan: where the live set of a legal image is and how far it is used, or why
 //! an image isn't legal.
 ghost use Rattle.std.specs.Bool.{MatchBool};
-ghost use Rattle.std.specs.Prelude.{◌≡◌, ◌≢◌, ◌<◌, ◌≤◌, ◌↔◌, ℕ, ◌+◌, ◌*◌, ◌-◌, IfErr, IfNone, IfOk, IfSome, IsTrue, None, OnOk, Some, false, is_ok, length, slice_index, true};
+ghost use Rattle.std.specs.Prelude.{◌≡◌, ◌≢◌, ◌<◌, ◌≤◌, ◌↔◌, ℕ, ◌+◌, ◌*◌, ◌-◌, IfErr, IfNone, IfOk, IfSome, IsTrue, None, OnOk, Some, false, is_ok, length, slice_index_or, true, List};
 ghost use Rattle.ee_codec.specs.Reading.{slot_of};
 ghost use Rattle.ee_codec.specs.Words.{IsGeneration};
 ghost use Rattle.ee_flash.specs.Device.{word_at};

@@ -49,32 +49,6 @@ read_more map base turns count word address turn value old new e2 e3 h here befo
 front : (room : List ℕ) (count at : ℕ) → at < count → slice_index (take count room) at ≡ slice_index room at
 front room count at low = get_or-take count room at 0 low
 
--- all of them, and their check: the space begins with the record
-pub all_read : (map : Map) (base room head words address turn check : ℕ) (space : List ℕ)
-    → map base ≡ Some head → head % 65536 ≤ 4 * room → head % 65536 ≤ length space
-    → words_for (head % 65536) ≤ words
-    → AreRead (4 * words) map base (head / 65536) (head % 65536) space
-    → turn ≡ word_turn (head / 65536) 0 → address ≡ place base 0 turn
-    → check ≡ check_of (take (head % 65536) space) → map address ≡ Some check
-    → (length (take (head % 65536) space) ≡ head % 65536)
-    × HoldsBytes map base room (take (head % 65536) space)
-all_read map base room head words address turn check space is few fits all read e1 e2 e3 there =
-    let count : ℕ = head % 65536 in
-    let same : length (take count space) ≡ count = length-take-le count space fits in (
-      same,
-      record {
-        turns = head / 65536;
-        head = is ∙ ap (λ h. Some h) (omega (arith, same));
-        few = omega (arith, same, few);
-        check = ap map (sym (e2 ∙ ap (place base 0) e1)) ∙ (there ∙ ap (λ c. Some c) e3);
-        each = λ at low.
-            let short : at < count = omega (arith, same, low) in
-            let P : ℕ → Type 0 =
-            λ b. HasByte (map (place_by base (head / 65536) (at / 4 + 1))) (at % 4) b in
-            subst P (sym (front space count at short)) (read at (omega (arith, short, all)) short);
-      },
-    )
-
 -- ---- a record that is hurt
 
 -- what a head says of the bytes that are held
@@ -106,21 +80,6 @@ missing_word map base room head word address turn fits is low e2 e3 none = recor
       ∙ (ap map (sym (e3 ∙ ap (place base (word + 1)) e2)) ∙ none)) in
       let P : Option ℕ → Type 0 = λ v. HasByte v (4 * word % 4) (slice_index bytes (4 * word)) in
       subst P there (held.each (4 * word) inside);
-}
-
--- the check has no value
-pub missing_check : (map : Map) (base room head address turn : ℕ) → room < 16384
-    → map base ≡ Some head → turn ≡ word_turn (head / 65536) 0 → address ≡ place base 0 turn
-    → map address ≡ None → IsHurt map base room
-missing_check map base room head address turn fits is e2 e3 none = record {
-  head = head;
-  there = is;
-  no_bytes = λ bytes held.
-      let heads = heads_of map base room head bytes fits is held in
-      let there : map (place_by base held.turns 0) ≡ None =
-      ap (λ t. map (place_by base t 0)) (sym heads.0)
-      ∙ (ap map (sym (e3 ∙ ap (place base 0) e2)) ∙ none) in
-      absurd (cc (there, held.check));
 }
 
 -- the bytes that are there have another check

@@ -11,7 +11,10 @@ use Rattle.ee_flash.specs.declared.word.Word.{Word}
 use Rattle.ee_flash.specs.declared.word.Word.TheVariants.{Erased, Torn}
 use Rattle.ee_nor.specs.Coded.Code.{codeword, mixed_bits, parity_bits, weight_row}
 use Rattle.ee_nor.specs.Coded.Coded.{ReadsCoded, coded_device, coded_word, readings_from, word_of_ecc, word_read}
-use Rattle.ee_nor.specs.Coded.EccNor.{EccDevice, EccNumber, IsEccFormed, ecc_in, ecc_page, whole_number}
+use Rattle.ee_nor.specs.Coded.EccNor.{EccDevice, EccNumber, IsEccFormed, ecc_at, ecc_in, ecc_page}
+use Rattle.ee_nor.specs.Coded.Formed.{coded_is_formed}
+use Rattle.ee_nor.proofs.CodedLemmas.Steps.{word_there}
+use Rattle.ee_flash.proofs.Public.{read_by_place}
 
 pub same_readings : (numbers : List EccNumber) (room : List ℕ) (at count : ℕ)
     → length room ≡ count
@@ -34,37 +37,20 @@ read_by : (size : Size) (reading : Option ℕ)
 read_by size None = sym (zero_is_torn size)
 read_by size (Some number) = refl
 
-pub coded_readings : (ecc : EccDevice) (page at count : ℕ) (readings : List ℕ) → IsEccFormed ecc
+-- they are readings of the words of the device
+pub coded_readings : (ecc : EccDevice) (page at count : ℕ) (room : List ℕ) → IsEccFormed ecc
     → page < page_count ecc.size → at + count ≤ ecc.size.words
-    → readings ≡ readings_from (ecc_page ecc page) at count
-    → AreReadings (ReadsCoded ecc.size) (words_from (coded_device ecc) page at count) readings
-coded_readings ecc page at count readings formed in_range within are =
-    let numbers = ecc_page ecc page in
-    let as_word = word_of_ecc ecc.size in
-    let words = map as_word numbers in
-    let reading = λ (place : ℕ). unwrap_or (ecc_in numbers place).reading 0 in
-    let below : page < length ecc.image = omega (arith, formed.image_length) in
-    let there : page_at (coded_device ecc) page ≡ words =
-    get_or-map (map as_word) ecc.image page [] [] below in
-    let as_many : length numbers ≡ ecc.size.words = formed.page_lengths page [] below in
-    let part : words_from (coded_device ecc) page at count ≡ take count (drop at words) =
-    ap (λ (those : List Word). take count (drop at those)) there in
-    let long : length (words_from (coded_device ecc) page at count) ≡ count =
-    ap (λ (those : List Word). length those) part
-    ∙ simp (length-take, length-drop, length-map) (omega (arith, as_many)) in
-    record {
-      as_many =
-          ap (λ (list : List ℕ). length list) are
-          ∙ length-map-range_with_len reading at count ∙ sym long;
-      each = λ k h.
-          let less : k < count = omega (arith, h, long) in
-          ap (λ (those : List Word). get_or those k Erased) part
-          ∙ get_or-take count (drop at words) k Erased less ∙ get_or-drop at words k Erased
-          ∙ get_or-map as_word numbers (at + k) (whole_number all_ones) Erased
-          (omega (arith, as_many, less))
-          ∙ read_by ecc.size (ecc_in numbers (at + k)).reading
-          ∙ ap (coded_word ecc.size)
-          (sym
-          (ap (λ (list : List ℕ). get_or list k 0) are
-          ∙ get_or-map-range_with_len reading at count k (at + k) 0 less (omega arith)));
-    }
+    → room ≡ readings_from (ecc_page ecc page) at count
+    → AreReadings (ReadsCoded ecc.size) (words_from (coded_device ecc) page at count) room
+coded_readings ecc page at count room formed in_range within are =
+    let reading = λ (place : ℕ). unwrap_or (ecc_in (ecc_page ecc page) place).reading 0 in
+    read_by_place (ReadsCoded ecc.size) (coded_device ecc) page at count room
+    (coded_is_formed ecc formed) in_range within
+    (ap (λ (list : List ℕ). length list) are ∙ length-map-range_with_len reading at count)
+    (λ k h.
+    word_there ecc page (at + k) formed in_range (omega arith)
+    ∙ read_by ecc.size (ecc_at ecc page (at + k)).reading
+    ∙ ap (coded_word ecc.size)
+    (sym
+    (ap (λ (list : List ℕ). get_or list k 0) are
+    ∙ get_or-map-range_with_len reading at count k (at + k) 0 h (omega arith))))

@@ -5,8 +5,8 @@
 //! | `WRITE_SIZE` | A word of the store | [`Kind`] | Bytes of a word |
 //! |---|---|---|---|
 //! | 1, 2, 4 | a pair of numbers, a value beside its complement | `Pairs`, `PairsClearing` | 16 |
-//! | 8 | a word with ECC (error correction) | `Words` | 8 |
-//! | 16, 32 | a value and its complement in one unit with ECC; of 32 bytes the rest is zeros | `Words` | 16, 32 |
+//! | 8 | a word with ECC (error correction) | `Coded`, `Words` | 8 |
+//! | 16, 32 | a word and its complement in one unit with ECC; of 32 bytes the rest is zeros | `Coded`, `Words` | 16, 32 |
 //!
 //! Bytes of a number stand from the lowest to the highest.
 

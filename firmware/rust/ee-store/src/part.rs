@@ -2,10 +2,10 @@
 
 use crate::driver::{Driver, Kind};
 use crate::ee_flash::{Cut, Flash, Shape, Word};
-use crate::ee_nor::coded::{Coded, EccNor};
-use crate::ee_nor::{Nor, Pairs};
+use crate::ee_nor::coded::{Coded, EccNor, OtherShape};
+use crate::ee_nor::{LowPair, Nor, Pairs};
 use crate::ee_pages::{blank_to, is_blank};
-use crate::error::{DriverError, OpenError, Step};
+use crate::error::{DriverError, Step};
 use core::cell::{Cell, RefCell};
 use core::ops::{Deref, Range};
 
@@ -52,27 +52,17 @@ impl<D: Driver> Part<D> {
         self.failed.take()
     }
 
-    /// What speaks against this kind before a store is looked for: the first word of pairs that no store wrote, or another shape.
-    pub(crate) fn fault(&self) -> Option<OpenError<D::Error>> {
+    /// The first word of a pair of numbers that no store wrote.
+    pub(crate) fn low_pair(&self) -> Option<LowPair> {
         match self.driver.kind() {
-            Kind::Words => None,
-            Kind::Coded => self.other_shape(),
-            _ => {
-                let (_, low) = Pairs::of(Numbers::of(self, ROOM)).err()?;
-                let (page, at) = (low.page, low.word);
-                Some(OpenError::Foreign { page, at })
-            }
+            Kind::Words | Kind::Coded => None,
+            _ => Pairs::of(Numbers::of(self, ROOM)).err().map(|it| it.1),
         }
     }
 
     /// The other shape that the mark of a store of coded words says.
-    pub(crate) fn other_shape(&self) -> Option<OpenError<D::Error>> {
-        if self.driver.kind() != Kind::Coded {
-            return None;
-        }
-        let (_, other) = Coded::of(Codes(self)).err()?;
-        let (pages, words) = (other.pages, other.words);
-        Some(OpenError::OtherShape { pages, words })
+    pub(crate) fn other_shape(&self) -> Option<OtherShape> {
+        Coded::of(self.codes()?).err().map(|it| it.1)
     }
 
     /// Whether a first store may be made here: but for words only where no more is written than a first start that was cut leaves.
@@ -110,7 +100,12 @@ impl<D: Driver> Part<D> {
         })
     }
 
-    // What the driver says of a word, or of a number of a coded one.
+    // Its numbers, where its words are coded.
+    fn codes(&self) -> Option<Codes<&Self>> {
+        (self.driver.kind() == Kind::Coded).then_some(Codes(self))
+    }
+
+    // What the driver says of a word, or of the number of a coded one.
     fn said(&self, page: usize, at: usize) -> Word {
         if !self.has(page, at) {
             return Word::Torn;
@@ -188,17 +183,13 @@ impl<D: Driver> Flash for Part<D> {
     }
 
     fn number(&self, reading: u64) -> u64 {
-        match self.driver.kind() {
-            Kind::Coded => Coded::known(Codes(self)).number(reading),
-            _ => reading,
-        }
+        self.codes()
+            .map_or(reading, |codes| Coded::known(codes).number(reading))
     }
 
     fn in_clear(&self, reading: u64) -> u64 {
-        match self.driver.kind() {
-            Kind::Coded => Coded::known(Codes(self)).in_clear(reading),
-            _ => reading,
-        }
+        self.codes()
+            .map_or(reading, |codes| Coded::known(codes).in_clear(reading))
     }
 
     // Steps stay out of the calls that make them: a call costs nothing beside a step of flash, and there are several.
@@ -352,10 +343,8 @@ impl<P: Lent> EccNor for Codes<P> {
     }
 
     fn read(&self, page: usize, at: usize) -> Option<u64> {
-        match self.0.said(page, at) {
-            Word::Torn => None,
-            word => Some(word.number()),
-        }
+        let word = self.0.said(page, at);
+        (word != Word::Torn).then(|| word.number())
     }
 
     fn program(&mut self, page: usize, at: usize, number: u64) -> Result<(), Cut> {

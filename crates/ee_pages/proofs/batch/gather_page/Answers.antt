@@ -1,5 +1,5 @@
 use Rattle.std.proofs.Common.{◌≡◌, ◌+◌, ◌-◌, ◌*◌, ◌≤◌, [], take, length, subst, ap, arith, ◌∙◌}
-use Rattle.ee_flash.specs.Runs.{run_of}
+use Rattle.ee_flash.specs.Runs.{AreReadings, words_from}
 use Rattle.ee_flash.specs.Size.{Size}
 use Rattle.ee_pages.specs.Nearest.{with_each_named}
 use Rattle.ee_pages.specs.Sets.{set_of, slots_of}
@@ -52,10 +52,12 @@ runs-preserved g c =
           ≡ take BATCH (with_each_named c.args.above (take n slots) [])) next
           (run_gathers device c.args.side c.args.page here (g.met.F.Flash.formed c.args.flash.now)
           c.requires.page_in_range (ap (λ n. n + c.args.page) c.first_page.ensures)
-          BATCH c.args.above from count c.run_from-run.result.now c.runs.nearest.named
-          c.note_all-span.new.nearest.named
-          (run.numbers ∙ ap (λ n. run_of device here n count) at) (omega (arith, ends, at))
-          so_far.named c.note_all-span.ensures.noted);
+          BATCH c.args.above from count c.runs.nearest.named c.note_all-span.new.nearest.named
+          (omega (arith, ends, at)) so_far.named
+          (c.note_all-span.ensures.noted (words_from device here (4 + from) count)
+          (subst
+          (λ n. AreReadings (g.F.Flash.reads c.args.flash.now) (words_from device here n count)
+          c.run_from-run.result.now) at run.readings)));
       from = omega (arith, so_far.from);
       within = ends;
       places = c.note_all-span.ensures.places;

@@ -1,44 +1,42 @@
-use Rattle.std.proofs.Common.{◌<◌, length, map, take, get_or, sym, subst}
-use Rattle.std.proofs.lemmas.List.{get_or-map, length-map, take_all}
-use Rattle.ee_flash.specs.declared.word.Word.TheVariants.{Erased, Held}
-use Rattle.ee_pages.specs.Nearest.{IsRising, with_each_named}
+use Rattle.std.proofs.Common.{◌<◌, List, ap, arith, length, get_or, refl, sym, take, ◌∙◌}
+use Rattle.std.proofs.lemmas.List.{take_all}
+use Rattle.ee_flash.specs.declared.word.Word.{Word}
+use Rattle.ee_pages.specs.Nearest.{with_each_named}
+use Rattle.ee_flash.specs.declared.word.Word.TheVariants.{Erased}
 use Rattle.ee_pages.specs.declared.batch_items.TheConstants.{BATCH}
-use Rattle.ee_pages.proofs.Nearest.{few_taken, one_word, rising-gathered, rising-take}
+use Rattle.ee_pages.proofs.Nearest.{one_word}
 use Rattle.ee_pages.proofs.batch.note_all.Goals as goal
 
-pub loop-number-init : goal.loop-number-init
-loop-number-init c = record {
-  named = sym (take_all BATCH c.args.nearest.now.named c.requires.few);
+pub loop-reading-init : goal.loop-reading-init
+loop-reading-init g c = record {
+  named = λ words are. sym (take_all BATCH c.args.nearest.now.named c.requires.few);
+  rising = c.requires.rising;
+  few = c.requires.few;
   places = c.requires.places;
 }
 
-pub note_within-span-requires-clause-few : goal.note_within-span-requires-clause-few
-note_within-span-requires-clause-few c =
-    few_taken BATCH
-    (with_each_named c.args.above
-    (take c.loop-number.number-index (map Held c.args.numbers.now))
-    c.args.nearest.now.named) c.loop-number.nearest.named c.loop-number.invariant.named
-
-pub note_within-span-requires-clause-rising : goal.note_within-span-requires-clause-rising
-note_within-span-requires-clause-rising c =
-    let start = c.args.nearest.now.named in
-    let words = take c.loop-number.number-index (map Held c.args.numbers.now) in
-    subst (IsRising c.args.above) (sym c.loop-number.invariant.named)
-    (rising-take BATCH c.args.above (with_each_named c.args.above words start)
-    (rising-gathered c.args.above words start c.requires.rising))
-
-pub loop-number-preserved : goal.loop-number-preserved
-loop-number-preserved c =
-    let numbers = c.args.numbers.now in
-    let place = c.loop-number.number-index in
-    let inside : place < length numbers = c.loop-number-test.true in
+pub loop-reading-preserved : goal.loop-reading-preserved
+loop-reading-preserved g c =
+    let place = c.loop-reading.reading-index in
+    let inside : place < length c.args.readings.now = c.loop-reading-test.true in
+    let noted = c.note_within-span.ensures in
     record {
-      named =
-          one_word BATCH c.args.above (map Held numbers) place (Held (get_or numbers place 0))
-          c.args.nearest.now.named c.loop-number.nearest.named
-          c.note_within-span.new.nearest.named
-          (rw (length-map numbers Held) inside)
-          (sym (get_or-map Held numbers place 0 Erased inside)) c.loop-number.invariant.named
-          c.note_within-span.ensures.noted;
-      places = c.note_within-span.ensures.places;
+      named = λ words are.
+          let below : place < length words = omega (arith, inside, are.as_many) in
+          one_word BATCH c.args.above words place (get_or words place Erased)
+          c.args.nearest.now.named c.loop-reading.nearest.named
+          c.note_within-span.new.nearest.named below refl (c.loop-reading.invariant.named words are)
+          (noted.noted (get_or words place Erased) (are.each place below));
+      rising = noted.rising;
+      few = noted.few;
+      places = noted.places;
     }
+
+pub returns-clause-noted : goal.returns-clause-noted
+returns-clause-noted g c = λ words are.
+    c.loop-reading.invariant.named words are
+    ∙ ap
+    (λ (words : List Word).
+    take BATCH (with_each_named c.args.above words c.args.nearest.now.named))
+    (take_all c.loop-reading.reading-index words
+    (omega (arith, c.loop-reading-test.false, are.as_many)))

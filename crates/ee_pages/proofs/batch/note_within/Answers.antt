@@ -1,46 +1,92 @@
-use Rattle.std.proofs.Common.{inl, inr, ◌≤◌, ◌<◌, ◌+◌, ◌⊎◌, ◌/◌, ◌%◌, ◌^◌, sym, subst}
-use Rattle.std.proofs.lemmas.Bool.{cases_lt}
-use Rattle.ee_pages.specs.Nearest.{IsRising, named_by, with_named}
+use Rattle.std.proofs.Common.{◌≡◌, ◌≤◌, ◌<◌, ◌+◌, ◌⊎◌, ◌%◌, ◌^◌, ◌∙◌, sym, subst}
 use Rattle.ee_pages.specs.declared.batch_items.TheConstants.{BATCH}
-use Rattle.ee_pages.proofs.Nearest.{rising-noted, rising-take}
-use Rattle.ee_pages.proofs.Noting.{kept_away, noted_either}
+use Rattle.ee_pages.proofs.Noting.{still_few, still_rising, word_kept_away, word_noted, word_of_other}
 use Rattle.ee_pages.proofs.batch.note_within.Goals as goal
 
 pub returns-then-not-is_within-clause-noted : goal.returns-then-not-is_within-clause-noted
-returns-then-not-is_within-clause-noted c =
-    kept_away BATCH c.args.above c.args.span c.args.number c.args.nearest.now.named
-    c.requires.rising c.requires.few c.requires.places
-    (subst (λ n. (n ≤ c.args.above) ⊎ (c.args.above + c.args.span < n)) c.address_in.ensures
-    (c.is_within.ensures.no c.if-not-is_within.true))
+returns-then-not-is_within-clause-noted g c = λ word reads.
+    word_kept_away BATCH c.args.above c.args.span c.args.nearest.now.named c.requires.rising
+    c.requires.few c.requires.places word c.args.reading
+    (g.met.F.Flash.shown c.args.flash.now word c.args.reading reads)
+    (subst (λ n. (n ≤ c.args.above) ⊎ (c.args.above + c.args.span < n))
+    c.address_in-address.ensures (c.is_within.ensures.no c.if-not-is_within.true))
+
+pub returns-then-address_in-address-clause-noted :
+    goal.returns-then-address_in-address-clause-noted
+returns-then-address_in-address-clause-noted g c = λ word reads.
+    word_of_other BATCH c.args.above c.args.span c.args.nearest.now.named c.requires.rising
+    c.requires.few c.requires.places word c.args.reading c.number-number.result
+    (g.met.F.Flash.shown c.args.flash.now word c.args.reading reads)
+    (c.number-number.ensures word reads)
+    (λ same. c.if-address_in-address.true
+    (c.address_in.ensures ∙ same ∙ sym c.address_in-address.ensures))
 
 pub span_of-requires-clause-rising : goal.span_of-requires-clause-rising
-span_of-requires-clause-rising c =
+span_of-requires-clause-rising g c =
     let within = c.is_within.ensures.yes c.if-not-is_within.false in
-    let list = c.args.nearest.now.named in
-    elim (cases_lt (c.args.number / 2 ^ 16 % 2 ^ 16) 2) [
-      | inl kind ↦
-          subst (IsRising c.args.above) (sym (c.note_any.ensures.noted kind))
-          (rising-take BATCH c.args.above (with_named (named_by c.args.number) list)
-          (rising-noted c.args.above (named_by c.args.number) list c.requires.rising
-          (subst (λ n. c.args.above < n) c.address_in.ensures within.0)))
-      | inr none ↦ subst (IsRising c.args.above) (sym (c.note_any.ensures.unsaid none))
-          c.requires.rising
-    ]
+    let same : c.number-number.result % 2 ^ 16 ≡ c.args.reading % 2 ^ 16 =
+    sym c.address_in.ensures ∙ c.if-address_in-address.false ∙ c.address_in-address.ensures in
+    let high : c.args.above < c.number-number.result % 2 ^ 16 =
+    subst (λ n. c.args.above < n) (c.address_in-address.ensures ∙ sym same) within.0 in
+    still_rising BATCH c.args.above c.number-number.result c.args.nearest.now.named
+    c.note_any.new.self.named c.requires.rising c.requires.few high c.note_any.ensures.noted
+    c.note_any.ensures.unsaid
 
 pub returns-then-note_any-clause-noted : goal.returns-then-note_any-clause-noted
-returns-then-note_any-clause-noted c =
+returns-then-note_any-clause-noted g c = λ word reads.
     let within = c.is_within.ensures.yes c.if-not-is_within.false in
-    noted_either BATCH c.args.above c.args.span c.args.number c.args.nearest.now.named
-    c.requires.rising c.requires.few c.requires.places c.note_any.new.self.named
-    (subst (λ n. c.args.above < n) c.address_in.ensures within.0)
-    (subst (λ n. n ≤ c.args.above + c.args.span) c.address_in.ensures within.1)
-    c.note_any.ensures.noted c.note_any.ensures.unsaid
+    let same : c.number-number.result % 2 ^ 16 ≡ c.args.reading % 2 ^ 16 =
+    sym c.address_in.ensures ∙ c.if-address_in-address.false ∙ c.address_in-address.ensures in
+    let high : c.args.above < c.number-number.result % 2 ^ 16 =
+    subst (λ n. c.args.above < n) (c.address_in-address.ensures ∙ sym same) within.0 in
+    let low : c.number-number.result % 2 ^ 16 ≤ c.args.above + c.args.span =
+    subst (λ n. n ≤ c.args.above + c.args.span) (c.address_in-address.ensures ∙ sym same) within.1 in
+    word_noted BATCH c.args.above c.args.span c.args.nearest.now.named c.requires.rising
+    c.requires.few c.requires.places word c.number-number.result c.note_any.new.self.named
+    (c.number-number.ensures word reads) high low c.note_any.ensures.noted c.note_any.ensures.unsaid
+
+pub returns-then-note_any-clause-rising : goal.returns-then-note_any-clause-rising
+returns-then-note_any-clause-rising g c =
+    let within = c.is_within.ensures.yes c.if-not-is_within.false in
+    let same : c.number-number.result % 2 ^ 16 ≡ c.args.reading % 2 ^ 16 =
+    sym c.address_in.ensures ∙ c.if-address_in-address.false ∙ c.address_in-address.ensures in
+    let high : c.args.above < c.number-number.result % 2 ^ 16 =
+    subst (λ n. c.args.above < n) (c.address_in-address.ensures ∙ sym same) within.0 in
+    still_rising BATCH c.args.above c.number-number.result c.args.nearest.now.named
+    c.note_any.new.self.named c.requires.rising c.requires.few high c.note_any.ensures.noted
+    c.note_any.ensures.unsaid
+
+pub returns-then-note_any-clause-few : goal.returns-then-note_any-clause-few
+returns-then-note_any-clause-few g c =
+    let within = c.is_within.ensures.yes c.if-not-is_within.false in
+    let same : c.number-number.result % 2 ^ 16 ≡ c.args.reading % 2 ^ 16 =
+    sym c.address_in.ensures ∙ c.if-address_in-address.false ∙ c.address_in-address.ensures in
+    let high : c.args.above < c.number-number.result % 2 ^ 16 =
+    subst (λ n. c.args.above < n) (c.address_in-address.ensures ∙ sym same) within.0 in
+    still_few BATCH c.args.above c.number-number.result c.args.nearest.now.named
+    c.note_any.new.self.named c.requires.rising c.requires.few high c.note_any.ensures.noted
+    c.note_any.ensures.unsaid
 
 pub returns-else-note_any-clause-noted : goal.returns-else-note_any-clause-noted
-returns-else-note_any-clause-noted c =
+returns-else-note_any-clause-noted g c = λ word reads.
     let within = c.is_within.ensures.yes c.if-not-is_within.false in
-    noted_either BATCH c.args.above c.args.span c.args.number c.args.nearest.now.named
-    c.requires.rising c.requires.few c.requires.places c.note_any.new.self.named
-    (subst (λ n. c.args.above < n) c.address_in.ensures within.0)
-    (subst (λ n. n ≤ c.args.above + c.args.span) c.address_in.ensures within.1)
-    c.note_any.ensures.noted c.note_any.ensures.unsaid
+    let same : c.number-number.result % 2 ^ 16 ≡ c.args.reading % 2 ^ 16 =
+    sym c.address_in.ensures ∙ c.if-address_in-address.false ∙ c.address_in-address.ensures in
+    let high : c.args.above < c.number-number.result % 2 ^ 16 =
+    subst (λ n. c.args.above < n) (c.address_in-address.ensures ∙ sym same) within.0 in
+    let low : c.number-number.result % 2 ^ 16 ≤ c.args.above + c.args.span =
+    subst (λ n. n ≤ c.args.above + c.args.span) (c.address_in-address.ensures ∙ sym same) within.1 in
+    word_noted BATCH c.args.above c.args.span c.args.nearest.now.named c.requires.rising
+    c.requires.few c.requires.places word c.number-number.result c.note_any.new.self.named
+    (c.number-number.ensures word reads) high low c.note_any.ensures.noted c.note_any.ensures.unsaid
+
+pub returns-else-note_any-clause-rising : goal.returns-else-note_any-clause-rising
+returns-else-note_any-clause-rising g c =
+    let within = c.is_within.ensures.yes c.if-not-is_within.false in
+    let same : c.number-number.result % 2 ^ 16 ≡ c.args.reading % 2 ^ 16 =
+    sym c.address_in.ensures ∙ c.if-address_in-address.false ∙ c.address_in-address.ensures in
+    let high : c.args.above < c.number-number.result % 2 ^ 16 =
+    subst (λ n. c.args.above < n) (c.address_in-address.ensures ∙ sym same) within.0 in
+    still_rising BATCH c.args.above c.number-number.result c.args.nearest.now.named
+    c.note_any.new.self.named c.requires.rising c.requires.few high c.note_any.ensures.noted
+    c.note_any.ensures.unsaid

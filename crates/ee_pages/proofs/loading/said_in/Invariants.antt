@@ -1,13 +1,15 @@
-use Rattle.std.proofs.Common.{◌≡◌, ◌≤◌, None, drop, length, map}
-use Rattle.ee_flash.specs.declared.word.Word.TheVariants.{Held}
+use Rattle.std.proofs.Common.{◌≡◌, ◌≤◌, List, None, drop, length}
+use Rattle.ee_flash.specs.Runs.{AreReadings}
+use Rattle.ee_flash.specs.declared.word.Word.{Word}
 use Rattle.ee_pages.specs.Meaning.{latest_in}
 use Rattle.ee_pages.proofs.loading.said_in.Given as goal
 
 abbrev pub invariant-behind : goal.invariant-behind
-invariant-behind l = record {
-  within : l.left ≤ length l.numbers;
-  silent : latest_in (drop l.left (map Held l.numbers)) l.address ≡ None;
+invariant-behind g l = record {
+  within : l.left ≤ length l.readings;
+  silent : (words : List Word) → AreReadings (g.F.Flash.reads l.flash) words l.readings
+      → latest_in (drop l.left words) l.address ≡ None;
 }
 
 abbrev pub decreases-behind : goal.decreases-behind
-decreases-behind l = l.left
+decreases-behind g l = l.left

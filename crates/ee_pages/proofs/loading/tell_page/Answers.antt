@@ -1,5 +1,5 @@
 use Rattle.std.proofs.Common.{[], ◌≡◌, ◌+◌, ◌-◌, ◌*◌, ◌≤◌, ap, arith, drop, length, refl, subst, sym, take, ◌∙◌}
-use Rattle.ee_flash.specs.Runs.{run_of}
+use Rattle.ee_flash.specs.Runs.{AreReadings, words_from}
 use Rattle.ee_flash.specs.Size.{Size}
 use Rattle.ee_pages.specs.Loading.{told}
 use Rattle.ee_pages.specs.Sets.{set_of, slots_of}
@@ -36,9 +36,12 @@ runs-preserved g c =
           (λ n. c.tell_run.new.entries ≡ told (take n (drop before slots)) c.args.entries.now) next
           (run_told device c.args.side c.args.page here (g.met.F.Flash.formed c.args.flash.now)
           c.requires.page_in_range (ap (λ n. n + c.args.page) c.first_page.ensures) from count
-          c.run_from-run.result.now c.args.entries.now c.runs.entries c.tell_run.new.entries
-          (run.numbers ∙ ap (λ n. run_of device here n count) at) (omega (arith, ends, at))
-          so_far.so_far c.tell_run.ensures);
+          c.args.entries.now c.runs.entries c.tell_run.new.entries (omega (arith, ends, at))
+          so_far.so_far
+          (c.tell_run.ensures (words_from device here (4 + from) count)
+          (subst
+          (λ n. AreReadings (g.F.Flash.reads c.args.flash.now) (words_from device here n count)
+          c.run_from-run.result.now) at run.readings)));
       from = omega (arith, so_far.from);
       within = ends;
     }

@@ -4,8 +4,8 @@ use Rattle.ee_pages.proofs.read.ending_in.Given as goal
 
 abbrev pub invariant-behind : goal.invariant-behind
 invariant-behind l = record {
-  within : l.left ≤ length l.numbers;
-  behind : (k : ℕ) → l.left ≤ k → k < length l.numbers → get_or l.numbers k 0 % 2 ^ 16 ≢ l.address;
+  within : l.left ≤ length l.readings;
+  behind : (k : ℕ) → l.left ≤ k → k < length l.readings → get_or l.readings k 0 % 2 ^ 16 ≢ l.address;
 }
 
 abbrev pub decreases-behind : goal.decreases-behind

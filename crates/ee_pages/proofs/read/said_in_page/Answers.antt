@@ -4,7 +4,8 @@ use Rattle.ee_flash.specs.declared.word.Word.TheVariants.{Erased}
 use Rattle.ee_pages.specs.Meaning.{latest_in, says}
 use Rattle.ee_pages.specs.Sets.{set_of, slots_of}
 use Rattle.ee_pages.proofs.LastSaid.{newest, one_lower}
-use Rattle.ee_pages.proofs.RunSlots.{run_silent, said_of, slot_says, whole_run}
+use Rattle.ee_pages.proofs.Readings.{said_of}
+use Rattle.ee_pages.proofs.RunSlots.{run_silent, slot_reads, whole_run}
 use Rattle.ee_pages.proofs.Slots.{row_within}
 use Rattle.ee_pages.proofs.read.said_in_page.Goals as goal
 
@@ -17,7 +18,8 @@ returns-in-Some g c =
     let row = take c.args.used (drop before slots) in
     let formed = g.met.F.Flash.formed c.args.flash.now in
     let at = ap (λ n. n + c.args.page) c.first_page.ensures in
-    let numbers = c.run-run.result.now in
+    let reads = g.F.Flash.reads c.args.flash.now in
+    let readings = c.run-run.result.now in
     let ends = c.ending_in-ends.result in
     let found = c.ending_in-ends.ensures in
     let count = c.min-count.result in
@@ -27,28 +29,31 @@ returns-in-Some g c =
     length-take-le count c.runs.room
     (omega (arith, c.min-count.ensures, c.min-count.array_long)) in
     let run =
-    whole_run device c.args.side c.args.page here formed c.requires.page_in_range at from count
-    (length (take count c.runs.room)) numbers
+    whole_run reads device c.args.side c.args.page here formed c.requires.page_in_range at from count
+    (length (take count c.runs.room)) readings
     (omega (arith, few, c.runs.invariant.within, c.requires.used_in_range)) all
     c.run-run.ensures in
-    let end : from + length numbers ≡ c.runs.left = omega (arith, few, run.0) in
-    let low : from + length numbers ≤ c.args.used = omega (arith, end, c.runs.invariant.within) in
+    let end : from + length readings ≡ c.runs.left = omega (arith, few, run.0) in
+    let low : from + length readings ≤ c.args.used = omega (arith, end, c.runs.invariant.within) in
     let silent =
-    run_silent device c.args.side c.args.page here formed c.requires.page_in_range at from ends
-    c.args.used c.args.address numbers low c.requires.used_in_range run.1
+    run_silent reads device c.args.side c.args.page here formed c.requires.page_in_range at
+    (g.met.F.Flash.shown c.args.flash.now) from ends c.args.used c.args.address readings low c.requires.used_in_range run.1
     found.within found.behind
     (subst (λ n. latest_in (drop n row) c.args.address ≡ None) (sym end)
     c.runs.invariant.silent) in
-    let place : ends - 1 < length numbers = omega (arith, c.if-ends-gt0.true, found.within) in
+    let place : ends - 1 < length readings = omega (arith, c.if-ends-gt0.true, found.within) in
     let last : from + ends - 1 ≡ from + (ends - 1) = omega (arith, c.if-ends-gt0.true) in
     let within =
     row_within c.args.side device c.args.page c.args.used formed c.requires.page_in_range
     c.requires.used_in_range in
+    let word = get_or slots (before + (from + (ends - 1))) Erased in
+    let reads_it =
+    slot_reads reads device c.args.side c.args.page here formed c.requires.page_in_range at from
+    (ends - 1) readings (omega (arith, low, c.requires.used_in_range)) run.1 place in
     let says_it = ap (λ n. says (get_or slots (before + n) Erased) c.args.address) last
-    ∙ slot_says device c.args.side c.args.page here formed c.requires.page_in_range at from
-    c.args.address (ends - 1) numbers (omega (arith, low, c.requires.used_in_range)) run.1 place
-    ∙ said_of (get_or numbers (ends - 1) 0) c.args.address c.said.result
-    (found.proper c.if-ends-gt0.true) (found.ends c.if-ends-gt0.true) c.said.ensures in
+    ∙ said_of word (get_or readings (ends - 1) 0) c.args.address c.said_by.result
+    (found.proper c.if-ends-gt0.true) (found.ends c.if-ends-gt0.true)
+    (c.said_by.ensures word reads_it) in
     sym
     (newest before c.args.used slots c.args.address within (from + ends) c.in-Some.said
     (omega (arith, c.if-ends-gt0.true)) (omega (arith, low, found.within)) silent
@@ -63,7 +68,8 @@ runs-preserved-then-ends-gt0 g c =
     let row = take c.args.used (drop before slots) in
     let formed = g.met.F.Flash.formed c.args.flash.now in
     let at = ap (λ n. n + c.args.page) c.first_page.ensures in
-    let numbers = c.run-run.result.now in
+    let reads = g.F.Flash.reads c.args.flash.now in
+    let readings = c.run-run.result.now in
     let ends = c.ending_in-ends.result in
     let found = c.ending_in-ends.ensures in
     let count = c.min-count.result in
@@ -73,28 +79,31 @@ runs-preserved-then-ends-gt0 g c =
     length-take-le count c.runs.room
     (omega (arith, c.min-count.ensures, c.min-count.array_long)) in
     let run =
-    whole_run device c.args.side c.args.page here formed c.requires.page_in_range at from count
-    (length (take count c.runs.room)) numbers
+    whole_run reads device c.args.side c.args.page here formed c.requires.page_in_range at from count
+    (length (take count c.runs.room)) readings
     (omega (arith, few, c.runs.invariant.within, c.requires.used_in_range)) all
     c.run-run.ensures in
-    let end : from + length numbers ≡ c.runs.left = omega (arith, few, run.0) in
-    let low : from + length numbers ≤ c.args.used = omega (arith, end, c.runs.invariant.within) in
+    let end : from + length readings ≡ c.runs.left = omega (arith, few, run.0) in
+    let low : from + length readings ≤ c.args.used = omega (arith, end, c.runs.invariant.within) in
     let silent =
-    run_silent device c.args.side c.args.page here formed c.requires.page_in_range at from ends
-    c.args.used c.args.address numbers low c.requires.used_in_range run.1
+    run_silent reads device c.args.side c.args.page here formed c.requires.page_in_range at
+    (g.met.F.Flash.shown c.args.flash.now) from ends c.args.used c.args.address readings low c.requires.used_in_range run.1
     found.within found.behind
     (subst (λ n. latest_in (drop n row) c.args.address ≡ None) (sym end)
     c.runs.invariant.silent) in
-    let place : ends - 1 < length numbers = omega (arith, c.if-ends-gt0.true, found.within) in
+    let place : ends - 1 < length readings = omega (arith, c.if-ends-gt0.true, found.within) in
     let last : from + ends - 1 ≡ from + (ends - 1) = omega (arith, c.if-ends-gt0.true) in
     let within =
     row_within c.args.side device c.args.page c.args.used formed c.requires.page_in_range
     c.requires.used_in_range in
+    let word = get_or slots (before + (from + (ends - 1))) Erased in
+    let reads_it =
+    slot_reads reads device c.args.side c.args.page here formed c.requires.page_in_range at from
+    (ends - 1) readings (omega (arith, low, c.requires.used_in_range)) run.1 place in
     let says_it = ap (λ n. says (get_or slots (before + n) Erased) c.args.address) last
-    ∙ slot_says device c.args.side c.args.page here formed c.requires.page_in_range at from
-    c.args.address (ends - 1) numbers (omega (arith, low, c.requires.used_in_range)) run.1 place
-    ∙ said_of (get_or numbers (ends - 1) 0) c.args.address c.said.result
-    (found.proper c.if-ends-gt0.true) (found.ends c.if-ends-gt0.true) c.said.ensures in
+    ∙ said_of word (get_or readings (ends - 1) 0) c.args.address c.said_by.result
+    (found.proper c.if-ends-gt0.true) (found.ends c.if-ends-gt0.true)
+    (c.said_by.ensures word reads_it) in
     record {
       within = omega (arith, low, place);
       silent = subst (λ n. latest_in (drop n row) c.args.address ≡ None) last
@@ -112,7 +121,8 @@ runs-preserved g c =
     let row = take c.args.used (drop before slots) in
     let formed = g.met.F.Flash.formed c.args.flash.now in
     let at = ap (λ n. n + c.args.page) c.first_page.ensures in
-    let numbers = c.run-run.result.now in
+    let reads = g.F.Flash.reads c.args.flash.now in
+    let readings = c.run-run.result.now in
     let ends = c.ending_in-ends.result in
     let found = c.ending_in-ends.ensures in
     let count = c.min-count.result in
@@ -122,15 +132,15 @@ runs-preserved g c =
     length-take-le count c.runs.room
     (omega (arith, c.min-count.ensures, c.min-count.array_long)) in
     let run =
-    whole_run device c.args.side c.args.page here formed c.requires.page_in_range at from count
-    (length (take count c.runs.room)) numbers
+    whole_run reads device c.args.side c.args.page here formed c.requires.page_in_range at from count
+    (length (take count c.runs.room)) readings
     (omega (arith, few, c.runs.invariant.within, c.requires.used_in_range)) all
     c.run-run.ensures in
-    let end : from + length numbers ≡ c.runs.left = omega (arith, few, run.0) in
-    let low : from + length numbers ≤ c.args.used = omega (arith, end, c.runs.invariant.within) in
+    let end : from + length readings ≡ c.runs.left = omega (arith, few, run.0) in
+    let low : from + length readings ≤ c.args.used = omega (arith, end, c.runs.invariant.within) in
     let silent =
-    run_silent device c.args.side c.args.page here formed c.requires.page_in_range at from ends
-    c.args.used c.args.address numbers low c.requires.used_in_range run.1
+    run_silent reads device c.args.side c.args.page here formed c.requires.page_in_range at
+    (g.met.F.Flash.shown c.args.flash.now) from ends c.args.used c.args.address readings low c.requires.used_in_range run.1
     found.within found.behind
     (subst (λ n. latest_in (drop n row) c.args.address ≡ None) (sym end)
     c.runs.invariant.silent) in

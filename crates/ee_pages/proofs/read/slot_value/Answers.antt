@@ -1,5 +1,5 @@
 use Rattle.std.proofs.Common.{◌∙◌, sym, arith}
-use Rattle.ee_pages.proofs.RunSlots.{value_by_number}
+use Rattle.ee_pages.proofs.Readings.{value_by_number}
 use Rattle.ee_pages.proofs.read.slot_value.Goals as goal
 
 pub returns : goal.returns

@@ -1,7 +1,6 @@
-use Rattle.std.proofs.Common.{◌≡◌, ◌+◌, ◌-◌, ◌*◌, ◌≤◌, ap, arith, drop, length, map, subst, sym, take, ◌∙◌}
+use Rattle.std.proofs.Common.{◌≡◌, ◌+◌, ◌-◌, ◌*◌, ◌≤◌, ap, arith, drop, length, subst, sym, take, ◌∙◌}
 use Rattle.std.proofs.lemmas.List.{length-take-le}
-use Rattle.ee_flash.specs.Runs.{run_of}
-use Rattle.ee_flash.specs.declared.word.Word.TheVariants.{Held}
+use Rattle.ee_flash.specs.Runs.{AreReadings, words_from}
 use Rattle.ee_pages.specs.Meaning.{later_of, latest_in}
 use Rattle.ee_pages.specs.Sets.{set_of, slots_of}
 use Rattle.ee_pages.specs.Spans.{TellsBefore}
@@ -37,7 +36,8 @@ runs-preserved g c =
     let row = take c.args.used (drop before slots) in
     let formed = g.met.F.Flash.formed c.args.flash.now in
     let at = ap (λ n. n + c.args.page) c.first_page.ensures in
-    let numbers = c.run-run.result.now in
+    let reads = g.F.Flash.reads c.args.flash.now in
+    let readings = c.run-run.result.now in
     let count = c.min-count.result in
     let from = c.runs.left - count in
     let few : count ≤ c.runs.left = omega (arith, c.min-count.ensures) in
@@ -45,24 +45,25 @@ runs-preserved g c =
     length-take-le count c.runs.room
     (omega (arith, c.min-count.ensures, c.min-count.array_long)) in
     let run =
-    whole_run device c.args.side c.args.page here formed c.requires.page_in_range at from count
-    (length (take count c.runs.room)) numbers
+    whole_run reads device c.args.side c.args.page here formed c.requires.page_in_range at from count
+    (length (take count c.runs.room)) readings
     (omega (arith, few, c.runs.invariant.within, c.requires.used_in_range)) all
     c.run-run.ensures in
     let end : from + count ≡ c.runs.left = omega (arith, few) in
+    let words = words_from device here (4 + from) count in
+    let are = subst (λ n. AreReadings reads (words_from device here (4 + from) n) readings) run.0 run.1 in
     record {
       within = omega (arith, c.runs.invariant.within);
       tells =
-          tells_both (latest_in (map Held numbers)) (latest_in (drop c.runs.left row))
+          tells_both (latest_in words) (latest_in (drop c.runs.left row))
           (latest_in (drop from row)) c.args.span.now c.runs.span c.tell_run.new.span
           (λ address. subst
           (λ n. latest_in (drop from row) address
-          ≡ later_of (latest_in (map Held numbers) address) (latest_in (drop n row) address)) end
+          ≡ later_of (latest_in words address) (latest_in (drop n row) address)) end
           (run_before device c.args.side c.args.page here formed c.requires.page_in_range at from
-          count c.args.used numbers address
-          (run.1 ∙ ap (run_of device here (4 + from)) run.0)
+          count c.args.used address
           (omega (arith, end, c.runs.invariant.within)) c.requires.used_in_range))
-          c.runs.invariant.tells c.tell_run.ensures;
+          c.runs.invariant.tells (c.tell_run.ensures words are);
       said = c.said_from-said_to.ensures.said;
       few = c.said_from-said_to.ensures.within;
     }

@@ -6,10 +6,10 @@ use Rattle.ee_pages.proofs.RunWords.{erased_end, erased_on}
 use Rattle.ee_pages.proofs.state.blank_to.Goals as goal
 
 -- where not all are, the first that isn't is one of them
-one_of : (numbers : List ℕ) (erased : ℕ)
-    → ¬ ((k : ℕ) → k < length numbers → get_or numbers k 0 ≡ all_ones)
-    → ((k : ℕ) → k < erased → get_or numbers k 0 ≡ all_ones) → erased < length numbers
-one_of numbers erased some before = elim (cases_lt erased (length numbers)) [
+one_of : (readings : List ℕ) (erased : ℕ)
+    → ¬ ((k : ℕ) → k < length readings → get_or readings k 0 ≡ all_ones)
+    → ((k : ℕ) → k < erased → get_or readings k 0 ≡ all_ones) → erased < length readings
+one_of readings erased some before = elim (cases_lt erased (length readings)) [
   | inl less ↦ less
   | inr more ↦ absurd (some (λ k h. before k (omega (arith, h, more))))
 ]
@@ -22,9 +22,9 @@ returns-then-not-is_erased-clause-before g c =
     let words : c.words-words.result ≡ device.size.words =
     c.words-words.ensures.value ∙ ap (λ (size : Size). size.words) c.shape.ensures in
     let next = c.runs.invariant.next (omega (arith, words, c.runs-test.true)) in
-    erased_on device c.args.page c.runs.at c.run_from-run.result.now
+    erased_on (g.F.Flash.reads c.args.flash.now) (g.met.F.Flash.shown c.args.flash.now) device c.args.page c.runs.at c.run_from-run.result.now
     (g.met.F.Flash.formed c.args.flash.now) c.requires.page_in_range
-    (omega (arith, run.within, next.1)) run.numbers
+    (omega (arith, run.within, next.1)) run.readings
     c.args.from c.erased_in.result c.runs.invariant.before erased.within erased.before
 
 pub returns-then-not-is_erased-clause-end : goal.returns-then-not-is_erased-clause-end
@@ -38,9 +38,9 @@ returns-then-not-is_erased-clause-end g c = λ h.
     let inside =
     one_of c.run_from-run.result.now c.erased_in.result
     (c.is_erased.ensures.no c.if-not-is_erased.true) erased.before in
-    erased_end device c.args.page c.runs.at c.run_from-run.result.now
+    erased_end (g.F.Flash.reads c.args.flash.now) (g.met.F.Flash.shown c.args.flash.now) device c.args.page c.runs.at c.run_from-run.result.now
     (g.met.F.Flash.formed c.args.flash.now) c.requires.page_in_range
-    (omega (arith, run.within, next.1)) run.numbers
+    (omega (arith, run.within, next.1)) run.readings
     c.erased_in.result inside (erased.end inside)
 
 pub runs-preserved : goal.runs-preserved
@@ -55,9 +55,9 @@ runs-preserved g c =
       within = omega (arith, run.within, next.1);
       next = λ h. (omega (arith, words, h), omega (arith, words));
       before =
-          erased_on device c.args.page c.runs.at c.run_from-run.result.now
+          erased_on (g.F.Flash.reads c.args.flash.now) (g.met.F.Flash.shown c.args.flash.now) device c.args.page c.runs.at c.run_from-run.result.now
           (g.met.F.Flash.formed c.args.flash.now) c.requires.page_in_range
-          (omega (arith, run.within, next.1)) run.numbers
+          (omega (arith, run.within, next.1)) run.readings
           c.args.from (length c.run_from-run.result.now) c.runs.invariant.before (omega arith)
           (c.is_erased.ensures.yes c.if-not-is_erased.false);
     }

@@ -34,12 +34,12 @@ pub trait Flash {
     /// `u64::MAX`, and a slot's number as one that ends in the same 16 bits.
     fn run<'a>(&'a self, page: usize, at: usize, room: &'a mut [u64]) -> &'a [u64];
 
-    /// The number of the word of a reading: `u64::MAX` of an erased word, 0 of a torn one. `word`
+    /// The number of the word that reads so: `u64::MAX` of an erased word, 0 of a torn one. `word`
     /// tells a torn word from one that holds 0.
     fn number(&self, reading: u64) -> u64;
 
-    /// What a reading says of a slot with no check: its number, or, where that ends in less than
-    /// 65535, one that a torn word may seem to hold.
+    /// What a reading says of a slot with no check: its number, which a torn word may seem to hold.
+    /// One that ends in 65535 may be that of any word.
     fn in_clear(&self, reading: u64) -> u64;
 
     /// Programs an erased word with a number below `u64::MAX`, one of those that a store writes.

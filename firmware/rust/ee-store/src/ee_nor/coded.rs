@@ -10,11 +10,11 @@
 //! every one of the word asked for, and with one bit turned, whichever it is and whatever the error
 //! correction did, it is that word or no coded word.
 //!
-//! `encode` makes a word, `decode` reads one (`specs/Coded/Code.antt`). The check is the bits 31 to
-//! 17, so a look for an address or a value needs no decoding. `Coded` is a device of words
-//! (`ee_flash`) on such a flash, one number a word. `EccNor` is the flash as a contract
-//! (`specs/Coded/EccNor.antt`): cells, and beside each number what it reads as.
-//! `specs/Coded/Coded.antt` says which word a reading is.
+//! `encode` makes a word, `decode` reads one (`specs/Coded/Code.antt`). `Coded` is a device of words
+//! (`ee_flash`) on such a flash, one number a word. The check is the bits 31 to 17, so a run gives
+//! the numbers as they read, in which a look finds an address, and `number` decodes the one that is
+//! found. `EccNor` is the flash as a contract (`specs/Coded/EccNor.antt`): cells, and beside each
+//! number what it reads as. `specs/Coded/Coded.antt` says which word a reading is.
 //!
 //! The mark has the shape of the device, and that of another is torn. So a flash that was written
 //! in another shape has no committed set, and `Coded::of` names that shape where the first page of
@@ -23,8 +23,7 @@
 //!
 //! **No program uses coded words yet**, and the firmware keeps words and pairs alone. Not here: a
 //! test whether cells hold what something else wrote (a reading doesn't tell, so `of` and `known`
-//! ask for it and `wipe` erases), numbers that stand in memory, and reading an address with no
-//! decoding. The code doesn't hold where two bits are corrected, where erases clear cells first, or
+//! ask for it and `wipe` erases), and numbers that stand in memory. The code doesn't hold where two bits are corrected, where erases clear cells first, or
 //! where cells fade from one to zero by themselves.
 //!
 //! # What is proved
@@ -35,7 +34,7 @@
 //! (`torn_is_told`); so it does after a cut erase on top (`erase_makes_no_number`). An erased word
 //! reads as none, with one bit turned too (`erased_is_none`). On a device of one shape the mark of
 //! another is torn (`other_mark_is_torn` in `laws`), and a slot's value, kind and address stand in
-//! its word as they are (`slots_stand_in_clear`).
+//! its word as they are (`slots_stand_in_clear`), by which readings show what `Flash` asks of them.
 //!
 //! `Coded` keeps the contract of `ee_flash::Flash`, to the letter, for numbers that a store writes.
 //! A word is held only where it is the coded word of its number. Where power may be cut `Coded`

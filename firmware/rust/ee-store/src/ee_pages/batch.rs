@@ -94,20 +94,17 @@ fn note_all<F: Flash>(
 }
 
 /// Notes what the word of a reading says, if it is of one of so many addresses above this one.
-fn note_within<F: Flash>(
-    flash: &F,
-    above: u16,
-    span: u32,
-    reading: u64,
-    nearest: &mut Batch,
-) -> u32 {
+fn note_within<F: Flash>(flash: &F, above: u16, span: u32, reading: u64, nearest: &mut Batch) -> u32 {
     // Asked first, since most words are of an address that has no place in a batch.
     let address = address_in(reading);
     if !is_within(address, above, span) {
         return span;
     }
     let number = flash.number(reading);
-    if address_in(number) == address && nearest.note_any(number) {
+    if address_in(number) != address {
+        return span;
+    }
+    if nearest.note_any(number) {
         span_of(nearest, above)
     } else {
         span

@@ -1,6 +1,6 @@
-use Rattle.std.proofs.Common.{ap, arith, sym, ◌∙◌, ℕ}
-use Rattle.ee_flash.proofs.Public.{same_run}
-use Rattle.ee_flash.specs.Runs.{run_of}
+use Rattle.std.proofs.Common.{ap, arith, length, sym, ◌∙◌}
+use Rattle.ee_flash.proofs.Public.{read_by_place}
+use Rattle.ee_flash.specs.Runs.{IsOwnReading}
 use Rattle.ee_flash.specs.Size.{page_count}
 use Rattle.ee_web.specs.Draft.{drafted_device}
 use Rattle.ee_web.specs.DraftLaws.{IsFormed-drafted}
@@ -16,7 +16,6 @@ returns g c =
     let formed =
     IsFormed-drafted start steps draft.wear.items draft.cuts draft.on draft.fresh draft.taken
     (draft.wear_length ∙ ap page_count (sym draft.same_size)) draft.wear_fits draft.cuts_fit in
-    same_run device c.args.page c.args.at c.loop-behind.room formed c.requires.page_in_range
-    (omega arith)
-    (λ k h. c.loop-behind.invariant k (omega arith))
-    ∙ ap (λ (count : ℕ). run_of device c.args.page c.args.at count) c.loop-behind.auto.room
+    read_by_place IsOwnReading device c.args.page c.args.at (length c.args.room.now)
+    c.loop-behind.room formed c.requires.page_in_range c.requires.places_in_range
+    c.loop-behind.auto.room (λ k h. c.loop-behind.invariant k (omega arith))
