@@ -11,31 +11,39 @@
 #include <stdint.h>
 
 /* By hand. A function that stands in the places where it is called, at every level of optimisation,
- * and one that stands in none of them, so that its stack is not theirs. C99 has no words for it. An
- * interrupt sees what stands before EE_IN_ORDER, and nothing of what stands behind it. */
+ * and one that stands in none of them, so that its stack is not theirs; one that changes nothing,
+ * so that a loop asks it once. C99 has no words for it. An interrupt sees what stands before
+ * EE_IN_ORDER, and nothing of what stands behind it. */
 #if defined(__GNUC__)
 #define EE_IN_PLACE static inline __attribute__((always_inline))
 #define EE_APART static __attribute__((noinline))
+#define EE_PURE static __attribute__((noinline, pure))
 #define EE_IN_ORDER() __asm__ volatile("" : : : "memory")
 #else
 #define EE_IN_PLACE static inline
 #define EE_APART static
+#define EE_PURE static
 #define EE_IN_ORDER() ((void)0)
 #endif
 
 /* By hand. Functions that only calls use which are left out have no use. */
-#if defined(__GNUC__) && (defined(EE_NO_PAIRS) || defined(EE_NO_LISTS) || defined(EE_NO_FORGET) || \
-        defined(EE_NO_RESCUE))
+#if defined(__GNUC__) && (defined(EE_NO_PAIRS) || defined(EE_NO_CODED) || defined(EE_NO_LISTS) || \
+        defined(EE_NO_FORGET) || defined(EE_NO_RESCUE))
 #pragma GCC diagnostic ignored "-Wunused-function"
 #endif
 
-/* By hand. What a flash may have, and whether it has numbers, two for each word. */
+/* By hand. Whether a flash has numbers, two for each word, and whether it has coded words. */
 #ifdef EE_NO_PAIRS
-#define EE_GREATEST_KIND EE_WORDS
 #define EE_IS_OF_PAIRS(flash) ((void)(flash), false)
-#else
-#define EE_GREATEST_KIND EE_PAIRS_CLEARING
+#elif defined(EE_NO_CODED)
 #define EE_IS_OF_PAIRS(flash) ((flash)->kind != EE_WORDS)
+#else
+#define EE_IS_OF_PAIRS(flash) ((flash)->kind - EE_PAIRS <= EE_PAIRS_CLEARING - EE_PAIRS)
+#endif
+#ifdef EE_NO_CODED
+#define EE_IS_CODED(flash) ((void)(flash), false)
+#else
+#define EE_IS_CODED(flash) ((flash)->kind == EE_CODED)
 #endif
 
 /* How many words a loop over a page asks its flash for at once. */
@@ -44,6 +52,16 @@
 /* What stands in the room for a run before that is read: any number. Its halves are alike, since
  * cores of 32 bits write such a number with less code. */
 #define UNREAD UINT64_C(0x100000001)
+
+/* Seven bits for each half weight: a row has a one that the next lacks, and two that each later
+ * one lacks. */
+static const uint8_t WEIGHT_ROWS[29] = {
+    0x7f, 0x7b, 0x5b, 0x4f, 0x6d, 0x75, 0x37, 0x3e, 0x1e, 0x5c, 0x78, 0x39, 0x2b, 0x63, 0x66, 0x46,
+    0x4a, 0x49, 0x0d, 0x2c, 0x34, 0x32, 0x13, 0x03, 0x21, 0x60, 0x50, 0x18, 0x08
+};
+
+/* Both halves of the mark, and the high half of all that stands in a header. */
+#define HEADER_HALF UINT64_C(0xAAAAAAAA)
 
 /* How many addresses a span has at the most. */
 #define SPAN 16u
@@ -337,9 +355,9 @@ enum {
     ClearFault_Cut = EE_DRIVER
 };
 
-/* By hand. The device that the store works on, of words or of numbers, and where the index stands
- * that it finds values by, NULL if it has none. */
-typedef struct ee_device Device, Numbers;
+/* By hand. The device that the store works on, of words, of numbers or of coded words, and where
+ * the index stands that it finds values by, NULL if it has none. */
+typedef struct ee_device Device, Numbers, EccNumbers;
 typedef struct ee_index *Lookup;
 
 /* What a store keeps in memory beside its device. */
@@ -412,6 +430,14 @@ typedef struct LowPair {
     uint32_t word;
 } LowPair;
 
+/* The shape of the store that a flash holds, where it is another than the device's. */
+typedef struct OtherShape {
+    /* The pages of each set, 1 to 64. */
+    uint32_t pages;
+    /* The words of a page, 5 to 512. */
+    uint32_t words;
+} OtherShape;
+
 typedef struct MaybeShape {
     bool some;
     Shape value;
@@ -426,6 +452,16 @@ typedef struct RoomOfU64 {
     uint64_t *items;
     uint32_t len;
 } RoomOfU64;
+
+typedef struct MaybeOtherShape {
+    bool some;
+    OtherShape value;
+} MaybeOtherShape;
+
+typedef struct MaybeU64 {
+    bool some;
+    uint64_t value;
+} MaybeU64;
 
 /* Whether a step, or a call of several, ended as it should, or was cut. */
 typedef enum Step {
@@ -557,6 +593,22 @@ static inline MaybeShape maybe_shape_some(Shape value) {
 
 static inline MaybeShape maybe_shape_none(void) {
     return (MaybeShape){ .some = false, .value = { .pages = 0u, .words = 0u } };
+}
+
+static inline MaybeOtherShape maybe_other_shape_some(OtherShape value) {
+    return (MaybeOtherShape){ .some = true, .value = value };
+}
+
+static inline MaybeOtherShape maybe_other_shape_none(void) {
+    return (MaybeOtherShape){ .some = false, .value = { .pages = 0u, .words = 0u } };
+}
+
+static inline MaybeU64 maybe_u64_some(uint64_t value) {
+    return (MaybeU64){ .some = true, .value = value };
+}
+
+static inline MaybeU64 maybe_u64_none(void) {
+    return (MaybeU64){ .some = false, .value = 0u };
 }
 
 static inline Word word_torn(void) {
@@ -770,12 +822,20 @@ static inline uint16_t u16_wrapping_sub(uint16_t a, uint16_t b) {
     return (uint16_t)((uint32_t)a - b);
 }
 
+/* By hand. How many ones a number has: of each two bits, each four, each eight, and all. */
+EE_IN_PLACE uint32_t u32_count_ones(uint32_t number) {
+    const uint32_t twos = number - ((number >> 1u) & UINT32_C(0x55555555));
+    const uint32_t fours = (twos & UINT32_C(0x33333333)) + ((twos >> 2u) & UINT32_C(0x33333333));
+    return ((fours + (fours >> 4u)) & UINT32_C(0x0f0f0f0f)) * UINT32_C(0x01010101) >> 24u;
+}
+
 /* By hand. The lesser of two numbers. */
 static inline uint32_t u32_least(uint32_t a, uint32_t b) {
     return a < b ? a : b;
 }
 
 /* The functions below, by their sources. */
+static uint64_t word_number(Word self);
 EE_IN_PLACE MaybeShape shape_new(uint32_t pages, uint32_t words);
 static uint32_t shape_slots(Shape self);
 EE_IN_PLACE MaybeAddress address_new(uint16_t number);
@@ -800,9 +860,9 @@ static uint64_t set_number(const Device *flash, Side side, uint32_t slot);
 static MaybeU32 committed(const Device *flash, Side side);
 EE_IN_PLACE bool state_is_blank(const Device *flash, uint32_t page);
 static uint32_t blank_to(const Device *flash, uint32_t page, uint32_t from);
-EE_APART bool is_erased(const uint64_t *numbers_items, uint32_t numbers_len);
-static uint32_t erased_in(const uint64_t *numbers_items, uint32_t numbers_len);
-static bool is_written(Word word);
+EE_APART bool is_erased(const uint64_t *readings_items, uint32_t readings_len);
+static uint32_t erased_in(const uint64_t *readings_items, uint32_t readings_len);
+static bool state_is_written(Word word);
 static bool is_torn(Word word);
 static bool is_slot(uint64_t number);
 static uint16_t address_in(uint64_t number);
@@ -823,7 +883,8 @@ static MaybeIndex foreign_in_header(const Device *flash, Side side, uint32_t gen
         uint32_t page);
 static uint32_t first_told(uint32_t page);
 EE_APART uint32_t used_to(const Device *flash, uint32_t page);
-static uint32_t slots_in(const uint64_t *numbers_items, uint32_t numbers_len);
+static uint32_t slots_in(const Device *flash, const uint64_t *readings_items,
+        uint32_t readings_len);
 static void batch_new(Batch *made);
 EE_IN_PLACE MaybeLive batch_get(const Batch *self, uint32_t place);
 static void batch_take_out(Batch *self);
@@ -845,13 +906,14 @@ static uint32_t keep(uint64_t *numbers_items, uint32_t numbers_len, uint32_t cou
 EE_APART void live_batch_new(LiveBatch *made);
 static void next_batch(const Device *flash, const Layout *layout, MaybeAddress after,
         LiveBatch *batch);
-static uint16_t number_of(MaybeAddress after);
+static uint16_t batch_number_of(MaybeAddress after);
 static void gather(const Device *flash, Side side, uint16_t above, Batch *nearest);
 static void gather_page(const Device *flash, Side side, uint32_t page, uint16_t above,
         Batch *nearest);
-EE_APART uint32_t note_all(uint16_t above, uint32_t span, const uint64_t *numbers_items,
-        uint32_t numbers_len, Batch *nearest);
-static uint32_t note_within(uint16_t above, uint32_t span, uint64_t number, Batch *nearest);
+EE_APART uint32_t note_all(const Device *flash, uint16_t above, uint32_t span,
+        const uint64_t *readings_items, uint32_t readings_len, Batch *nearest);
+static uint32_t note_within(const Device *flash, uint16_t above, uint32_t span, uint64_t reading,
+        Batch *nearest);
 static uint32_t span_of(const Batch *nearest, uint16_t above);
 static bool is_within(uint16_t address, uint16_t above, uint32_t span);
 #ifdef EE_INDEX
@@ -865,25 +927,28 @@ static uint32_t torn_slots(const Device *flash, const Layout *layout);
 static uint32_t torn_through(const Device *flash, Side side, uint32_t page, uint32_t before);
 static MaybeSaidValue said_in_page(const Device *flash, Side side, uint32_t page, uint32_t used,
         Address address);
-EE_APART uint32_t ending_in(const uint64_t *numbers_items, uint32_t numbers_len, Address address);
+EE_APART uint32_t ending_in(const uint64_t *readings_items, uint32_t readings_len, Address address);
+EE_IN_PLACE MaybeSaidValue said_by(const Device *flash, uint64_t reading);
 EE_IN_PLACE MaybeSaidValue said(uint64_t number);
 static void load(const Device *flash, const Layout *layout, Wanted *entries_items,
         uint32_t entries_len);
 static void clear_values(Wanted *entries_items, uint32_t entries_len);
 static void loading_tell_page(const Device *flash, Side side, uint32_t page, Wanted *entries_items,
         uint32_t entries_len);
-static void loading_tell_run(const uint64_t *numbers_items, uint32_t numbers_len,
-        Wanted *entries_items, uint32_t entries_len);
-static MaybeSaidValue said_in(const uint64_t *numbers_items, uint32_t numbers_len, Address address);
+static void loading_tell_run(const Device *flash, const uint64_t *readings_items,
+        uint32_t readings_len, Wanted *entries_items, uint32_t entries_len);
+static MaybeSaidValue said_in(const Device *flash, const uint64_t *readings_items,
+        uint32_t readings_len, Address address);
 static void span_new(Address first, uint32_t count, Span *made);
 static void span_of_one(Address address, MaybeU32 value, Span *made);
-static void span_note(Span *self, uint64_t number);
+static void span_note(Span *self, const Device *flash, uint64_t reading);
 static uint32_t span_said_from(const Span *self, uint32_t before);
 static void read_span(const Device *flash, const Layout *layout, Address first, uint32_t count,
         Span *made);
 static uint32_t span_tell_page(const Device *flash, Side side, uint32_t page, uint32_t used,
         Span *span, uint32_t before);
-static void span_tell_run(const uint64_t *numbers_items, uint32_t numbers_len, Span *span);
+static void span_tell_run(const Device *flash, const uint64_t *readings_items,
+        uint32_t readings_len, Span *span);
 static Step marking_mark(Device *flash, uint32_t page, Mark mark);
 static MaybeSide rescued_side(const Device *flash);
 static uint32_t named_generation(const Device *flash, Side side);
@@ -1094,7 +1159,7 @@ static Word pairs_word(const Numbers *self, uint32_t page, uint32_t at);
 static ListOfU64 pairs_run(const Numbers *self, uint32_t page, uint32_t at, uint64_t *room_items,
         uint32_t room_len);
 static Step pairs_program(Numbers *self, uint32_t page, uint32_t at, uint64_t value);
-static void fill_run(const Numbers *nor, uint32_t page, uint32_t at, uint64_t *room_items,
+static void nor_runs_fill_run(const Numbers *nor, uint32_t page, uint32_t at, uint64_t *room_items,
         uint32_t room_len);
 EE_APART void fill_from_window(const uint64_t *numbers_items, uint32_t numbers_len,
         uint64_t *room_items, uint32_t room_len);
@@ -1110,6 +1175,24 @@ static MaybeIndex low_in_window(const uint64_t *numbers_items, uint32_t numbers_
         uint32_t count);
 static MaybeIndex low_read(const Numbers *nor, uint32_t page, uint32_t from, uint32_t count);
 static bool is_low(uint64_t number, uint64_t check);
+static uint64_t encode(uint64_t payload);
+EE_IN_PLACE MaybeU64 decode(uint64_t word);
+static uint32_t low_half(uint32_t value, uint32_t low);
+static uint32_t parity_bits(uint32_t value, uint32_t low);
+static uint32_t weight_row_of(uint32_t half_weight);
+static uint64_t words_coded_number(Shape shape, uint64_t number);
+static Word word_of_reading(Shape shape, MaybeU64 reading);
+static uint64_t without_check(uint64_t number);
+static Word word_of_payload(Shape shape, uint64_t payload);
+EE_IN_PLACE uint64_t payload_of(Shape shape, uint64_t number);
+static uint64_t mark_payload(Shape shape);
+static uint64_t words_number_of(uint64_t payload);
+EE_IN_PLACE MaybeOtherShape other_shape(const EccNumbers *nor);
+EE_APART MaybeOtherShape other_named(const EccNumbers *nor, uint32_t page);
+EE_IN_PLACE MaybeShape shape_of_mark(uint64_t number);
+static uint64_t coded_number(const EccNumbers *self, uint64_t reading);
+static uint64_t coded_in_clear(const EccNumbers *self, uint64_t reading);
+static Step coded_program(EccNumbers *self, uint32_t page, uint32_t at, uint64_t value);
 
 /* ---- By hand: the device over the three functions of an `ee_flash`. It is on while the pointer to
  * its flash, which stands in the memory that the caller lends, isn't NULL. */
@@ -1168,13 +1251,52 @@ EE_IN_PLACE Step numbers_program(const Numbers *numbers, uint32_t page, uint32_t
     return step_ended(numbers, flash->program(flash->context, page, at, number));
 }
 
-/* What a word holds. One that reads as all ones is erased, and one that can't be read is torn. */
+/* The same of a flash of coded words. */
+EE_IN_PLACE Step ecc_numbers_program(const EccNumbers *numbers, uint32_t page, uint32_t at,
+        uint64_t number) {
+    return numbers_program(numbers, page, at, number);
+}
+
+/* One that can't be read is none, and so is 0, which is no coded word either. */
+EE_IN_PLACE MaybeU64 ecc_numbers_read(const EccNumbers *numbers, uint32_t page, uint32_t at) {
+    const uint64_t number = numbers_read(numbers, page, at);
+    return (MaybeU64){ .some = number != 0u, .value = number };
+}
+
+/* What a reading of a run says. Of words and of pairs it is the number of the word; of a device
+ * that is off it counts for nothing. */
+#ifdef EE_NO_CODED
+#define device_number(device, reading) ((void)(device), (reading))
+#define device_in_clear(device, reading) ((void)(device), (reading))
+#else
+EE_APART uint64_t device_number(const Device *device, uint64_t reading) {
+    const ee_flash *const flash = device->power->flash;
+    return flash != NULL && EE_IS_CODED(flash) ? coded_number(device, reading) : reading;
+}
+
+/* Which bits of a reading stand in clear: asked once for all of a run. */
+EE_PURE uint64_t clear_bits(const Device *device) {
+    const ee_flash *const flash = device->power->flash;
+    return flash != NULL && EE_IS_CODED(flash) ? coded_in_clear(device, UINT64_MAX) : UINT64_MAX;
+}
+
+EE_IN_PLACE uint64_t device_in_clear(const Device *device, uint64_t reading) {
+    return reading & clear_bits(device);
+}
+#endif
+
+/* What a word holds. One that reads as all ones is erased, and one that can't be read is torn. So
+ * is one of the number 0 where words are coded: no coded word has it. */
 static Word device_word(const Device *device, uint32_t page, uint32_t at) {
     const ee_flash *const flash = flash_with(device, page, at);
     if (flash == NULL) { return word_torn(); }
     if (EE_IS_OF_PAIRS(flash)) { return pairs_word(device, page, at); }
     uint64_t number = 0u;
     if (!is_read(device, flash, page, at, &number)) { return word_torn(); }
+    if (EE_IS_CODED(flash)) {
+        number = device_number(device, number);
+        if (number == 0u) { return word_torn(); }
+    }
     return number == UINT64_MAX ? word_erased() : word_held(number);
 }
 
@@ -1195,8 +1317,8 @@ static void device_fill(const Device *device, const ee_flash *flash, uint32_t pa
     }
 }
 
-/* The numbers of the words from a place on, as many as there is room for: all ones of an erased
- * word, 0 of a torn one. They stand in the room, or where C has them. */
+/* Readings of the words from a place on, as many as there is room for: all ones of an erased word,
+ * 0 of one that can't be read. They stand in the room, or where C has them. */
 EE_APART const uint64_t *run_at(const Device *device, uint32_t page, uint32_t at, uint64_t *items,
         uint32_t len) {
     const ee_flash *const flash = flash_with(device, page, at);
@@ -1221,6 +1343,7 @@ EE_IN_PLACE ListOfU64 device_run(const Device *device, uint32_t page, uint32_t a
 static Step device_program(Device *device, uint32_t page, uint32_t at, uint64_t value) {
     const ee_flash *const flash = flash_with(device, page, 0u);
     if (flash == NULL) { return CUT; }
+    if (EE_IS_CODED(flash)) { return coded_program(device, page, at, value); }
     return EE_IS_OF_PAIRS(flash) ? pairs_program(device, page, at, value)
             : numbers_program(device, page, at, value);
 }
@@ -1363,6 +1486,21 @@ EE_IN_PLACE void lookup_find_nothing(Lookup *self) {
     slots_find_nothing();
 }
 
+/* ---- ee_flash/word.rs: A word of flash as it reads: erased, held or torn. */
+
+/* Its number: `u64::MAX` where it is erased, and 0 where it is torn. */
+static uint64_t word_number(Word self) {
+    switch (self.tag) {
+    case Word_Erased:
+        return UINT64_MAX;
+    case Word_Held:
+        return self.held;
+    case Word_Torn:
+    default:
+        return 0u;
+    }
+}
+
 /* ---- ee_flash/shape.rs: How large a device is: two sets of as many pages, and each page a
  * header and slots. */
 
@@ -1472,7 +1610,7 @@ static Slot read_held(uint64_t number) {
 
 /* ---- ee_pages/runs.rs: The words of a page, several at a time. */
 
-/* The numbers of the words of a page from a place on: up to `RUN` of them, all before
+/* Readings of the words of a page from a place on: up to `RUN` of them, all before
  * `end`, and at least one. */
 EE_IN_PLACE ListOfU64 run_from(const Device *flash, uint32_t page, uint32_t at, uint32_t end,
         uint64_t *room) {
@@ -1525,7 +1663,7 @@ static uint64_t page_number(const Device *flash, Side side, uint32_t page, uint3
     }
     const ListOfU64 run = device_run(flash, first_page(flash, side) + page, HEADER_WORDS + slot,
             (RoomOfU64){ .items = room, .len = 1u });
-    return run.items[0u];
+    return device_number(flash, run.items[0u]);
 }
 
 /* The number of the slot of this number of a set, counted from 0: it says what the slot says. */
@@ -1541,12 +1679,12 @@ static MaybeU32 committed(const Device *flash, Side side) {
     for (uint32_t at = 0u; at < COMMITTING; at++) {
         room[at] = 1u;
     }
-    const ListOfU64 numbers = device_run(flash, first_page(flash, side), 0u,
+    const ListOfU64 run = device_run(flash, first_page(flash, side), 0u,
             (RoomOfU64){ .items = room, .len = COMMITTING });
-    /* A torn word is 0 in a run, and an erased one all ones: neither is a mark or a receive
+    /* The number of a torn word is 0, of an erased one all ones: neither is a mark or a receive
      * word. */
-    if (numbers.items[1u] == MARK) {
-        return read_receive(word_held(numbers.items[0u]));
+    if (device_number(flash, run.items[1u]) == MARK) {
+        return read_receive(word_held(device_number(flash, run.items[0u])));
     }
     return maybe_u32_none();
 }
@@ -1579,39 +1717,39 @@ static uint32_t blank_to(const Device *flash, uint32_t page, uint32_t from) {
     return words;
 }
 
-/* Whether all numbers are all ones. */
-EE_APART bool is_erased(const uint64_t *numbers_items, uint32_t numbers_len) {
-    const ListOfU64 numbers = { .items = numbers_items, .len = numbers_len };
+/* Whether all readings are all ones. */
+EE_APART bool is_erased(const uint64_t *readings_items, uint32_t readings_len) {
+    const ListOfU64 readings = { .items = readings_items, .len = readings_len };
     uint64_t all = UINT64_MAX;
-    if (numbers.len != 0u) {
-        const uint64_t *number = numbers.items;
-        const uint64_t *const number_end = number + numbers.len;
+    if (readings.len != 0u) {
+        const uint64_t *reading = readings.items;
+        const uint64_t *const reading_end = reading + readings.len;
         do {
-            all &= *number;
-            number++;
-        } while (number != number_end);
+            all &= *reading;
+            reading++;
+        } while (reading != reading_end);
     }
     return all == UINT64_MAX;
 }
 
-/* How many numbers, from the first on, are all ones. */
-static uint32_t erased_in(const uint64_t *numbers_items, uint32_t numbers_len) {
-    const ListOfU64 numbers = { .items = numbers_items, .len = numbers_len };
-    if (numbers.len != 0u) {
-        const uint64_t *number = numbers.items;
-        const uint64_t *const number_end = number + numbers.len;
+/* How many readings, from the first on, are all ones. */
+static uint32_t erased_in(const uint64_t *readings_items, uint32_t readings_len) {
+    const ListOfU64 readings = { .items = readings_items, .len = readings_len };
+    if (readings.len != 0u) {
+        const uint64_t *reading = readings.items;
+        const uint64_t *const reading_end = reading + readings.len;
         do {
-            if (*number != UINT64_MAX) {
-                return (uint32_t)(number - numbers.items);
+            if (*reading != UINT64_MAX) {
+                return (uint32_t)(reading - readings.items);
             }
-            number++;
-        } while (number != number_end);
+            reading++;
+        } while (reading != reading_end);
     }
-    return numbers.len;
+    return readings.len;
 }
 
 /* Whether something was programmed into the word, whole or torn. */
-static bool is_written(Word word) {
+static bool state_is_written(Word word) {
     return word.tag != Word_Erased;
 }
 
@@ -1686,7 +1824,7 @@ EE_IN_PLACE bool fits(uint32_t generation, TablePlace place, Word word) {
         return mark_read != MarkRead_Foreign;
     }
     case TablePlace_Erasing:
-        return !is_written(word);
+        return !state_is_written(word);
     case TablePlace_InSlot:
     default: {
         const Slot slot = read_slot(word);
@@ -1874,11 +2012,10 @@ EE_APART uint32_t used_to(const Device *flash, uint32_t page) {
     uint32_t at = HEADER_WORDS;
     while (at < words) {
         const ListOfU64 run = run_from(flash, page, at, words, room);
-        const uint32_t slots = slots_in(run.items, run.len);
+        const uint32_t slots = slots_in(flash, run.items, run.len);
         const bool all = slots == run.len;
         at += slots;
         if (!all) {
-            /* A torn word is 0 in a run, as one that holds 0 is. */
             if (!is_torn(device_word(flash, page, at))) {
                 return at;
             }
@@ -1888,20 +2025,22 @@ EE_APART uint32_t used_to(const Device *flash, uint32_t page) {
     return words;
 }
 
-/* How many numbers, from the first on, are each of an element or a forgetting. */
-static uint32_t slots_in(const uint64_t *numbers_items, uint32_t numbers_len) {
-    const ListOfU64 numbers = { .items = numbers_items, .len = numbers_len };
-    if (numbers.len != 0u) {
-        const uint64_t *number = numbers.items;
-        const uint64_t *const number_end = number + numbers.len;
+/* How many words of these readings, from the first on, each are torn or have an element or a
+ * forgetting. The next has neither, and may be torn. */
+static uint32_t slots_in(const Device *flash, const uint64_t *readings_items,
+        uint32_t readings_len) {
+    const ListOfU64 readings = { .items = readings_items, .len = readings_len };
+    if (readings.len != 0u) {
+        const uint64_t *reading = readings.items;
+        const uint64_t *const reading_end = reading + readings.len;
         do {
-            if (!is_slot(*number)) {
-                return (uint32_t)(number - numbers.items);
+            if (!is_slot(device_in_clear(flash, *reading))) {
+                return (uint32_t)(reading - readings.items);
             }
-            number++;
-        } while (number != number_end);
+            reading++;
+        } while (reading != reading_end);
     }
-    return numbers.len;
+    return readings.len;
 }
 
 /* ---- ee_pages/batch_items.rs: The room of a batch: up to `BATCH` addresses with their values,
@@ -2065,13 +2204,13 @@ EE_APART void live_batch_new(LiveBatch *made) {
 static void next_batch(const Device *flash, const Layout *layout, MaybeAddress after,
         LiveBatch *batch) {
     batch_take_out(&batch->found);
-    gather(flash, layout->side, number_of(after), &batch->found);
+    gather(flash, layout->side, batch_number_of(after), &batch->found);
     batch->through = batch_last_if_full(&batch->found);
     batch_keep_living(&batch->found);
 }
 
 /* The number above which a batch begins. */
-static uint16_t number_of(MaybeAddress after) {
+static uint16_t batch_number_of(MaybeAddress after) {
     if (!after.some) {
         return 0u;
     }
@@ -2098,30 +2237,36 @@ static void gather_page(const Device *flash, Side side, uint32_t page, uint16_t 
     while (at < words) {
         const ListOfU64 run = run_from(flash, here, at, words, room);
         at += run.len;
-        span = note_all(above, span, run.items, run.len, nearest);
+        span = note_all(flash, above, span, run.items, run.len, nearest);
     }
 }
 
-/* Notes what these numbers say, of so many addresses above this one, which are those that have a
- * place in the batch. Gives how many have one then. */
-EE_APART uint32_t note_all(uint16_t above, uint32_t span, const uint64_t *numbers_items,
-        uint32_t numbers_len, Batch *nearest) {
-    const ListOfU64 numbers = { .items = numbers_items, .len = numbers_len };
-    if (numbers.len != 0u) {
-        const uint64_t *number = numbers.items;
-        const uint64_t *const number_end = number + numbers.len;
+/* Notes what the words of these readings say, of so many addresses above this one, which are those
+ * that have a place in the batch. Gives how many have one then. */
+EE_APART uint32_t note_all(const Device *flash, uint16_t above, uint32_t span,
+        const uint64_t *readings_items, uint32_t readings_len, Batch *nearest) {
+    const ListOfU64 readings = { .items = readings_items, .len = readings_len };
+    if (readings.len != 0u) {
+        const uint64_t *reading = readings.items;
+        const uint64_t *const reading_end = reading + readings.len;
         do {
-            span = note_within(above, span, *number, nearest);
-            number++;
-        } while (number != number_end);
+            span = note_within(flash, above, span, *reading, nearest);
+            reading++;
+        } while (reading != reading_end);
     }
     return span;
 }
 
-/* Notes what a number says, if it is of one of so many addresses above this one. */
-static uint32_t note_within(uint16_t above, uint32_t span, uint64_t number, Batch *nearest) {
+/* Notes what the word of a reading says, if it is of one of so many addresses above this one. */
+static uint32_t note_within(const Device *flash, uint16_t above, uint32_t span, uint64_t reading,
+        Batch *nearest) {
     /* Asked first, since most words are of an address that has no place in a batch. */
-    if (!is_within(address_in(number), above, span)) {
+    const uint16_t address = address_in(reading);
+    if (!is_within(address, above, span)) {
+        return span;
+    }
+    const uint64_t number = device_number(flash, reading);
+    if (address_in(number) != address) {
         return span;
     }
     if (batch_note_any(nearest, number)) {
@@ -2256,7 +2401,7 @@ static MaybeSaidValue said_in_page(const Device *flash, Side side, uint32_t page
                 (RoomOfU64){ .items = room, .len = count });
         const uint32_t ends = ending_in(run.items, run.len, address);
         if (ends > 0u) {
-            const MaybeSaidValue maybe_said = said(run.items[ends - 1u]);
+            const MaybeSaidValue maybe_said = said_by(flash, run.items[ends - 1u]);
             if (maybe_said.some) {
                 return maybe_said_value_some(maybe_said.value);
             }
@@ -2266,16 +2411,27 @@ static MaybeSaidValue said_in_page(const Device *flash, Side side, uint32_t page
     return maybe_said_value_none();
 }
 
-/* How many of these numbers stand up to the last that ends in an address, 0 where none does. It
- * does no more than that, since most numbers end in another one. */
-EE_APART uint32_t ending_in(const uint64_t *numbers_items, uint32_t numbers_len, Address address) {
-    const ListOfU64 numbers = { .items = numbers_items, .len = numbers_len };
-    uint32_t left = numbers.len;
-    const uint64_t *last = numbers.items + left;
+/* How many of these readings stand up to the last that ends in an address, 0 where none does. It
+ * does no more than that, since most end in another one. */
+EE_APART uint32_t ending_in(const uint64_t *readings_items, uint32_t readings_len,
+        Address address) {
+    const ListOfU64 readings = { .items = readings_items, .len = readings_len };
+    uint32_t left = readings.len;
+    const uint64_t *last = readings.items + left;
     while (left > 0u && address_in(*--last) != address) {
         left -= 1u;
     }
     return left;
+}
+
+/* What the word of a reading says of the address that this ends in. */
+EE_IN_PLACE MaybeSaidValue said_by(const Device *flash, uint64_t reading) {
+    const uint64_t number = device_number(flash, reading);
+    /* Another one ends in another address, as 0 does, the number of a torn word. */
+    if (address_in(number) != address_in(reading)) {
+        return maybe_said_value_none();
+    }
+    return said(number);
 }
 
 /* What a number says of the address that it ends in: nothing, or that it has a value
@@ -2329,19 +2485,19 @@ static void loading_tell_page(const Device *flash, Side side, uint32_t page, Wan
     while (at < words) {
         const ListOfU64 run = run_from(flash, here, at, words, room);
         at += run.len;
-        loading_tell_run(run.items, run.len, entries.items, entries.len);
+        loading_tell_run(flash, run.items, run.len, entries.items, entries.len);
     }
 }
 
-/* Gives the entries what these numbers of slots say. */
-static void loading_tell_run(const uint64_t *numbers_items, uint32_t numbers_len,
-        Wanted *entries_items, uint32_t entries_len) {
-    const ListOfU64 numbers = { .items = numbers_items, .len = numbers_len };
+/* Gives the entries what the words of these readings say. */
+static void loading_tell_run(const Device *flash, const uint64_t *readings_items,
+        uint32_t readings_len, Wanted *entries_items, uint32_t entries_len) {
+    const ListOfU64 readings = { .items = readings_items, .len = readings_len };
     const RoomOfWanted entries = { .items = entries_items, .len = entries_len };
     if (entries.len != 0u) {
         uint32_t at = 0u;
         do {
-            const MaybeSaidValue maybe_said = said_in(numbers.items, numbers.len,
+            const MaybeSaidValue maybe_said = said_in(flash, readings.items, readings.len,
                     entries.items[at].address);
             if (maybe_said.some) {
                 const MaybeU32 said_2 = maybe_said.value;
@@ -2352,15 +2508,15 @@ static void loading_tell_run(const uint64_t *numbers_items, uint32_t numbers_len
     }
 }
 
-/* What these numbers of slots say of an address: the last that says something counts. */
-static MaybeSaidValue said_in(const uint64_t *numbers_items, uint32_t numbers_len,
-        Address address) {
-    const ListOfU64 numbers = { .items = numbers_items, .len = numbers_len };
-    uint32_t left = numbers.len;
+/* What the words of these readings say of an address: the last that says something counts. */
+static MaybeSaidValue said_in(const Device *flash, const uint64_t *readings_items,
+        uint32_t readings_len, Address address) {
+    const ListOfU64 readings = { .items = readings_items, .len = readings_len };
+    uint32_t left = readings.len;
     while (left > 0u) {
         left -= 1u;
-        if (address_in(numbers.items[left]) == address) {
-            const MaybeSaidValue said_2 = said(numbers.items[left]);
+        if (address_in(readings.items[left]) == address) {
+            const MaybeSaidValue said_2 = said_by(flash, readings.items[left]);
             if (said_2.some) {
                 return said_2;
             }
@@ -2391,11 +2547,16 @@ static void span_of_one(Address address, MaybeU32 value, Span *made) {
     }
 }
 
-/* Notes what a number says, if it is of one of the addresses, of which nothing is said. */
-static void span_note(Span *self, uint64_t number) {
-    const uint32_t at = (uint32_t)u16_wrapping_sub(address_in(number), self->first);
+/* Notes what the word of a reading says, if it is of one of the addresses, of which nothing is
+ * said. */
+static void span_note(Span *self, const Device *flash, uint64_t reading) {
+    const uint16_t address = address_in(reading);
+    const uint32_t at = (uint32_t)u16_wrapping_sub(address, self->first);
     if (at < self->count && !said(self->numbers[at]).some) {
-        self->numbers[at] = number;
+        const uint64_t number = device_number(flash, reading);
+        if (address_in(number) == address) {
+            self->numbers[at] = number;
+        }
     }
 }
 
@@ -2441,19 +2602,20 @@ static uint32_t span_tell_page(const Device *flash, Side side, uint32_t page, ui
         left -= count;
         const ListOfU64 run = device_run(flash, here, HEADER_WORDS + left,
                 (RoomOfU64){ .items = room, .len = count });
-        span_tell_run(run.items, run.len, span);
+        span_tell_run(flash, run.items, run.len, span);
         said_to = span_said_from(span, said_to);
     }
     return said_to;
 }
 
-/* Notes what these numbers say, which stand before those noted. */
-static void span_tell_run(const uint64_t *numbers_items, uint32_t numbers_len, Span *span) {
-    const ListOfU64 numbers = { .items = numbers_items, .len = numbers_len };
-    uint32_t left = numbers.len;
+/* Notes what the words of these readings say, which stand before those noted. */
+static void span_tell_run(const Device *flash, const uint64_t *readings_items,
+        uint32_t readings_len, Span *span) {
+    const ListOfU64 readings = { .items = readings_items, .len = readings_len };
+    uint32_t left = readings.len;
     while (left > 0u) {
         left -= 1u;
-        span_note(span, numbers.items[left]);
+        span_note(span, flash, readings.items[left]);
     }
 }
 
@@ -2490,7 +2652,7 @@ static Step marking_mark(Device *flash, uint32_t page, Mark mark) {
         number = MARK;
         break;
     }
-    if (is_written(device_word(flash, page, at))) {
+    if (state_is_written(device_word(flash, page, at))) {
         return DONE;
     }
     return device_program(flash, page, at, number);
@@ -2583,7 +2745,7 @@ static bool is_bad(Shape shape, uint32_t generation, uint32_t written, uint32_t 
         Word word) {
     const uint32_t before = page * (shape.words - HEADER_WORDS) + u32_saturating_sub(at,
             HEADER_WORDS);
-    const bool allowed = fits(generation, place_of(page, at), word) && (!is_written(word) ||
+    const bool allowed = fits(generation, place_of(page, at), word) && (!state_is_written(word) ||
             before <= written);
     return is_torn(word) || !allowed || fails_to_commit(page, at, word);
 }
@@ -2606,7 +2768,7 @@ static uint32_t written_front(const Device *flash, Side side) {
 static uint32_t front_in_page(const Device *flash, Side side, uint32_t page) {
     const uint32_t slots = flash->shape.words - HEADER_WORDS;
     for (uint32_t slot = 0u; slot < slots; slot++) {
-        if (!is_written(page_slot(flash, side, page, slot))) {
+        if (!state_is_written(page_slot(flash, side, page, slot))) {
             return slot;
         }
     }
@@ -2641,7 +2803,7 @@ EE_IN_PLACE MaybeSide only(bool first, bool second) {
 
 /* Whether something was programmed where the mark that commits the set stands. */
 static bool has_begun(const Device *flash, Side side) {
-    return is_written(set_word(flash, side, 0u, 1u));
+    return state_is_written(set_word(flash, side, 0u, 1u));
 }
 
 /* Whether a page of the set has the whole mark that it may be erased. */
@@ -4388,13 +4550,13 @@ static Word pairs_word(const Numbers *self, uint32_t page, uint32_t at) {
     return word_of(number, check);
 }
 
-/* The numbers of the words from a place on, as many as there is room for, whether power is on
- * or off: `u64::MAX` of an erased word, 0 of a torn one. They stand in the room, or where the
- * device has them. `word` tells a torn word from one that holds 0. */
+/* Readings of the words from a place on, as many as there is room for, whether power is on or
+ * off. They stand in the room, or where the device has them. An erased word alone reads as
+ * `u64::MAX`, and a slot's number as one that ends in the same 16 bits. */
 static ListOfU64 pairs_run(const Numbers *self, uint32_t page, uint32_t at, uint64_t *room_items,
         uint32_t room_len) {
     const RoomOfU64 room = { .items = room_items, .len = room_len };
-    fill_run(self, page, at, room.items, room.len);
+    nor_runs_fill_run(self, page, at, room.items, room.len);
     return (ListOfU64){ .items = room.items, .len = room.len };
 }
 
@@ -4416,7 +4578,7 @@ static Step pairs_program(Numbers *self, uint32_t page, uint32_t at, uint64_t va
 
 /* Puts the numbers of as many words as there is room for into the room, from a place of a page on:
  * those that the flash has in memory are not read one by one. */
-static void fill_run(const Numbers *nor, uint32_t page, uint32_t at, uint64_t *room_items,
+static void nor_runs_fill_run(const Numbers *nor, uint32_t page, uint32_t at, uint64_t *room_items,
         uint32_t room_len) {
     const RoomOfU64 room = { .items = room_items, .len = room_len };
     const ListOfU64 maybe_window = numbers_window(nor, page, 2u * at, 2u * room.len);
@@ -4577,6 +4739,196 @@ static bool is_low(uint64_t number, uint64_t check) {
     return check < UINT64_MAX - number;
 }
 
+/* ---- coded/code.rs: A payload as a coded word, and back. */
+
+/* The coded word of a payload, which is one number of 49 bits: a value of 32, below it a kind of
+ * one bit, below it an address of 16. The check of 15 bits stands between the value and the kind,
+ * so all three can be read where they stand. */
+static uint64_t encode(uint64_t payload) {
+    const uint32_t value = (uint32_t)(payload >> 17u);
+    const uint32_t low = (uint32_t)(payload & UINT64_C(0x1FFFF));
+    return (uint64_t)value * UINT64_C(0x100000000) + (uint64_t)low_half(value, low);
+}
+
+/* The payload of a word. `None` of a word that isn't coded: it is torn or erased, or no store
+ * wrote it. */
+EE_IN_PLACE MaybeU64 decode(uint64_t word) {
+    const uint32_t value = (uint32_t)(word >> 32u);
+    const uint32_t low = (uint32_t)(word & UINT64_C(0xFFFFFFFF));
+    const uint32_t rest = low & UINT32_C(0x1FFFF);
+    if (low_half(value, rest) == low) {
+        return maybe_u64_some((uint64_t)value * UINT64_C(0x20000) + (uint64_t)rest);
+    }
+    return maybe_u64_none();
+}
+
+/* The low half of the word of a value and the 17 bits below it. */
+static uint32_t low_half(uint32_t value, uint32_t low) {
+    const uint32_t rest = parity_bits(value, low) * UINT32_C(0x20000) + low;
+    const uint32_t ones = u32_count_ones(value) + u32_count_ones(rest);
+    return weight_row_of((ones + 1u) / 2u) * UINT32_C(0x2000000) + ones % 2u * UINT32_C(0x1000000) + rest;
+}
+
+/* Seven bits of parity: each bit of the payload alone turns others of them, and two or more. */
+static uint32_t parity_bits(uint32_t value, uint32_t low) {
+    const uint32_t mixed = (value ^ (low << 12u)) ^ (value << 1u);
+    const uint32_t mixed_2 = mixed ^ (mixed << 11u);
+    const uint32_t mixed_3 = mixed_2 ^ (mixed_2 >> 9u);
+    const uint32_t mixed_4 = mixed_3 ^ (mixed_3 >> 7u);
+    const uint32_t mixed_5 = mixed_4 ^ (mixed_4 << 12u);
+    return (mixed_5 >> 21u) & 127u;
+}
+
+/* The row of a half weight. */
+static uint32_t weight_row_of(uint32_t half_weight) {
+    return (uint32_t)WEIGHT_ROWS[(uint32_t)half_weight];
+}
+
+/* ---- coded/words.rs: A number of a store as a coded word, and the word that a number of the
+ * flash is. */
+
+/* The coded word of a number on a device of this shape: of a number that a store writes, else of
+ * some other. The mark says the shape. */
+static uint64_t words_coded_number(Shape shape, uint64_t number) {
+    return encode(payload_of(shape, number));
+}
+
+/* The word that a reading is on a device of this shape: torn where there is none, erased where it
+ * is `u64::MAX`, held where it is the coded word of a number; else torn, as the mark of another
+ * shape is. */
+static Word word_of_reading(Shape shape, MaybeU64 reading) {
+    if (!reading.some) {
+        return word_torn();
+    }
+    const uint64_t number = reading.value;
+    if (number == UINT64_MAX) {
+        return word_erased();
+    }
+    const MaybeU64 maybe_decode = decode(number);
+    if (maybe_decode.some) {
+        const uint64_t payload = maybe_decode.value;
+        return word_of_payload(shape, payload);
+    }
+    return word_torn();
+}
+
+/* A number of the flash with zeros where a coded word has its check. */
+static uint64_t without_check(uint64_t number) {
+    return (number >> 32u) * UINT64_C(0x100000000) + (number & UINT64_C(0x1FFFF));
+}
+
+/* The word of a payload: held where it is a number's. */
+static Word word_of_payload(Shape shape, uint64_t payload) {
+    const uint64_t number = words_number_of(payload);
+    if (payload_of(shape, number) == payload) {
+        return word_held(number);
+    }
+    return word_torn();
+}
+
+/* The payload of a number. */
+EE_IN_PLACE uint64_t payload_of(Shape shape, uint64_t number) {
+    const uint64_t value = number >> 32u;
+    const uint64_t low = number & UINT64_C(0xFFFFFFFF);
+    if (low < UINT64_C(0x20000) && (low & 0xFFFFu) > 0u) {
+        return value * UINT64_C(0x20000) + low;
+    }
+    if (low == HEADER_HALF) {
+        return mark_payload(shape);
+    }
+    return low * UINT64_C(0x20000);
+}
+
+/* The payload of the mark. */
+static uint64_t mark_payload(Shape shape) {
+    return ((uint64_t)shape.pages * UINT64_C(0x10000) + (uint64_t)shape.words) * UINT64_C(0x20000) + UINT64_C(0x10000);
+}
+
+/* The number that a payload is of, if it is of any. */
+static uint64_t words_number_of(uint64_t payload) {
+    const uint64_t value = payload >> 17u;
+    const uint64_t low = payload & UINT64_C(0x1FFFF);
+    if (low == 0u) {
+        return HEADER_HALF * UINT64_C(0x100000000) + value;
+    }
+    if (low == UINT64_C(0x10000)) {
+        return HEADER_HALF * UINT64_C(0x100000000) + HEADER_HALF;
+    }
+    return value * UINT64_C(0x100000000) + low;
+}
+
+/* ---- coded/shapes.rs: The shape that the mark of a flash of coded numbers says. */
+
+/* The other shape that the first page of a set names. */
+EE_IN_PLACE MaybeOtherShape other_shape(const EccNumbers *nor) {
+    const MaybeOtherShape maybe_other_named = other_named(nor, 0u);
+    if (maybe_other_named.some) {
+        return maybe_other_shape_some(maybe_other_named.value);
+    }
+    return other_named(nor, nor->shape.pages);
+}
+
+/* The other shape whose mark stands in word 1 of a page. */
+EE_APART MaybeOtherShape other_named(const EccNumbers *nor, uint32_t page) {
+    const MaybeU64 maybe_number = ecc_numbers_read(nor, page, 1u);
+    if (!maybe_number.some) {
+        return maybe_other_shape_none();
+    }
+    const uint64_t number = maybe_number.value;
+    const MaybeShape maybe_named = shape_of_mark(number);
+    if (!maybe_named.some) {
+        return maybe_other_shape_none();
+    }
+    const Shape named = maybe_named.value;
+    const Shape shape = nor->shape;
+    const uint32_t pages = named.pages;
+    const uint32_t words = named.words;
+    if (pages == shape.pages && words == shape.words) {
+        return maybe_other_shape_none();
+    }
+    return maybe_other_shape_some((OtherShape){ .pages = pages, .words = words });
+}
+
+/* The shape whose mark a number of the flash is. */
+EE_IN_PLACE MaybeShape shape_of_mark(uint64_t number) {
+    const MaybeU64 maybe_payload = decode(number);
+    if (!maybe_payload.some) {
+        return maybe_shape_none();
+    }
+    const uint64_t payload = maybe_payload.value;
+    if ((payload & UINT64_C(0x1FFFF)) != UINT64_C(0x10000)) {
+        return maybe_shape_none();
+    }
+    const uint64_t value = payload >> 17u;
+    return shape_new((uint32_t)(value >> 16u), (uint32_t)(value & 0xFFFFu));
+}
+
+/* ---- coded/coded.rs: A device of words on a flash of coded numbers. */
+
+/* The number of the word that reads so: `u64::MAX` of an erased word, 0 of a torn one. `word`
+ * tells a torn word from one that holds 0. */
+static uint64_t coded_number(const EccNumbers *self, uint64_t reading) {
+    return word_number(word_of_reading((*self).shape, maybe_u64_some(reading)));
+}
+
+/* What a reading says of a slot with no check: its number, which a torn word may seem to hold.
+ * One that ends in 65535 may be that of any word. */
+static uint64_t coded_in_clear(const EccNumbers *self, uint64_t reading) {
+    (void)self;
+    return without_check(reading);
+}
+
+/* Programs an erased word with a number below `u64::MAX`, one of those that a store writes.
+ *
+ * Errors:
+ *
+ * `Cut`, only with the device off afterwards: power failed in this step, or was off before it
+ * and nothing changed. */
+static Step coded_program(EccNumbers *self, uint32_t page, uint32_t at, uint64_t value) {
+    const uint64_t number = words_coded_number((*self).shape, value);
+    return ecc_numbers_program(self, page, at, number);
+}
+
 /* ---- By hand: the calls of ee.h. A store stays in the memory that the caller lends. */
 
 /* What says whether a store can take a call. It is written in a call that only reads, too: a store
@@ -4644,7 +4996,8 @@ static ee_result device_in(ee_store *memory, const ee_flash *flash) {
         return EE_NULL;
     }
     const MaybeShape shape = shape_new(flash->pages, flash->page_words);
-    if (!shape.some || flash->kind > EE_GREATEST_KIND) { return EE_WRONG_SHAPE; }
+    const bool is_kind = flash->kind == EE_WORDS || EE_IS_OF_PAIRS(flash) || EE_IS_CODED(flash);
+    if (!shape.some || !is_kind) { return EE_WRONG_SHAPE; }
     power->flash = flash;
     store_of(memory)->flash = (Device){ .power = power, .shape = shape.value };
     return EE_OK;
@@ -4666,6 +5019,18 @@ EE_APART ee_result opening_ended(ee_result status, ee_store *memory) {
     return answer;
 }
 
+/* The same of a flash that may hold a store: coded words are of this shape, or of none. */
+#ifdef EE_NO_CODED
+#define known_in device_in
+#else
+EE_APART ee_result known_in(ee_store *memory, const ee_flash *flash) {
+    const ee_result status = device_in(memory, flash);
+    if (status != EE_OK || !EE_IS_CODED(flash)) { return status; }
+    return other_shape(&store_of(memory)->flash).some ? opening_ended(EE_OTHER_SHAPE,
+            memory) : status;
+}
+#endif
+
 /* Whether a word is written that a first start which was cut doesn't leave: any but the first two
  * of page 0, or but those of page 0 where an erase clears first. */
 EE_APART bool holds_more(const Device *device, bool clears_first) {
@@ -4678,16 +5043,18 @@ EE_APART bool holds_more(const Device *device, bool clears_first) {
 }
 
 /* Opens a store, or makes the first one where that may be. A flash of numbers is looked through
- * before, unless its erases clear first: EE_FOREIGN where a word is no store's. Where it holds more
- * than a first start leaves it is opened, and no first store made there. */
+ * before, unless its erases clear first: EE_FOREIGN where a word is no store's. Where numbers or
+ * coded words hold more than a first start leaves it is opened, and no first store made there. */
 static ee_result started(ee_store *memory, const ee_flash *flash, bool may_be_new) {
-    const ee_result refused = device_in(memory, flash);
+    const ee_result refused = known_in(memory, flash);
     if (refused != EE_OK) { return refused; }
     Device *const device = &store_of(memory)->flash;
     Layout *const layout = &store_of(memory)->known.layout;
-    if (EE_IS_OF_PAIRS(flash)) {
+    if (EE_IS_OF_PAIRS(flash) || EE_IS_CODED(flash)) {
         const bool clears_first = flash->kind == EE_PAIRS_CLEARING;
-        if (!clears_first && first_low(device).some) { return opening_ended(EE_FOREIGN, memory); }
+        const bool is_looked_through = EE_IS_OF_PAIRS(flash) && !clears_first;
+        if (is_looked_through && first_low(device).some) { return opening_ended(EE_FOREIGN,
+                memory); }
         may_be_new = may_be_new && !holds_more(device, clears_first);
     }
     return opening_ended(may_be_new ? start_on(device, layout) : open_on(device, layout), memory);
@@ -4711,7 +5078,7 @@ ee_result ee_format(ee_store *store, const ee_flash *flash) {
 #ifndef EE_NO_RESCUE
 /* A pair of numbers that no store wrote is torn here, where an opening refuses it. */
 ee_result ee_rescue(ee_store *store, const ee_flash *flash) {
-    const ee_result refused = device_in(store, flash);
+    const ee_result refused = known_in(store, flash);
     if (refused != EE_OK) { return refused; }
     Store *const kept = store_of(store);
     const MaybeSide side = rescued_side(&kept->flash);
@@ -4724,7 +5091,7 @@ ee_result ee_rescue(ee_store *store, const ee_flash *flash) {
 
 ee_result ee_bad_words(const ee_flash *flash, uint32_t *count) {
     ee_store looked;
-    const ee_result refused = device_in(&looked, count == NULL ? NULL : flash);
+    const ee_result refused = known_in(&looked, count == NULL ? NULL : flash);
     if (refused != EE_OK) { return refused; }
     return told(EE_OK, &looked, bad_words(&looked.memory.parts.store.flash), count);
 }
@@ -4732,7 +5099,7 @@ ee_result ee_bad_words(const ee_flash *flash, uint32_t *count) {
 /* It looks for what an opening is refused for. */
 ee_result ee_foreign_word(const ee_flash *flash, uint32_t *page, uint32_t *word) {
     ee_store looked;
-    ee_result status = device_in(&looked, page == NULL || word == NULL ? NULL : flash);
+    ee_result status = known_in(&looked, page == NULL || word == NULL ? NULL : flash);
     if (status != EE_OK) { return status; }
     const Device *const device = &looked.memory.parts.store.flash;
     MaybeLowPair found = { .some = false };
@@ -4746,6 +5113,29 @@ ee_result ee_foreign_word(const ee_flash *flash, uint32_t *page, uint32_t *word)
     }
     status = told(found.some ? EE_OK : EE_NOTHING, &looked, found.value.word, word);
     if (status == EE_OK) { *page = found.value.page; }
+    return status;
+}
+
+ee_result ee_word_of(const ee_flash *flash, uint32_t page, uint32_t word, uint64_t *number) {
+    ee_store looked;
+    const ee_result status = device_in(&looked, number == NULL ? NULL : flash);
+    if (status != EE_OK) { return status; }
+    if (page >= 2u * flash->pages || word >= flash->page_words) { return EE_WRONG_NUMBER; }
+    const Word found = device_word(&looked.memory.parts.store.flash, page, word);
+    if (looked.memory.parts.power.flash == NULL) { return EE_DRIVER; }
+    if (found.tag == Word_Torn) { return EE_TORN; }
+    *number = found.tag == Word_Held ? found.held : UINT64_MAX;
+    return EE_OK;
+}
+
+ee_result ee_other_shape(const ee_flash *flash, uint32_t *pages, uint32_t *page_words) {
+    ee_store looked;
+    ee_result status = device_in(&looked, pages == NULL || page_words == NULL ? NULL : flash);
+    if (status != EE_OK) { return status; }
+    MaybeOtherShape found = { .some = false };
+    if (EE_IS_CODED(flash)) { found = other_shape(&looked.memory.parts.store.flash); }
+    status = told(found.some ? EE_OK : EE_NOTHING, &looked, found.value.pages, pages);
+    if (status == EE_OK) { *page_words = found.value.words; }
     return status;
 }
 #endif

@@ -5,8 +5,9 @@
  * from 0, those of the first set first, and the words of a page from 0. A set has pages * (page_words - 4) slots: as many
  * variables can have a value. A variable has 32 bits, and an address of 1 to 65534.
  *
- * A part whose words have no error correction gives numbers of 64 bits in their place, and `kind` says so: then a word is two
- * numbers, a value beside its complement, which takes twice the flash. A cut number is told by its other half.
+ * `kind` says what stands in a word. A part with error correction (ECC) takes EE_CODED, where each has a check of 15 bits: a word
+ * that a cut left, and that the ECC then corrects into another number, is told by it. One without gives numbers of 64 bits, and a
+ * word is two of them, a value beside its complement, which takes twice the flash.
  *
  * The library allocates nothing. It keeps what it knows in the `ee_store` that the caller lends, and reads and writes the
  * flash by the three functions of an `ee_flash`. Whatever these answer, none is asked for a page or a word that the flash does
@@ -45,8 +46,11 @@
  *     ee_rescue                         N + 3 * W        L + 3 * P + 1    P
  *     ee_bad_words                      2 * W            0                0
  *     ee_foreign_word                   3 * W            0                0
+ *     ee_other_shape                    2                0                0
+ *     ee_word_of                        1                0                0
  *
- * On pairs a word read or programmed is two numbers, ee_open reads W words more, and ee_start 2 * W. For each torn word, which a
+ * On pairs a word read or programmed is two numbers, ee_open reads W words more, and ee_start 2 * W. On coded words ee_start reads
+ * W words more, and all that answer EE_OTHER_SHAPE two. For each torn word, which a
  * cut left half written, ee_start and ee_open read 17 words more.
  *
  * A watchdog waits longer than the longest step, which is an erase. On a part with one bank the core stalls in a step, on a fetch
@@ -55,8 +59,8 @@
  * ee_write_all first compares each two addresses of its list, and ee_load each 16 words with 32 addresses.
  *
  * ee.c leaves calls out where these are defined, for a program that makes none of them: EE_NO_LISTS ee_write_all, EE_NO_FORGET
- * ee_forget and ee_forget_all, EE_NO_RESCUE ee_rescue, ee_bad_words and ee_foreign_word, EE_NO_OPEN ee_open and ee_format. With
- * EE_NO_PAIRS it takes a flash of EE_WORDS alone. With EE_INDEX it takes an index (ee_index).
+ * ee_forget and ee_forget_all, EE_NO_RESCUE ee_rescue, ee_bad_words, ee_foreign_word, ee_word_of and ee_other_shape, EE_NO_OPEN
+ * ee_open and ee_format. With EE_NO_PAIRS it takes no pairs, with EE_NO_CODED no coded words. With EE_INDEX it takes an index (ee_index).
  *
  * The stack that a call takes, beside what the three functions take, is in README.md and ../RESULTS.md.
  */
@@ -83,12 +87,12 @@
 extern "C" {
 #endif
 
-/* What a call answers: one of the EE_ numbers below, of EE_OK to EE_BUSY. */
+/* What a call answers: one of the EE_ numbers below, of EE_OK to EE_OTHER_SHAPE. */
 typedef uint32_t ee_result;
 
 /* What a flash has. */
 enum {
-    /* Words, as above. */
+    /* Words with no check. They rest on a part whose ECC tells every word that a cut left. */
     EE_WORDS = 0,
     /* Numbers, for a part without error correction: `word` and `program` are asked for numbers, of which a page has
      * 2 * page_words. A number may be programmed by parts, in any order.
@@ -103,7 +107,13 @@ enum {
     /* The same where an erase may clear the cells of its page first, as many serial flashes do. A cut in `program` leaves what it
      * leaves there, and a cut in `erase` any numbers. That no two of a word are a value and its complement that weren't is a
      * premise: chance makes them of 64 bits, and of a word that a cut `program` tore of the few that it lacks. */
-    EE_PAIRS_CLEARING = 2
+    EE_PAIRS_CLEARING = 2,
+    /* Coded words, for a part whose reads may correct a bit: as EE_WORDS, but bits 31 to 17 of each are a check. Whatever a cut
+     * leaves of a word reads as that word or as torn, also with any one bit turned. A word that no store wrote is torn.
+     *
+     * This is what the part owes: cells go one way, as of EE_PAIRS, and a word reads as its cells, with one bit turned, or EE_TORN.
+     * A cut erase makes no word whole that an earlier cut had left torn. */
+    EE_CODED = 3
 };
 
 /* An index, in memory that the caller lends: for each variable the slot in which it stands, four bytes a variable. So a read looks
@@ -132,8 +142,8 @@ typedef struct ee_index {
 /* A flash. It stays where it is, and as it is, while a store is open on it; it may be a constant. */
 typedef struct ee_flash {
     void *context; /* given to each of the three functions; the library does not look at it */
-    /* The flash doesn't store these two: give the same at each start. With others ee_start may answer EE_OK with no values, or
-     * with older ones. */
+    /* Give the same two at each start. EE_CODED stores them, and answers EE_OTHER_SHAPE to others. Else the flash doesn't, and
+     * ee_start may answer EE_OK with no values, or with older ones. */
     uint32_t pages;      /* of one set, 1 to 64: the flash has twice as many */
     uint32_t page_words; /* 5 to 512 */
     /* Reads a word. 0, and the word in `value`: all ones is an erased word. EE_TORN where the word can't be read: an uncorrectable
@@ -150,7 +160,7 @@ typedef struct ee_flash {
     uint32_t (*program)(void *context, uint32_t page, uint32_t place, uint64_t value);
     /* Erases a page. 0 once every word of it reads as erased; any other number where it failed. */
     uint32_t (*erase)(void *context, uint32_t page);
-    /* What the flash has: EE_WORDS, EE_PAIRS or EE_PAIRS_CLEARING. Any other is refused with EE_WRONG_SHAPE. */
+    /* What the flash has: EE_WORDS, EE_PAIRS, EE_PAIRS_CLEARING or EE_CODED. Any other is refused with EE_WRONG_SHAPE. */
     uint32_t kind;
     /* NULL, or for speed alone: where `count` words of a page stand in memory, from a place on; all are in the page. They are 1
      * to EE_RUN, on pairs 2 to 2 * EE_RUN numbers. Each reads as by `word`: all ones is an erased one. NULL as an answer where one
@@ -238,7 +248,10 @@ enum {
     /* Another refusal of a change. Nothing was written. */
     EE_DUPLICATE = 14,     /* an address stands twice in the list */
     /* Another call on the store is being made, as where an interrupt breaks into it: this one did nothing. */
-    EE_BUSY = 15
+    EE_BUSY = 15,
+    /* The flash holds a store of coded words of other `pages` or `page_words`, by the mark in the first page of a set. It comes
+     * before all else that an opening says of the flash. Nothing was written. */
+    EE_OTHER_SHAPE = 16
 };
 
 /* A value that an address gets. */
@@ -271,14 +284,14 @@ typedef struct ee_numbers {
  * tells. What was erased before the store was made, and by ee_format, is not in it. */
 
 /* The call to make at each start, as others mount a file system. Opens the store that the flash holds, as ee_open, or makes the
- * first one: where no set is live and each word behind a page's header is erased or torn. On EE_PAIRS that is where every number
- * is all ones but the first four of page 0, and on EE_PAIRS_CLEARING where page 0 holds no value and all else is blank: whatever
- * else stands in that page is formatted over. A first start in which power was cut is made again; no stored value is erased.
- * EE_OK; EE_NO_LIVE_SET, EE_TWO_LIVE, EE_FOREIGN, EE_DRIVER. */
+ * first one: where no set is live and each word behind a page's header is erased or torn. On EE_CODED and EE_PAIRS that is where
+ * every word is erased but the first two of page 0, and on EE_PAIRS_CLEARING where page 0 holds no value and all else is blank:
+ * whatever else stands in that page is formatted over. A first start in which power was cut is made again; no stored value is
+ * erased. EE_OK; EE_OTHER_SHAPE, EE_NO_LIVE_SET, EE_TWO_LIVE, EE_FOREIGN, EE_DRIVER. */
 ee_result ee_start(ee_store *store, const ee_flash *flash);
 
 /* Opens the store that the flash holds. Where power was cut it sets the marks that were left to set, else it writes nothing.
- * EE_OK; EE_UNFORMATTED, EE_NO_LIVE_SET, EE_TWO_LIVE, EE_FOREIGN, EE_DRIVER. */
+ * EE_OK; EE_OTHER_SHAPE, EE_UNFORMATTED, EE_NO_LIVE_SET, EE_TWO_LIVE, EE_FOREIGN, EE_DRIVER. */
 ee_result ee_open(ee_store *store, const ee_flash *flash);
 
 /* Makes a store with nothing in it, whatever the flash held: each page that is not blank is erased. Where it is cut on a flash
@@ -332,8 +345,8 @@ ee_result ee_counts(const ee_store *store, ee_numbers *numbers);
  * byte of them.
  *
  * Makes a store of what the slots still say, whatever the flash holds: the values move to the other set, as in a write that
- * finds no free slot, and that set is erased first. Two questions come before. Is the shape that of the firmware that wrote the
- * flash? By another one words are taken for values that are none, and values are erased. And is the flash ready? So call ee_start
+ * finds no free slot, and that set is erased first. Two questions come before. Are shape and kind those of the firmware that wrote
+ * the flash? By others words are taken for values that are none, and values are erased. And is the flash ready? So call ee_start
  * again, with pauses, before this.
  *
  * One word that went bad costs the value that it held, and no more: its address has an older value then, or none. That holds where
@@ -351,18 +364,27 @@ ee_result ee_counts(const ee_store *store, ee_numbers *numbers);
  * where they stand in the other set, ee_start and ee_open refuse the flash until that page is erased. Of a page that has such
  * numbers nothing is promised if power is cut in its erase.
  *
- * EE_OK; EE_NOTHING where no set is begun, EE_SPENT, EE_DRIVER. All but EE_OK and EE_DRIVER leave the flash as it was. */
+ * EE_OK; EE_OTHER_SHAPE, EE_NOTHING where no set is begun, EE_SPENT, EE_DRIVER. All but EE_OK and EE_DRIVER leave the flash as it
+ * was. */
 ee_result ee_rescue(ee_store *store, const ee_flash *flash);
 
 /* How many words are bad of the set that a rescue would take: they can't be read, or may not stand where they stand. 0 where
  * no set is begun. A word in whose step power was cut is one of them too, and refuses no opening. It takes no store and writes
- * nothing. EE_OK; EE_DRIVER, or EE_NULL and EE_WRONG_SHAPE. `count` is written with EE_OK alone. */
+ * nothing. EE_OK; EE_OTHER_SHAPE, EE_DRIVER, or EE_NULL and EE_WRONG_SHAPE. `count` is written with EE_OK alone. */
 ee_result ee_bad_words(const ee_flash *flash, uint32_t *count);
 
 /* Where the first word stands for which ee_start and ee_open answer EE_FOREIGN: its page, and its place there, of the words, also
- * on pairs. It takes no store and writes nothing. EE_OK; EE_NOTHING where a start doesn't answer that; EE_DRIVER, or EE_NULL and
- * EE_WRONG_SHAPE. Both are written with EE_OK alone. A program that doesn't call it has no byte of it. */
+ * on pairs. It takes no store and writes nothing. EE_OK; EE_NOTHING where a start doesn't answer that; EE_OTHER_SHAPE, EE_DRIVER,
+ * or EE_NULL and EE_WRONG_SHAPE. Both are written with EE_OK alone. A program that doesn't call it has no byte of it. */
 ee_result ee_foreign_word(const ee_flash *flash, uint32_t *page, uint32_t *word);
+
+/* What the store takes a word of a flash for: EE_OK, and its number, all ones for an erased one; EE_TORN; EE_DRIVER where a read
+ * failed, EE_WRONG_NUMBER where there is no such word, EE_NULL and EE_WRONG_SHAPE. It takes no store and writes nothing. */
+ee_result ee_word_of(const ee_flash *flash, uint32_t page, uint32_t word, uint64_t *number);
+
+/* The shape for which ee_start and the like answer EE_OTHER_SHAPE. It takes no store and writes nothing. EE_OK; EE_NOTHING where
+ * they don't answer that; EE_DRIVER, or EE_NULL and EE_WRONG_SHAPE. Both are written with EE_OK alone. */
+ee_result ee_other_shape(const ee_flash *flash, uint32_t *pages, uint32_t *page_words);
 
 /* Helpers, made of the calls above. A program that calls none of them is the same as without them, byte by byte. */
 
@@ -457,7 +479,7 @@ static inline uint32_t ee_noted_step(ee_noted *noted, uint32_t step, uint32_t pa
     if (code != 0) {
         noted->last.step = step;
         noted->last.page = page;
-        noted->last.word = noted->flash.kind == EE_WORDS ? place : place / 2;
+        noted->last.word = noted->flash.kind == EE_PAIRS || noted->flash.kind == EE_PAIRS_CLEARING ? place / 2 : place;
         noted->last.code = code;
     }
     return code;
@@ -527,6 +549,7 @@ static inline const char *ee_status_text(ee_result status) {
     case EE_NULL: return "a pointer is NULL";
     case EE_DUPLICATE: return "an address stands twice in the list";
     case EE_BUSY: return "another call on the store is being made";
+    case EE_OTHER_SHAPE: return "the store has other pages or page_words";
     default: return "no status of ee";
     }
 }

@@ -6,21 +6,10 @@
 
 #include "ee.h"
 
-/* What a word of the store is in a flash: EE_OK, and the word in `value`, all ones for an erased one; EE_TORN; EE_DRIVER where a
- * read failed. Of a pair it is what the two numbers say. */
-static inline ee_result ee_word_of(const ee_flash *flash, uint32_t page, uint32_t place, uint64_t *value) {
-    uint64_t other = 0;
-    uint32_t status = flash->word(flash->context, page, flash->kind == EE_WORDS ? place : 2 * place, value), second = 0;
-    if (flash->kind != EE_WORDS) second = flash->word(flash->context, page, 2 * place + 1, &other);
-    if ((status != 0 && status != EE_TORN) || (second != 0 && second != EE_TORN)) return EE_DRIVER;
-    if (status != 0 || second != 0) return EE_TORN;
-    if (flash->kind == EE_WORDS || (*value == UINT64_MAX && other == UINT64_MAX)) return EE_OK;
-    return *value != UINT64_MAX && other == ~*value ? EE_OK : EE_TORN;
-}
-
 /* Gives the flash as the text of an image, one character after the other, as to a UART: `ee inspect` and `ee run` read it. A torn
  * word is `?`, which no dump of bytes can say. How often pages were erased is not known, and stands as 0. The text has up to
- * 34 * pages * page_words bytes, and a few. EE_OK; EE_DRIVER where a read failed, and the text ends there; EE_NULL. */
+ * 34 * pages * page_words bytes, and a few. EE_OK; EE_DRIVER where a read failed, and the text ends there; EE_NULL and
+ * EE_WRONG_SHAPE. */
 static inline ee_result ee_dump(const ee_flash *flash, void (*put)(void *context, char character), void *context) {
     uint32_t page, place, part, shape[2];
     uint64_t value;
@@ -37,7 +26,7 @@ static inline ee_result ee_dump(const ee_flash *flash, void (*put)(void *context
         put(context, '\n'), put(context, '0');
         for (place = 0; place < flash->page_words; place++) {
             ee_result status = ee_word_of(flash, page, place, &value);
-            if (status == EE_DRIVER) return EE_DRIVER;
+            if (status != EE_OK && status != EE_TORN) return status;
             put(context, ' ');
             if (status != EE_OK || value == UINT64_MAX) put(context, status == EE_OK ? '-' : '?');
             else for (part = 0; part < 16; part++) put(context, "0123456789abcdef"[value >> (60 - 4 * part) & 15]);

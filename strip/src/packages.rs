@@ -106,7 +106,7 @@ pub fn ee_store() -> Package {
                 "ee_index",
                 "costs gathering guessing index indexed inner looking slot_index",
             ),
-            without("ee_nor", "coded laws"),
+            without("ee_nor", "laws"),
         ],
         macros: &["matches"],
         attributes_left_out: &["tactic"],

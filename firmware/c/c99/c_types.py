@@ -8,7 +8,7 @@ from .types import NUMBERS, UNIT, Type, is_ref, known
 C_NUMBERS = {"u8": "uint8_t", "u16": "uint16_t", "u32": "uint32_t", "u64": "uint64_t",
              "usize": "uint32_t"}
 # Structs that are the type of their one field, by its name.
-ALIASES = {"Address": "number", "Pairs": "nor"}
+ALIASES = {"Address": "number", "Pairs": "nor", "Coded": "nor"}
 # Structs that stand in ee.h, with their names there and their fields.
 IN_HEADER = {"Shape": ("struct ee_shape", ["pages", "words"]),
              "Layout": ("struct ee_layout", ["side", "generation", "fill", "current"]),
@@ -41,7 +41,7 @@ SHORT = {
 # What a call that may fail makes where its caller says, and what no caller asks for.
 PLACED, DROPPED = {"Layout", "CopyingPlace"}, {"Written"}
 # Types that are written by hand.
-HAND = {"Device", "Numbers", "Lookup"}
+HAND = {"Device", "Numbers", "EccNumbers", "Lookup"}
 # Names of those in ee.h that no item has: a tuple, and a list of such.
 ALSO_IN_HEADER = {"AddressAndU16": "ee_entry", "RoomOfEntry": "struct ee_room"}
 
@@ -144,8 +144,8 @@ class Types:
                 self.name(it.args[0])
             return self.name(Type("Result", [UNIT, it.args[1]])) if self.is_unit(it.args[1]) \
                 else self.name(it.args[1])
-        if it.name == "Pairs":
-            return "Numbers"
+        if it.name in ("Pairs", "Coded"):
+            return "Numbers" if it.name == "Pairs" else "EccNumbers"
         if is_ref(it):
             return self.pointer(it)
         if it.name == "tuple" and not it.args:

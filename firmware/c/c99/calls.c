@@ -64,7 +64,8 @@ static ee_result device_in(ee_store *memory, const ee_flash *flash) {
         return EE_NULL;
     }
     const MaybeShape shape = shape_new(flash->pages, flash->page_words);
-    if (!shape.some || flash->kind > EE_GREATEST_KIND) { return EE_WRONG_SHAPE; }
+    const bool is_kind = flash->kind == EE_WORDS || EE_IS_OF_PAIRS(flash) || EE_IS_CODED(flash);
+    if (!shape.some || !is_kind) { return EE_WRONG_SHAPE; }
     power->flash = flash;
     store_of(memory)->flash = (Device){ .power = power, .shape = shape.value };
     return EE_OK;
@@ -86,6 +87,17 @@ EE_APART ee_result opening_ended(ee_result status, ee_store *memory) {
     return answer;
 }
 
+/* The same of a flash that may hold a store: coded words are of this shape, or of none. */
+#ifdef EE_NO_CODED
+#define known_in device_in
+#else
+EE_APART ee_result known_in(ee_store *memory, const ee_flash *flash) {
+    const ee_result status = device_in(memory, flash);
+    if (status != EE_OK || !EE_IS_CODED(flash)) { return status; }
+    return other_shape(&store_of(memory)->flash).some ? opening_ended(EE_OTHER_SHAPE, memory) : status;
+}
+#endif
+
 /* Whether a word is written that a first start which was cut doesn't leave: any but the first two of
  * page 0, or but those of page 0 where an erase clears first. */
 EE_APART bool holds_more(const Device *device, bool clears_first) {
@@ -98,16 +110,17 @@ EE_APART bool holds_more(const Device *device, bool clears_first) {
 }
 
 /* Opens a store, or makes the first one where that may be. A flash of numbers is looked through
- * before, unless its erases clear first: EE_FOREIGN where a word is no store's. Where it holds more
- * than a first start leaves it is opened, and no first store made there. */
+ * before, unless its erases clear first: EE_FOREIGN where a word is no store's. Where numbers or
+ * coded words hold more than a first start leaves it is opened, and no first store made there. */
 static ee_result started(ee_store *memory, const ee_flash *flash, bool may_be_new) {
-    const ee_result refused = device_in(memory, flash);
+    const ee_result refused = known_in(memory, flash);
     if (refused != EE_OK) { return refused; }
     Device *const device = &store_of(memory)->flash;
     Layout *const layout = &store_of(memory)->known.layout;
-    if (EE_IS_OF_PAIRS(flash)) {
+    if (EE_IS_OF_PAIRS(flash) || EE_IS_CODED(flash)) {
         const bool clears_first = flash->kind == EE_PAIRS_CLEARING;
-        if (!clears_first && first_low(device).some) { return opening_ended(EE_FOREIGN, memory); }
+        const bool is_looked_through = EE_IS_OF_PAIRS(flash) && !clears_first;
+        if (is_looked_through && first_low(device).some) { return opening_ended(EE_FOREIGN, memory); }
         may_be_new = may_be_new && !holds_more(device, clears_first);
     }
     return opening_ended(may_be_new ? start_on(device, layout) : open_on(device, layout), memory);
@@ -131,7 +144,7 @@ ee_result ee_format(ee_store *store, const ee_flash *flash) {
 #ifndef EE_NO_RESCUE
 /* A pair of numbers that no store wrote is torn here, where an opening refuses it. */
 ee_result ee_rescue(ee_store *store, const ee_flash *flash) {
-    const ee_result refused = device_in(store, flash);
+    const ee_result refused = known_in(store, flash);
     if (refused != EE_OK) { return refused; }
     Store *const kept = store_of(store);
     const MaybeSide side = rescued_side(&kept->flash);
@@ -144,7 +157,7 @@ ee_result ee_rescue(ee_store *store, const ee_flash *flash) {
 
 ee_result ee_bad_words(const ee_flash *flash, uint32_t *count) {
     ee_store looked;
-    const ee_result refused = device_in(&looked, count == NULL ? NULL : flash);
+    const ee_result refused = known_in(&looked, count == NULL ? NULL : flash);
     if (refused != EE_OK) { return refused; }
     return told(EE_OK, &looked, bad_words(&looked.memory.parts.store.flash), count);
 }
@@ -152,7 +165,7 @@ ee_result ee_bad_words(const ee_flash *flash, uint32_t *count) {
 /* It looks for what an opening is refused for. */
 ee_result ee_foreign_word(const ee_flash *flash, uint32_t *page, uint32_t *word) {
     ee_store looked;
-    ee_result status = device_in(&looked, page == NULL || word == NULL ? NULL : flash);
+    ee_result status = known_in(&looked, page == NULL || word == NULL ? NULL : flash);
     if (status != EE_OK) { return status; }
     const Device *const device = &looked.memory.parts.store.flash;
     MaybeLowPair found = { .some = false };
@@ -166,6 +179,29 @@ ee_result ee_foreign_word(const ee_flash *flash, uint32_t *page, uint32_t *word)
     }
     status = told(found.some ? EE_OK : EE_NOTHING, &looked, found.value.word, word);
     if (status == EE_OK) { *page = found.value.page; }
+    return status;
+}
+
+ee_result ee_word_of(const ee_flash *flash, uint32_t page, uint32_t word, uint64_t *number) {
+    ee_store looked;
+    const ee_result status = device_in(&looked, number == NULL ? NULL : flash);
+    if (status != EE_OK) { return status; }
+    if (page >= 2u * flash->pages || word >= flash->page_words) { return EE_WRONG_NUMBER; }
+    const Word found = device_word(&looked.memory.parts.store.flash, page, word);
+    if (looked.memory.parts.power.flash == NULL) { return EE_DRIVER; }
+    if (found.tag == Word_Torn) { return EE_TORN; }
+    *number = found.tag == Word_Held ? found.held : UINT64_MAX;
+    return EE_OK;
+}
+
+ee_result ee_other_shape(const ee_flash *flash, uint32_t *pages, uint32_t *page_words) {
+    ee_store looked;
+    ee_result status = device_in(&looked, pages == NULL || page_words == NULL ? NULL : flash);
+    if (status != EE_OK) { return status; }
+    MaybeOtherShape found = { .some = false };
+    if (EE_IS_CODED(flash)) { found = other_shape(&looked.memory.parts.store.flash); }
+    status = told(found.some ? EE_OK : EE_NOTHING, &looked, found.value.pages, pages);
+    if (status == EE_OK) { *page_words = found.value.words; }
     return status;
 }
 #endif

@@ -54,13 +54,52 @@ EE_IN_PLACE Step numbers_program(const Numbers *numbers, uint32_t page, uint32_t
     return step_ended(numbers, flash->program(flash->context, page, at, number));
 }
 
-/* What a word holds. One that reads as all ones is erased, and one that can't be read is torn. */
+/* The same of a flash of coded words. */
+EE_IN_PLACE Step ecc_numbers_program(const EccNumbers *numbers, uint32_t page, uint32_t at,
+        uint64_t number) {
+    return numbers_program(numbers, page, at, number);
+}
+
+/* One that can't be read is none, and so is 0, which is no coded word either. */
+EE_IN_PLACE MaybeU64 ecc_numbers_read(const EccNumbers *numbers, uint32_t page, uint32_t at) {
+    const uint64_t number = numbers_read(numbers, page, at);
+    return (MaybeU64){ .some = number != 0u, .value = number };
+}
+
+/* What a reading of a run says. Of words and of pairs it is the number of the word; of a device that
+ * is off it counts for nothing. */
+#ifdef EE_NO_CODED
+#define device_number(device, reading) ((void)(device), (reading))
+#define device_in_clear(device, reading) ((void)(device), (reading))
+#else
+EE_APART uint64_t device_number(const Device *device, uint64_t reading) {
+    const ee_flash *const flash = device->power->flash;
+    return flash != NULL && EE_IS_CODED(flash) ? coded_number(device, reading) : reading;
+}
+
+/* Which bits of a reading stand in clear: asked once for all of a run. */
+EE_PURE uint64_t clear_bits(const Device *device) {
+    const ee_flash *const flash = device->power->flash;
+    return flash != NULL && EE_IS_CODED(flash) ? coded_in_clear(device, UINT64_MAX) : UINT64_MAX;
+}
+
+EE_IN_PLACE uint64_t device_in_clear(const Device *device, uint64_t reading) {
+    return reading & clear_bits(device);
+}
+#endif
+
+/* What a word holds. One that reads as all ones is erased, and one that can't be read is torn. So is
+ * one of the number 0 where words are coded: no coded word has it. */
 static Word device_word(const Device *device, uint32_t page, uint32_t at) {
     const ee_flash *const flash = flash_with(device, page, at);
     if (flash == NULL) { return word_torn(); }
     if (EE_IS_OF_PAIRS(flash)) { return pairs_word(device, page, at); }
     uint64_t number = 0u;
     if (!is_read(device, flash, page, at, &number)) { return word_torn(); }
+    if (EE_IS_CODED(flash)) {
+        number = device_number(device, number);
+        if (number == 0u) { return word_torn(); }
+    }
     return number == UINT64_MAX ? word_erased() : word_held(number);
 }
 
@@ -80,8 +119,8 @@ static void device_fill(const Device *device, const ee_flash *flash, uint32_t pa
     }
 }
 
-/* The numbers of the words from a place on, as many as there is room for: all ones of an erased
- * word, 0 of a torn one. They stand in the room, or where C has them. */
+/* Readings of the words from a place on, as many as there is room for: all ones of an erased word, 0
+ * of one that can't be read. They stand in the room, or where C has them. */
 EE_APART const uint64_t *run_at(const Device *device, uint32_t page, uint32_t at, uint64_t *items,
         uint32_t len) {
     const ee_flash *const flash = flash_with(device, page, at);
@@ -105,6 +144,7 @@ EE_IN_PLACE ListOfU64 device_run(const Device *device, uint32_t page, uint32_t a
 static Step device_program(Device *device, uint32_t page, uint32_t at, uint64_t value) {
     const ee_flash *const flash = flash_with(device, page, 0u);
     if (flash == NULL) { return CUT; }
+    if (EE_IS_CODED(flash)) { return coded_program(device, page, at, value); }
     return EE_IS_OF_PAIRS(flash) ? pairs_program(device, page, at, value)
             : numbers_program(device, page, at, value);
 }

@@ -11,29 +11,37 @@
 #include <stdint.h>
 
 /* By hand. A function that stands in the places where it is called, at every level of optimisation,
- * and one that stands in none of them, so that its stack is not theirs. C99 has no words for it. An
+ * and one that stands in none of them, so that its stack is not theirs; one that changes nothing, so
+ * that a loop asks it once. C99 has no words for it. An
  * interrupt sees what stands before EE_IN_ORDER, and nothing of what stands behind it. */
 #if defined(__GNUC__)
 #define EE_IN_PLACE static inline __attribute__((always_inline))
 #define EE_APART static __attribute__((noinline))
+#define EE_PURE static __attribute__((noinline, pure))
 #define EE_IN_ORDER() __asm__ volatile("" : : : "memory")
 #else
 #define EE_IN_PLACE static inline
 #define EE_APART static
+#define EE_PURE static
 #define EE_IN_ORDER() ((void)0)
 #endif
 
 /* By hand. Functions that only calls use which are left out have no use. */
-#if defined(__GNUC__) && (defined(EE_NO_PAIRS) || defined(EE_NO_LISTS) || defined(EE_NO_FORGET) || \
-        defined(EE_NO_RESCUE))
+#if defined(__GNUC__) && (defined(EE_NO_PAIRS) || defined(EE_NO_CODED) || defined(EE_NO_LISTS) || \
+        defined(EE_NO_FORGET) || defined(EE_NO_RESCUE))
 #pragma GCC diagnostic ignored "-Wunused-function"
 #endif
 
-/* By hand. What a flash may have, and whether it has numbers, two for each word. */
+/* By hand. Whether a flash has numbers, two for each word, and whether it has coded words. */
 #ifdef EE_NO_PAIRS
-#define EE_GREATEST_KIND EE_WORDS
 #define EE_IS_OF_PAIRS(flash) ((void)(flash), false)
-#else
-#define EE_GREATEST_KIND EE_PAIRS_CLEARING
+#elif defined(EE_NO_CODED)
 #define EE_IS_OF_PAIRS(flash) ((flash)->kind != EE_WORDS)
+#else
+#define EE_IS_OF_PAIRS(flash) ((flash)->kind - EE_PAIRS <= EE_PAIRS_CLEARING - EE_PAIRS)
+#endif
+#ifdef EE_NO_CODED
+#define EE_IS_CODED(flash) ((void)(flash), false)
+#else
+#define EE_IS_CODED(flash) ((flash)->kind == EE_CODED)
 #endif

@@ -93,14 +93,13 @@ class Source(Expressions):
         return (name, self.type(), doc)
 
     def item_struct(self, doc, copies):
-        name = self.take()
-        self.generics()
+        name, bounds = self.take(), self.generics()
         fields = []
         if self.maybe("{"):
             fields = self.listed("}", self.field)
         else:
             self.take(";")
-        return [Node("struct", name=name, fields=fields, doc=doc, copy=copies)]
+        return [Node("struct", name=name, bounds=bounds, fields=fields, doc=doc, copy=copies)]
 
     def item_enum(self, doc, copies):
         name = self.take()

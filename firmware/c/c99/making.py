@@ -3,7 +3,7 @@ import re
 import textwrap
 from pathlib import Path
 
-from .c_types import HAND, IN_HEADER, comment_of
+from .c_types import C_NUMBERS, HAND, IN_HEADER, comment_of
 from .items import Source
 from .lexing import Refused
 from .program import FAULTS, INNER, Module, Program, is_flat
@@ -22,6 +22,7 @@ ORDER = {
                "variables known store formatting opening first_start rescuing",
     "ee_index": "entries listing lent_list entering reading lent_cursor index_changing lent_index",
     "ee_nor": "nor pairs runs low_pair wiping",
+    "ee_nor/coded": "ecc_nor code words runs shapes wiping coded",
 }
 LOOKUPS = "value_of live_count live_with next_live make_ready make_room append transfer find_nothing".split()
 # What the parts by hand call.
@@ -33,7 +34,9 @@ ROOTS = [
     *[("Store", name) for name in "write write_all forget clear clean_step read load next_live slots fill "
       "generation live_count pending torn_slots".split()],
     ("span", "read_span"), ("Span", "of_one"),
-    ("Pairs", "word"), ("Pairs", "run"), ("Pairs", "program"), ("state", "is_blank"), ("state", "blank_to"),
+    ("Pairs", "word"), ("Pairs", "run"), ("Pairs", "program"),
+    ("Coded", "number"), ("Coded", "in_clear"), ("Coded", "program"), ("shapes", "other_shape"),
+    ("state", "is_blank"), ("state", "blank_to"),
     ("Shape", "new"), ("Address", "new"),
 ]
 # What they call with an index.
@@ -52,6 +55,11 @@ HELPERS = {
     "u16_wrapping_sub": ["/* By hand. The difference, modulo 2 to the power of 16. */",
                          "static inline uint16_t u16_wrapping_sub(uint16_t a, uint16_t b) {",
                          "    return (uint16_t)((uint32_t)a - b);", "}"],
+    "u32_count_ones": ["/* By hand. How many ones a number has: of each two bits, each four, each eight, and all. */",
+                       "EE_IN_PLACE uint32_t u32_count_ones(uint32_t number) {",
+                       "    const uint32_t twos = number - ((number >> 1u) & UINT32_C(0x55555555));",
+                       "    const uint32_t fours = (twos & UINT32_C(0x33333333)) + ((twos >> 2u) & UINT32_C(0x33333333));",
+                       "    return ((fours + (fours >> 4u)) & UINT32_C(0x0f0f0f0f)) * UINT32_C(0x01010101) >> 24u;", "}"],
     "u32_least": ["/* By hand. The lesser of two numbers. */",
                   "static inline uint32_t u32_least(uint32_t a, uint32_t b) {",
                   "    return a < b ? a : b;", "}"],
@@ -62,16 +70,17 @@ def sources(folder_of_all):
     """The sources, read. Each of them has a place, but for those of an index."""
     modules, names = [], set()
     for folder, ordered in ORDER.items():
-        there = {p.stem for p in (folder_of_all / folder).glob("*.rs")} - {"mod", "inner"}
+        own = folder_of_all / folder
+        there = {p.stem for p in own.glob("*.rs") if not p.with_suffix("").is_dir()} - {"mod", "inner"}
         if there != set(ordered.split()):
             odd = ", ".join(sorted(there ^ set(ordered.split())))
-            raise Refused(f"{folder_of_all / folder}: no place for, or no file: {odd}")
+            raise Refused(f"{own}: no place for, or no file: {odd}")
         for stem in ordered.split():
-            path = folder_of_all / folder / f"{stem}.rs"
+            path = own / f"{stem}.rs"
             # Two folders have a module `marking`: the second is named by its folder too.
-            name = stem if stem not in names else f"{folder.removeprefix('ee_')}_{stem}"
+            name = stem if stem not in names else f"{own.name.removeprefix('ee_')}_{stem}"
             names.add(name)
-            modules.append(Module(folder, name, Source(path.read_text(encoding="utf-8"),
+            modules.append(Module(own.name, name, Source(path.read_text(encoding="utf-8"),
                                                        path).items(), path))
     return modules
 
@@ -162,6 +171,12 @@ class Making:
     def constants(self):
         lines = []
         for name, const in self.writer.consts.items():
+            if const.value.kind == "list":
+                items = ", ".join(part.text for part in const.value.parts)
+                of_item = C_NUMBERS[const.ty[1][0][0]]
+                lines += [*comment_of(const.doc), f"static const {of_item} {name}[{const.ty[2]}] = {{"]
+                lines += [*textwrap.wrap(items, WIDTH, initial_indent="    ", subsequent_indent="    "), "};", ""]
+                continue
             digits = const.value.text.replace("_", "")
             width = 64 if const.ty[0] == "u64" else 32
             value = f"{digits}u" if int(digits, 0) <= 0xffff else f"UINT{width}_C({digits})"

@@ -3,11 +3,11 @@ from .lexing import Refused
 from .types import NUMBERS, Type
 
 # The one type that each bound of the sources stands for here.
-BOUNDS = {"Flash": "Device", "Nor": "Numbers", "Lookup": "Lookup", "Listing": "LentList"}
+BOUNDS = {"Flash": "Device", "Nor": "Numbers", "EccNor": "EccNumbers", "Lookup": "Lookup", "Listing": "LentList"}
 # The bounds that stand for several types: a function is made for each that it is called with.
 GIVEN_BY_CALLS = ("Copy", "LiveCursor")
 # The traits whose methods are written by hand.
-BY_HAND = ("Flash", "Nor", "Lookup")
+BY_HAND = ("Flash", "Nor", "EccNor", "Lookup")
 # Constants of types that stand outside of the sources, with their values.
 BY_VALUE = {"Address::LEAST": "1u"}
 # The enums that say why a call isn't made: in C each is the status of ee.h that tells it, and what
@@ -126,7 +126,7 @@ class Program:
             folders = [word for word in path if word in self.folder.values()]
             modules = [word for word in path[:-1] if word in self.folder]
             if folders:
-                found = [(m, item) for m, item in found if self.folder[m] == folders[0]]
+                found = [(m, item) for m, item in found if self.folder[m] == folders[-1]]
             if modules and len(found) > 1:
                 found = [(m, item) for m, item in found if m in modules]
         return found[0][1] if len(found) == 1 else None
@@ -160,7 +160,8 @@ class Program:
 
     def field_types(self, item):
         """The fields of a struct, with their types and comments."""
-        return [(name, self.type(of_type, item.module, PARAMETERS), doc)
+        bounds = {**PARAMETERS, **item.bounds}
+        return [(name, self.type(of_type, item.module, bounds), doc)
                 for name, of_type, doc in item.fields]
 
     def variant_fields(self, item, variant):

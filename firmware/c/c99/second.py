@@ -9,17 +9,19 @@ from collections import namedtuple
 
 TOKEN = re.compile(r"0x[0-9a-fA-F_]+|\d[\d_]*|[A-Za-z_]\w*|\.\.|::|->|=>|==|!=|<=|>=|&&|\|\||<<|>>"
                    r"|\+\+|--|\+=|-=|[^\s\w]")
-FOLDERS = ("ee_flash", "ee_codec", "ee_pages", "ee_core", "ee_index", "ee_nor")
-OPERATORS = {"&&", "||", "+", "-", "*", "/", "%", "<<", ">>", "&", "|", "+=", "-=", "<", "<=", ">",
+FOLDERS = ("ee_flash", "ee_codec", "ee_pages", "ee_core", "ee_index", "ee_nor",
+           "ee_nor/coded")
+OPERATORS = {"&&", "||", "+", "-", "*", "/", "%", "<<", ">>", "&", "|", "^", "+=", "-=", "<", "<=", ">",
              ">="}
 # Signs behind which `&`, `*` and `-` have one operand.
 BEFORE = {"", "(", ",", "=", "{", "}", ";", "return", "&&", "||", "=>", "!", "in", ":", "?", "[",
           "if", "match", "const", "mut", "==", *OPERATORS}
 # Methods of the device, which are written by hand in ee.c, and Rust's own.
-DEVICE = {f"{owner}_{name}": name for owner in ("device", "numbers")
-          for name in ("word", "run", "read", "window", "program", "erase", "is_on")}
+DEVICE = {f"{owner}_{name}": name for owner in ("device", "numbers", "ecc_numbers")
+          for name in ("word", "run", "number", "in_clear", "read", "window", "program", "erase", "is_on")}
 OWN = {"u32_saturating_sub": "saturating_sub", "u32_wrapping_sub": "wrapping_sub",
        "u32_wrapping_add": "wrapping_add", "u16_wrapping_sub": "wrapping_sub", "u32_least": "min",
+       "u32_count_ones": "count_ones",
        "copy_within": "copy_within", "get": "get"}
 # Methods that give a field, where they have no argument.
 FIELDS = {"shape", "pages", "words", "get", "len", "count"}
@@ -169,8 +171,8 @@ class Rust:
         """Counts a token outside of patterns."""
         token, (before, after) = tokens[at], around
         if token in ("Some", "Ok", "Err", "None"):
-            # `None => None, Some(..` is as `?`.
-            if tokens[at - 2:at + 3] != ["None", "=>", "None", ",", "Some"]:
+            # `None => None, Some(..` and `let Some(it) = .. else { return None; }` are as `?`.
+            if tokens[at - 2:at + 3] != ["None", "=>", "None", ",", "Some"] and not is_tried(tokens, at):
                 rows.made.append(token)
         elif after == "(" and token in self.known and token != "is_empty":
             if not (before == "." and token in FIELDS and tokens[at + 2] == ")"):
@@ -178,6 +180,14 @@ class Rust:
         if token in OPERATORS and not has_one_operand(tokens, at):
             in_pattern = token == "|" and "matches" in tokens and before in ("}", ")")
             rows.operators.append("||" if in_pattern else token)
+
+
+def is_tried(tokens, at):
+    """Whether a `None` is what a `let` of one name gives where there is none."""
+    if tokens[at - 3:at + 2] != ["else", "{", "return", "None", ";"]:
+        return False
+    begin = at - tokens[at::-1].index("let")
+    return tokens[begin + 1:begin + 3] == ["Some", "("] and tokens[begin + 4:begin + 6] == [")", "="]
 
 
 def arm_begin(tokens, at):
@@ -233,7 +243,7 @@ FORMS = [
     # `?`
     (r"(\w+|\))( == CUT\)) \{\s*return (?:CUT|\w+_err\(\));\s*\}", r"\1 TRY);"),
     (r"if \(!(\w+_result)\.ok\) \{\s*return (?:CUT|\1\.error|\w+_err\((?:\1\.error)?\));\s*\}", ""),
-    (r"if \(!(maybe_\w+)\.some\) \{\s*return \w+_none\(\);\s*\}\s*const \w+ \w+ = \1\.value;",
+    (r"if \(!([\w.>-]+)\.some\) \{\s*return \w+_none\(\);\s*\}\s*const \w+ \w+ = \1\.value;",
      "TRY_OPTION"),
     # Parts of a pattern that C asks for one by one.
     (r"!?[\w.>-]+\.some &&\s+(?=!?[\w.>-]+\.some|kind == )", ""),

@@ -15,11 +15,11 @@ AND, EQUAL = LEVEL["&&"], LEVEL["=="]
 CHOICE, UNARY, POSTFIX = 0, 11, 12
 # Methods of Rust's own on numbers, by their names in C.
 OWN = {"saturating_sub": "saturating_sub", "wrapping_sub": "wrapping_sub", "wrapping_add": "wrapping_add",
-       "min": "least"}
+       "min": "least", "count_ones": "count_ones"}
 # Types of the hand-written part over the driver.
-DEVICES = {"Device", "Numbers"}
+DEVICES = {"Device", "Numbers", "EccNumbers"}
 # What asks the device.
-ASKING = HAND | {"Pairs", "Store"}
+ASKING = HAND | {"Pairs", "Coded", "Store"}
 
 
 class Piece:
@@ -253,7 +253,8 @@ class Values(Cases):
         if it.name in OWN:
             name = f"{known(it.ty).name}_{OWN[it.name]}"
             name = name.replace("usize", "u32")
-            return Piece(f"{name}({self.value(it.e).text}, {self.value(it.args[0]).text})")
+            args = ", ".join(self.value(part).text for part in (it.e, *it.args))
+            return Piece(f"{name}({args})")
         if it.name in ("is_ok", "is_err"):
             return self.is_good(it)
         if it.name == "get":

@@ -9,17 +9,20 @@ from .types import is_slice, known, referred
 from .values import ASKING
 
 # What the hand-written part has for a device: a field for a method, and functions.
-FIELDS = {("Device", "shape"): "shape", ("Numbers", "shape"): "shape"}
+FIELDS = {("Device", "shape"): "shape", ("Numbers", "shape"): "shape",
+          ("EccNumbers", "shape"): "shape"}
 # Names that C libraries have, or the calls of ee.h.
 RESERVED = {"open", "remove", "read", "write", "close", "start", "format", "mark", "clean"}
 
 
 # Functions, by their names in C, that stand in place there or apart, whatever rustc is told. Apart
-# gcc keeps both halves of a word in registers, of which an M0+ has few, and a write and a list of
-# values have one body of a move; in place no struct goes through memory.
+# gcc keeps both halves of a word in registers, of which an M0+ has few, a write and a list of
+# values have one body of a move; in place no struct goes
+# through memory.
 INLINE = {"state_is_blank": "always", "is_erased": "never", "fill_from_window": "never",
           "known_move_value": "always", "store_write": "never", "store_write_several": "never",
-          "next_shown": "always", "index_cursor_next": "always", "lent_cursor_next": "always"}
+          "next_shown": "always", "index_cursor_next": "always", "lent_cursor_next": "always",
+          "said_by": "always", "payload_of": "always", "other_named": "never", "other_shape": "always"}
 # The sources' marks of where a function's code stands, in C.
 MARKS = {"always": "EE_IN_PLACE", "never": "EE_APART", None: "static"}
 LOOPS = {"for", "while", "whilelet", "loop"}

@@ -1,7 +1,7 @@
 /* Each call on a store of zeros, and then two and a half thousand calls on flash in an array: writes for the most part, and some of each other call, of ee_write_all
  * but with LISTS 0. One step in
  * fifty or so is cut, torn in some way, and the store opened again. Then each word of the flash is damaged in turn, and a
- * variable is read. With PAIRS the flash has numbers, two for each word, and a cut leaves some of their bits. With MAPPED
+ * variable is read. With PAIRS the flash has numbers, two for each word, with CODED coded words, and a cut leaves some bits. With MAPPED
  * words are looked at where they stand, but where one of them can't be read. */
 #include "checksum.h"
 
@@ -9,6 +9,9 @@
 
 #ifndef PAIRS
 #define PAIRS 0
+#endif
+#ifndef CODED
+#define CODED 0
 #endif
 #ifndef LISTS
 #define LISTS 1
@@ -75,7 +78,7 @@ static void tear(uint32_t i, uint64_t value) {
     if (left == 1) {
         words[i] = value;
         torn[i] = 0;
-    } else if (left == 2 && PAIRS) {
+    } else if (left == 2 && (PAIRS || CODED)) {
         words[i] = (words[i] & value) | (uint64_t)below(UINT32_MAX) << below(33);
     } else if (left == 2) {
         torn[i] = 1;
@@ -246,7 +249,7 @@ uint64_t checksum(void) {
     seed = 20261123;
     for (int shape = 0; shape < SHAPES; shape++) {
         flash.pages = shapes[shape].pages, flash.page_words = shapes[shape].page_words;
-        flash.word = word, flash.program = program, flash.erase = erase, flash.kind = PAIRS;
+        flash.word = word, flash.program = program, flash.erase = erase, flash.kind = CODED ? EE_CODED : PAIRS;
 #if MAPPED
         flash.words = several;
 #endif

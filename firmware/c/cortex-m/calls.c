@@ -1,11 +1,14 @@
 /* Prints how many ticks of the core's timer four calls take: a write into a free slot, a read that looks through all
  * slots, an opening, and a write that moves. The flash is in memory: two sets of one page of 256 words, with 50
- * variables. With PAIRS it has numbers, two for each word. With MAPPED words are looked at where they stand. With QEMU's -icount a tick is so many instructions. */
+ * variables. With PAIRS it has numbers, two for each word, with CODED coded words. With MAPPED words are looked at where they stand. With QEMU's -icount a tick is so many instructions. */
 #include "../ee.h"
 #include "core.h"
 
 #ifndef PAIRS
 #define PAIRS 0
+#endif
+#ifndef CODED
+#define CODED 0
 #endif
 #ifndef MAPPED
 #define MAPPED 0
@@ -47,7 +50,7 @@ static const ee_flash flash = {
 #if MAPPED
     .words = several,
 #endif
-    .pages = 1, .page_words = PAGE_WORDS, .word = word, .program = program, .erase = erase, .kind = PAIRS};
+    .pages = 1, .page_words = PAGE_WORDS, .word = word, .program = program, .erase = erase, .kind = CODED ? EE_CODED : PAIRS};
 
 static void check(uint32_t status) {
     if (status != EE_OK) end(0);

@@ -366,7 +366,7 @@ ee_flash stm32_ecc_flash(stm32_ecc *part, uint32_t address, uint32_t pages) {
         .word = word,
         .program = program,
         .erase = erase,
-        .kind = STM32_ECC_PAIRS ? EE_PAIRS_CLEARING : EE_WORDS,
+        .kind = STM32_ECC_PAIRS ? EE_PAIRS_CLEARING : EE_CODED,
         .words = words,
     };
     part->flash = EE_AT(address);

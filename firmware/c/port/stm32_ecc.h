@@ -28,8 +28,9 @@
  * - A second read of what the part read last may raise no NMI. The NMI may come some cycles behind the read: the port waits
  *   until the handler has taken the flag.
  * - A word that reads as all ones by a correction can't be programmed (likely). So it counts as torn until an erase.
- * - Two cells of an erased word that a cut cleared may read with no flag (the manuals' note on virgin words, likely). No port can
- *   tell that: such a word is no value, and the next start may answer EE_FOREIGN.
+ * - Words are coded (EE_CODED), since ECC corrects some words that a cut left into others. Two cells of an erased word that a cut
+ *   cleared may read with no flag (the manuals' note on virgin words, likely): such a word counts as torn. A product that has a
+ *   store of words sets `kind` of the `ee_flash` to EE_WORDS.
  * - Flash is written in voltage range 1 alone (VOS in PWR_CR1; of an L4 sure, of a G4, WB and WL likely, of the others not sure):
  *   the program sees to that.
  * - Whether a C0 has ECC is not known, and of a U0 it is likely. So their words are pairs of numbers, and an error is taken where

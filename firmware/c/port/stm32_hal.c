@@ -442,7 +442,7 @@ ee_flash stm32_hal_flash(stm32_hal *part, uint32_t address, uint32_t pages) {
         .word = word,
         .program = program,
         .erase = erase,
-        .kind = STM32_HAL_BITS == 64 ? EE_WORDS : EE_PAIRS_CLEARING,
+        .kind = STM32_HAL_BITS == 64 ? EE_CODED : EE_PAIRS_CLEARING,
         .words = words,
     };
     part->flash = EE_AT(address);

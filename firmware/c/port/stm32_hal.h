@@ -5,7 +5,8 @@
  * proved.
  *
  * The family's macro, which the HAL's header defines, chooses how the part programs:
- * - STM32G0, STM32G4, STM32L4, STM32WB, STM32WL: double words with ECC. They are the store's words.
+ * - STM32G0, STM32G4, STM32L4, STM32WB, STM32WL: double words with ECC. They are the store's coded words;
+ *   a product that has a store of words sets `kind` of the `ee_flash` to EE_WORDS.
  * - STM32F2, STM32F4: words of 32 bits, with a supply of 2.7 V at least; with STM32_HAL_BITS 16 from 2.1 V on, with 8 from
  *   1.8 V on. The store's words are pairs of numbers.
  * - STM32F0, STM32F1, STM32F3: half words, while the internal oscillator (HSI) is on. The store's words are pairs of

@@ -290,7 +290,7 @@ ee_flash stm32u5_flash(stm32u5 *part, uint32_t address, uint32_t pages) {
         .word = word,
         .program = program,
         .erase = erase,
-        .kind = EE_WORDS,
+        .kind = EE_CODED,
         .words = words,
     };
     part->flash = EE_AT(address);

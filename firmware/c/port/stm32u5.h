@@ -1,7 +1,7 @@
 /* SPDX-License-Identifier: MIT OR Apache-2.0 */
 /* An example of a port: a store in the flash of an STM32U5, H5 or WBA, which programs 128 bits at once, with error correction over
- * them. So each word of the store takes a unit of 16 bytes, with its complement in the second half; the store knows nothing
- * of it (`kind` is EE_WORDS). It was tested on a computer against a model of the registers, the cache and the NMI
+ * them. So each word of the store, which is coded (EE_CODED), takes a unit of 16 bytes, with its complement in the second half; the
+ * store knows nothing of that. A product that has a store of words sets `kind` of the `ee_flash` to EE_WORDS. It was tested on a computer against a model of the registers, the cache and the NMI
  * (tests/stm32u5.c), and never on a board. Nothing of it is proved. It uses the registers of a non-secure program. ST's headers
  * define the family, as STM32H5; a program without them has -DSTM32H5 or -DSTM32WBA. Without either it is of a U5.
  *

@@ -88,12 +88,12 @@ static uint32_t word(void *context, uint32_t page, uint32_t place, uint64_t *val
     uint64_t numbers[MOST_NUMBERS];
     off_t offset = offset_of(part, page, place);
     part->is_noted = 0;
-    part->is_reading = part->kind == EE_WORDS;
+    part->is_reading = part->kind == EE_CODED;
     EE_BARRIER();
     int status = flash_read(part->device, offset, numbers, part->unit_bytes);
     EE_BARRIER();
     part->is_reading = 0;
-    if (part->kind == EE_WORDS) {
+    if (part->kind == EE_CODED) {
         if (is_noted(part, offset)) return EE_TORN;
         if (part->is_torn && part->is_torn(part->device, offset, status)) return EE_TORN;
     }
@@ -105,7 +105,7 @@ static uint32_t word(void *context, uint32_t page, uint32_t place, uint64_t *val
 /* Reads numbers into the port's room at once; words with ECC one by one, up to the first that can't be read. */
 static const uint64_t *words(void *context, uint32_t page, uint32_t place, uint32_t count) {
     zephyr_part *part = context;
-    if (part->kind != EE_WORDS) {
+    if (part->kind != EE_CODED) {
         int status = flash_read(part->device, offset_of(part, page, place), part->run, count * NUMBER_BYTES);
         return status == 0 ? part->run : NULL;
     }
@@ -156,7 +156,7 @@ static int find_pages(zephyr_part *part) {
 static int find_unit(zephyr_part *part) {
     size_t block = flash_get_write_block_size(part->device);
     int is_paired = block < NUMBER_BYTES || (block == NUMBER_BYTES && !ZEPHYR_HAS_ECC);
-    part->kind = !is_paired ? EE_WORDS : ZEPHYR_IS_ONE_WAY ? EE_PAIRS : EE_PAIRS_CLEARING;
+    part->kind = !is_paired ? EE_CODED : ZEPHYR_IS_ONE_WAY ? EE_PAIRS : EE_PAIRS_CLEARING;
     part->unit_bytes = is_paired ? NUMBER_BYTES : (uint32_t)block;
     if (block == 0 || block > MOST_NUMBERS * NUMBER_BYTES || part->unit_bytes % block != 0) return -EINVAL;
     if (part->unit_bytes % NUMBER_BYTES != 0) return -EINVAL;
@@ -169,7 +169,7 @@ int zephyr_flash(zephyr_part *part, ee_flash *flash) {
     if (status == 0) status = find_unit(part);
     if (status != 0) return status;
     uint32_t all = part->page_bytes == 0 ? 0 : (uint32_t)(part->size / part->page_bytes);
-    uint32_t shift = part->kind != EE_WORDS; /* a pair has two numbers */
+    uint32_t shift = part->kind != EE_CODED; /* a pair has two numbers */
     uint32_t page_words = part->page_bytes / (part->unit_bytes << shift);
     if (page_words > MOST_WORDS) page_words = MOST_WORDS;
     if (all == 0 || all % 2 != 0 || all / 2 > MOST_PAGES || page_words < LEAST_WORDS) return -EINVAL;

@@ -9,8 +9,10 @@
  * store is:
  *
  *     1, 2, 4    a pair of numbers
- *     8          with CONFIG_EE_ECC the part's own word, else a pair of numbers
- *     16, 32     a word, its complement and zeros in one block of the part, which has ECC over it
+ *     8          with CONFIG_EE_ECC the part's own word, coded (EE_CODED), else a pair of numbers
+ *     16, 32     a coded word, its complement and zeros in one block of the part, which has ECC over it
+ *
+ * A product that has a store of words sets `kind` of the `ee_flash` to EE_WORDS.
  *
  * Pairs are right only on a part without ECC. They are EE_PAIRS_CLEARING, for an erase that may clear cells before it sets
  * them; no driver tells. With CONFIG_EE_ONE_WAY they are EE_PAIRS, for a part whose cut erase is known to clear no cell.
@@ -69,7 +71,7 @@ typedef struct zephyr_part {
     uint32_t unit_bytes; /* of a word, or of a number */
     uint32_t page_bytes; /* of an erased page */
     uint32_t places;     /* the words or the numbers of a page */
-    uint32_t kind;       /* of the flash: EE_WORDS, EE_PAIRS or EE_PAIRS_CLEARING */
+    uint32_t kind;       /* of the flash: EE_CODED, EE_PAIRS or EE_PAIRS_CLEARING */
     volatile uint32_t is_reading, is_noted; /* whether a word is read, and whether the NMI came meanwhile */
     off_t torn[ZEPHYR_TORN]; /* where the last torn words are that were noted, and 0 behind them */
     uint64_t run[2 * EE_RUN]; /* the words or the numbers that were read at once */

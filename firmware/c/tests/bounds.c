@@ -1,5 +1,5 @@
 /* Counts the words that each call reads, the words that it programs and the pages that it erases, and holds them to the table
- * of ee.h: random calls on parts of several shapes, of words and of pairs of numbers, with cuts, many forgettings, and sets
+ * of ee.h: random calls on parts of several shapes, of words, of pairs of numbers and of coded words, with cuts, many forgettings, and sets
  * with a value in each slot. */
 #define MOST_PAGES 16
 #define MOST_WORDS 40
@@ -61,7 +61,7 @@ static uint32_t torn_words(void) {
             const uint64_t *numbers = &device.words[page][2 * at];
             int is_erased = numbers[0] == UINT64_MAX && numbers[1] == UINT64_MAX;
             int is_held = numbers[0] != UINT64_MAX && numbers[1] == ~numbers[0];
-            torn += device.pairs ? !is_erased && !is_held : device.torn[page][at];
+            torn += device.pairs ? !is_erased && !is_held : device.coded || device.torn[page][at];
         }
     }
     return torn;
@@ -84,6 +84,7 @@ static uint32_t counted(enum kind kind, uint16_t address, int is_room) {
         [COUNTS] = {n + w, 0, 0},        [RESCUE] = {n + 3 * w, s + 3 * p + 1, p},
         [BAD_WORDS] = {2 * w, 0, 0}};
     uint32_t looked_at = !device.pairs || kind >= FORMAT ? 0 : kind == START ? 2 * w : w;
+    if (device.coded) looked_at = 2 + (kind == START ? w : 0);
     if (kind <= OPEN) looked_at += 17 * torn_words();
     device.read = device.programmed = device.erased = 0;
     uint32_t status = made(kind, address);
@@ -106,9 +107,10 @@ static int is_room(void) {
     return ee_counts(&store, &numbers) == EE_OK && numbers.fill < numbers.slots;
 }
 
-static void run(uint32_t pages, uint32_t page_words, uint32_t addresses, uint32_t pairs) {
+static void run(uint32_t pages, uint32_t page_words, uint32_t addresses, uint32_t kind) {
     blank(&device, pages, page_words);
-    device.pairs = pairs;
+    device.pairs = kind == EE_PAIRS;
+    device.coded = kind == EE_CODED;
     device.runs = (enum runs)below(RUN_KINDS);
     flash = flash_of(&device);
     CHECK(counted(OPEN, 0, 0) == EE_UNFORMATTED && counted(START, 0, 0) == EE_OK);
@@ -127,9 +129,10 @@ static void run(uint32_t pages, uint32_t page_words, uint32_t addresses, uint32_
 int main(void) {
     for (int i = 0; i < SHAPES; i++) {
         uint32_t slots = shapes[i][0] * (shapes[i][1] - 4);
-        for (uint32_t pairs = 0; pairs < 2; pairs++) {
-            run(shapes[i][0], shapes[i][1], slots + 1, pairs);
-            run(shapes[i][0], shapes[i][1], 3 * slots, pairs);
+        for (uint32_t kind = EE_WORDS; kind <= EE_CODED; kind++) {
+            if (kind == EE_PAIRS_CLEARING) continue;
+            run(shapes[i][0], shapes[i][1], slots + 1, kind);
+            run(shapes[i][0], shapes[i][1], 3 * slots, kind);
         }
     }
     return most_read == 0;

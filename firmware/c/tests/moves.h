@@ -80,7 +80,7 @@ static inline uint32_t changed(ee_store *store, values *all) {
 
 /* Some words of the flash at once are what `word` says of each, and are not answered where one of them can't be read. */
 static inline void check_run(const ee_flash *flash) {
-    uint32_t shift = flash->kind != 0, places = flash->page_words << shift, page = below(2 * flash->pages), place = below(places);
+    uint32_t shift = flash->kind == EE_PAIRS || flash->kind == EE_PAIRS_CLEARING, places = flash->page_words << shift, page = below(2 * flash->pages), place = below(places);
     uint32_t most = (uint32_t)EE_RUN << shift, rest = places - place, count = 1 + below(rest < most ? rest : most);
     const uint64_t *run = flash->words(flash->context, page, place, count);
     uint64_t found[2 * EE_RUN], value;

@@ -1,4 +1,4 @@
-/* A part of flash in memory for the tests, of words or of pairs of numbers, whose power can be cut in a step. */
+/* A part of flash in memory for the tests, of words, of pairs of numbers or of coded words, whose power can be cut in a step. */
 #ifndef PART_H
 #define PART_H
 
@@ -26,6 +26,7 @@ typedef struct part {
     uint8_t torn[MOST_PAGES][2 * MOST_WORDS];   /* it can't be read */
     uint32_t pages, page_words;                 /* of a set, of a page */
     uint32_t pairs;                             /* 1 where it has numbers */
+    uint32_t coded;                             /* 1 where it has coded words */
     int clears_first;                           /* an erase of its numbers clears the cells of the page first */
     uint32_t steps;                             /* begun so far */
     uint32_t cut_in;                            /* the step that is cut, 0 for none */
@@ -104,12 +105,14 @@ static inline uint32_t part_word(void *context, uint32_t page, uint32_t place, u
     return 0;
 }
 
-/* What a step that is cut leaves of a word, or of a number, which has the bits that both the old one and the new one have. */
+/* What a step that is cut leaves of a word; of a number the bits that both the old one and the new one have, and so of half the
+ * coded words. */
 static inline void part_tear(part *p, uint32_t page, uint32_t place, uint64_t new, enum tear tear) {
     uint64_t *word = &p->words[page][place];
     if (tear == TEAR_DONE) *word = new;
-    if (p->pairs && tear >= TEAR_TORN) *word = (*word & new) | any_bits();
-    if (!p->pairs && tear != TEAR_NOTHING) p->torn[page][place] = tear == TEAR_TORN;
+    int is_bits = p->pairs || (p->coded && tear >= TEAR_TORN && any_bits() >> 40 & 1);
+    if (is_bits && tear >= TEAR_TORN) *word = (*word & new) | any_bits();
+    if (!p->pairs && tear != TEAR_NOTHING) p->torn[page][place] = tear == TEAR_TORN && !is_bits;
 }
 
 /* What an erase that is cut leaves of a word of two numbers where it clears first: cells that were cleared, or some that were set
@@ -164,7 +167,7 @@ static inline int holds_same(const part *a, const part *b) {
 }
 
 static inline ee_flash flash_of(part *p) {
-    uint32_t kind = p->clears_first ? EE_PAIRS_CLEARING : p->pairs ? EE_PAIRS : EE_WORDS;
+    uint32_t kind = p->clears_first ? EE_PAIRS_CLEARING : p->pairs ? EE_PAIRS : p->coded ? EE_CODED : EE_WORDS;
     ee_flash flash = {.context = p, .pages = p->pages, .page_words = p->page_words, .word = part_word, .program = part_program,
                       .erase = part_erase, .kind = kind, .words = p->runs == NO_RUNS ? NULL : part_words};
     return flash;

@@ -1,6 +1,6 @@
 /* Random calls against an array, lists of values and clears among them, each with power cut in every step and in every way,
- * and some with a read that fails, each in turn, on flashes of words, of pairs of numbers, and of pairs
- * whose erase clears first. They are read one at a time, and also in runs in two ways. On each of those that are read one at a
+ * and some with a read that fails, each in turn, on flashes of words, of pairs of numbers, of pairs whose erase clears first, and
+ * of coded words. They are read one at a time, and also in runs in two ways. On each of those that are read one at a
  * time it asks the library more than a million calls, and on the others a share of that; with an argument on all of them. */
 #include "part.h"
 
@@ -8,7 +8,7 @@
 #ifdef BY_INDEX
 #define FAILURES 40u
 #else
-#define FAILURES 120u
+#define FAILURES 110u
 #endif
 
 enum { ADDRESSES = 8, STORES = 150, MANY = 160, SHARE = 30, CALLS = 60, LOADED = 70 };
@@ -215,27 +215,28 @@ static void play(part *p, ee_store *store, map *m) {
     spans(store, m);
 }
 
-static void run(uint32_t pairs, int clears_first, enum runs runs, int stores) {
+static void run(uint32_t kind, enum runs runs, int stores) {
     cuts = failures = calls = 0;
     for (int i = 0; i < stores; i++) {
         part p;
         blank(&p, 1 + below(3), 5 + below(4));
-        p.pairs = pairs, p.clears_first = clears_first, p.runs = runs;
+        p.pairs = kind == EE_PAIRS || kind == EE_PAIRS_CLEARING, p.clears_first = kind == EE_PAIRS_CLEARING;
+        p.coded = kind == EE_CODED, p.runs = runs;
         ee_flash flash = flash_of(&p);
         ee_store store;
         CHECK(ee_format(&store, &flash) == EE_OK);
         map m = held(&store);
         for (int j = 0; j < CALLS; j++) play(&p, &store, &m);
     }
-    CHECK(cuts > 500u * (unsigned)stores && failures > FAILURES * (unsigned)stores);
+    CHECK(cuts > 450u * (unsigned)stores && failures > FAILURES * (unsigned)stores);
     if (stores != SHARE) CHECK(calls > 1000000);
 }
 
 int main(int count, char **argument) {
     (void)argument;
-    for (uint32_t kind = 0; kind < 3; kind++) {
+    for (uint32_t kind = EE_WORDS; kind <= EE_CODED; kind++) {
         for (int runs = NO_RUNS; runs < RUN_KINDS; runs++) {
-            run(kind > 0, kind == 2, (enum runs)runs, runs == NO_RUNS ? STORES : count > 1 ? MANY : SHARE);
+            run(kind, (enum runs)runs, runs == NO_RUNS ? STORES : count > 1 ? MANY : SHARE);
         }
     }
     return 0;

@@ -97,7 +97,7 @@ static void shapes(void) {
     for (flash.kind = 4; flash.kind != 0; flash.kind <<= 1) {
         CHECK(ee_start(&store, &flash) == EE_WRONG_SHAPE && ee_format(&store, &flash) == EE_WRONG_SHAPE);
     }
-    flash.kind = 3;
+    flash.kind = EE_CODED + 2;
     CHECK(ee_start(&store, &flash) == EE_WRONG_SHAPE && ee_rescue(&store, &flash) == EE_WRONG_SHAPE);
 }
 
@@ -353,9 +353,9 @@ static uint32_t no_word(void *context, uint32_t page, uint32_t place, uint64_t *
 static void statuses_of_drivers(void) {
     static uint32_t answers[] = {1, 2, 3, EE_READ_FAILED, EE_READ_FAILED + 1, EE_TORN - 1, EE_TORN + 1, UINT32_MAX};
     for (size_t i = 0; i < sizeof answers / sizeof *answers; i++) {
-        for (uint32_t kind = 0; kind < 3; kind++) {
+        for (uint32_t kind = 0; kind < 4; kind++) {
             blank(&p, 1, 6);
-            p.pairs = kind > 0, p.clears_first = kind == 2;
+            p.pairs = kind == 1 || kind == 2, p.clears_first = kind == 2, p.coded = kind == 3;
             ee_flash flash = flash_of(&p), failing = flash;
             CHECK(ee_start(&store, &flash) == EE_OK && ee_write(&store, 1, 10) == EE_OK);
             part before = p;

@@ -1,6 +1,7 @@
 /* Tests the flash with error correction of sim/: what its code corrects, tells and miscorrects, and what a cut leaves. Then a store
  * over it, cut in random steps, of which it counts what a product would see. Over words a cut can make a number that nobody wrote: the
- * test fails where the flash doesn't show that, since then it would show nothing of other kinds either. `sim_ecc [CUTS]` */
+ * test fails where the flash doesn't show that, since then it would show nothing of coded words either, over which no opening may be
+ * refused and no value wrong. `sim_ecc [CUTS]` */
 #include "../sim/sim_ecc.c"
 
 #define CHECK(holds)                                                                                                           \
@@ -151,20 +152,22 @@ static void check_store(uint32_t kind, sim_ecc_tear tear, unsigned long cuts, un
 }
 
 int main(int argc, char **argv) {
-    static const char *const names[] = {"cells", "half words", "words"};
+    static const char *const names[] = {"cells", "half words", "words"}, *const kinds[] = {"words", "coded words"};
     unsigned long cuts = argc > 1 ? strtoul(argv[1], NULL, 10) : FEW;
     unsigned passed = 0;
     for (uint64_t seed = 0; seed < MATRICES; seed++) passed += check_code(seed);
     CHECK(passed > MATRICES * 1000);
     check_erased();
     for (int tear = SIM_ECC_CELLS; tear <= SIM_ECC_WHOLE; tear++) {
-        unsigned long counts[3] = {0};
         check_cut((sim_ecc_tear)tear);
-        check_store(EE_WORDS, (sim_ecc_tear)tear, cuts, counts);
-        printf("words, cut by %s: of %lu cuts %lu EE_FOREIGN, %lu refused otherwise, %lu with a wrong value\n", names[tear], cuts,
-               counts[0], counts[1], counts[2]);
-        if (tear == SIM_ECC_WHOLE) CHECK(counts[0] + counts[1] + counts[2] == 0);
-        if (tear == SIM_ECC_CELLS) CHECK(counts[0] > cuts / 20 && counts[2] > 0);
+        for (int is_coded = 0; is_coded < 2; is_coded++) {
+            unsigned long counts[3] = {0};
+            check_store(is_coded ? EE_CODED : EE_WORDS, (sim_ecc_tear)tear, cuts, counts);
+            printf("%s, cut by %s: of %lu cuts %lu EE_FOREIGN, %lu refused otherwise, %lu with a wrong value\n", kinds[is_coded],
+                   names[tear], cuts, counts[0], counts[1], counts[2]);
+            if (is_coded || tear == SIM_ECC_WHOLE) CHECK(counts[0] + counts[1] + counts[2] == 0);
+            if (!is_coded && tear == SIM_ECC_CELLS) CHECK(counts[0] > cuts / 20 && counts[2] > 0);
+        }
     }
     return 0;
 }

@@ -211,7 +211,7 @@ static void cells(size_t write_block, int with_ecc) {
     ee_flash flash;
     uint64_t value, numbers[4];
     CHECK(made(write_block, with_ecc, 512, &flash) == 0);
-    uint32_t last = (flash.page_words << (flash.kind != EE_WORDS)) - 1, unit = flash.kind ? 8 : (uint32_t)write_block;
+    uint32_t last = (flash.page_words << (flash.kind != EE_CODED)) - 1, unit = flash.kind != EE_CODED ? 8 : (uint32_t)write_block;
     CHECK(flash.program(&part, 1, last, 5) == 0 && flash.word(&part, 1, last, &value) == 0 && value == 5);
     memcpy(numbers, memory + 512 + last * unit, unit);
     CHECK(numbers[0] == 5 && (unit < 16 || numbers[1] == ~(uint64_t)5) && (unit < 32 || (numbers[2] | numbers[3]) == 0));
@@ -233,7 +233,7 @@ static void refusals(void) {
     ee_flash flash = {.pages = 77};
     CHECK(made(3, 0, 512, &flash) == -EINVAL && made(0, 0, 512, &flash) == -EINVAL && made(64, 1, 512, &flash) == -EINVAL);
     CHECK(made(4, 0, 64, &flash) == -EINVAL); /* of four pairs a page */
-    CHECK(made(8, 1, 512, &flash) == 0 && flash.pages == PAGES / 2 && flash.page_words == 64 && flash.kind == EE_WORDS);
+    CHECK(made(8, 1, 512, &flash) == 0 && flash.pages == PAGES / 2 && flash.page_words == 64 && flash.kind == EE_CODED);
     CHECK(made(8, 0, 512, &flash) == 0 && flash.page_words == 32 && flash.kind == pairs());
     flash.pages = 77, parameters.erase_value = 0;
     CHECK(zephyr_flash(&part, &flash) == -EINVAL);
@@ -295,7 +295,7 @@ static void sampled(size_t write_block, int with_ecc) {
     for (uint32_t starts = 1; starts <= 3; starts++) {
         CHECK(sample_main() == 0 && ee_read(&store, STARTS, &value) == EE_OK && value == starts);
     }
-    CHECK(flash.kind == (write_block < 8 || !with_ecc ? pairs() : EE_WORDS));
+    CHECK(flash.kind == (write_block < 8 || !with_ecc ? pairs() : EE_CODED));
     fault = POWER, steps = 0, fails_in = 1;
     CHECK(sample_main() == 0 && is_cut_off);
     power();

@@ -135,6 +135,11 @@ fn quoted(rest: &str) -> usize {
     rest.len()
 }
 
+/// The module at the top of the crate that has a file.
+fn module(file: &str) -> &str {
+    file.split(['/', '\\', '.']).next().unwrap_or_default()
+}
+
 struct Text<'a> {
     file: &'a Path,
     tokens: Vec<(usize, &'a str)>,
@@ -234,12 +239,6 @@ impl<'a> Text<'a> {
         ""
     }
 
-    /// The module at the top of the crate that has the file.
-    fn module(&self) -> &'a str {
-        let top = self.file.iter().next().and_then(|top| top.to_str());
-        top.unwrap_or_default().trim_end_matches(".rs")
-    }
-
     /// Whether a call of a function that waits begins at a place.
     fn waits(&self, place: usize, waiting: &Names) -> bool {
         let name = self.at(place);
@@ -265,11 +264,17 @@ impl<'a> Text<'a> {
                     .windows(3)
                     .find(|it| it[1].1 == "as" && it[2].1 == name);
                 let there = format!(" {}", renamed.map_or(name, |it| it[0].1));
-                waiting
-                    .iter()
-                    .any(|other| *other != own && other.ends_with(&there))
+                waiting.iter().any(|other| {
+                    *other != own && other.ends_with(&there) && self.names(module(other))
+                })
             }
         }
+    }
+
+    /// Whether a path of the text leads into a module at the top of the crate.
+    fn names(&self, module: &str) -> bool {
+        let leads = |it: &[(usize, &str)]| it[0].1 == "crate" && it[2].1 == module;
+        self.tokens.windows(3).any(leads)
     }
 }
 
@@ -328,7 +333,7 @@ fn rewritten(text: &str, read: &Text, names: &Names) -> String {
         let new = match read.at(now) {
             "struct" | "enum" if is_shared(read.at(now + 1)) => Some(format!(
                 "\npub use crate::{}::{};\n",
-                read.module(),
+                module(read.file.to_str().unwrap_or_default()),
                 read.at(now + 1)
             )),
             "impl" if is_shared(read.named(now, body.start)) => Some(String::new()),

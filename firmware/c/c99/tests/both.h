@@ -21,9 +21,10 @@ ee_result made_next(const ee_store *store, uint16_t *address, uint32_t *value);
 ee_result made_counts(const ee_store *store, ee_numbers *numbers);
 ee_result made_rescue(ee_store *store, const ee_flash *flash);
 ee_result made_bad_words(const ee_flash *flash, uint32_t *count);
+ee_result made_other_shape(const ee_flash *flash, uint32_t *pages, uint32_t *page_words);
 
 enum call {
-    START, OPEN, FORMAT, WRITE, WRITE_ALL, FORGET, CLEAN, READ, NEXT, COUNTS, CLEAR, RESCUE, BAD_WORDS, LOAD, CALLS
+    START, OPEN, FORMAT, WRITE, WRITE_ALL, FORGET, CLEAN, READ, NEXT, COUNTS, CLEAR, RESCUE, BAD_WORDS, LOAD, OTHER_SHAPE, CALLS
 };
 
 /* What goes into a call, and what comes out of it. */
@@ -64,6 +65,7 @@ static inline struct answer make(bool by_made, ee_store *store, const ee_flash *
     case CLEAR: MAKE(forget_all, store); break;
     case RESCUE: MAKE(rescue, store, flash); break;
     case BAD_WORDS: MAKE(bad_words, flash, &out.value); break;
+    case OTHER_SHAPE: MAKE(other_shape, flash, &out.value, &out.numbers.slots); break;
     case LOAD:
         for (uint32_t i = 0; i < MOST_LOADED; i++) {
             values[i] = (ee_value){(uint16_t)(it->address + i), it->value + i};

@@ -2,12 +2,13 @@
  * the same flash, and answer the same; over random flashes and calls, with cuts and failing reads.
  * With an index, in ee.c alone, other words are read, so reads are neither noted nor do they fail.
  *
- *     lockstep PAIRS SEED CALLS [index]
+ *     lockstep KIND SEED CALLS [index]
  */
 #include <stdio.h>
 #include <stdlib.h>
 #include <string.h>
 
+#include "../../tests/coded.h"
 #include "both.h"
 
 enum { MOST_PLACES = 2 * 3 * 2 * 70, MOST_LISTED = 8, READ_FAULT = 2 };
@@ -19,11 +20,11 @@ struct part {
     uint32_t pages, places;
     uint64_t seed, seed_of_reads, trace;
     int64_t steps_left;
-    bool is_of_pairs, is_cut;
+    bool is_of_pairs, is_coded, is_cut;
 };
 
 static uint64_t seed, calls, cuts, calls_by_index;
-static uint32_t pairs, clears_first;
+static uint32_t kind, pairs, clears_first;
 static bool by_index;
 
 static uint64_t below(uint64_t bound) { return next_number(&seed) % bound; }
@@ -64,12 +65,13 @@ static void tear(struct part *part, uint32_t place, uint64_t value) {
     uint64_t left = next_number(&part->seed) % 3;
     bool erases = value == UINT64_MAX;
     if (left == 0) return;
-    if (left == 1 && !part->is_of_pairs) {
+    if (left == 1 && !part->is_of_pairs && !(part->is_coded && next_number(&part->seed) % 2)) {
         part->torn[place] = 1;
         return;
     }
     if (left == 1 && erases && clears_first) value = next_number(&part->seed);
     else if (left == 1) value = (erases ? part->numbers[place] : value) | next_number(&part->seed);
+    if (left == 1 && part->is_coded) value ^= (uint64_t)1 << next_number(&part->seed) % 64;
     part->numbers[place] = value;
     part->torn[place] = 0;
 }
@@ -144,23 +146,27 @@ static uint64_t number_at(uint32_t at, uint32_t addresses, bool is_last) {
     return UINT64_MAX;
 }
 
-/* Fills a flash with nothing, anything, or what is like a store. */
+/* Fills a flash with nothing, anything, or what is like a store; of coded words now and then of another shape. */
 static void fill(uint32_t addresses, uint32_t page_words) {
-    uint64_t kind = below(4);
+    uint64_t with = below(4);
+    uint32_t other = below(8) == 0;
     bool is_last = below(2) == 0;
     for (uint32_t i = 0; i < MOST_PLACES; i++) {
         uint32_t at = (i >> pairs) % page_words;
         uint64_t number = UINT64_MAX;
-        if (kind == 0 && below(8) == 0) number = next_number(&seed);
-        if (kind == 1) number = number_at(at, addresses, is_last);
+        if (with == 0 && below(8) == 0) number = next_number(&seed);
+        if (with == 1) number = number_at(at, addresses, is_last);
+        if (with == 1 && kind == EE_CODED && number != UINT64_MAX && below(20) != 0) {
+            number = coded_number(number, ours.pages / 2 + other, page_words);
+        }
         if (pairs && i % 2 == 1) {
             bool is_blank = ours.numbers[i - 1] == UINT64_MAX || below(16) == 0;
             number = is_blank ? UINT64_MAX : UINT64_MAX - ours.numbers[i - 1];
             /* A word that no store wrote. */
-            if (kind == 0 && below(99) == 0) number &= next_number(&seed);
+            if (with == 0 && below(99) == 0) number &= next_number(&seed);
         }
         ours.numbers[i] = number;
-        ours.torn[i] = !pairs && kind == 1 && below(11) == 0;
+        ours.torn[i] = !pairs && with == 1 && below(11) == 0;
     }
 }
 
@@ -174,10 +180,11 @@ static void begin(uint32_t addresses) {
     ours.seed_of_reads = next_number(&seed) | 1;
     ours.steps_left = -1;
     ours.is_of_pairs = pairs != 0;
+    ours.is_coded = kind == EE_CODED;
     fill(addresses, page_words);
     theirs = ours;
     our_flash = (ee_flash){.context = &ours, .pages = pages, .page_words = page_words, .word = word,
-                           .program = program, .erase = erase, .kind = pairs << clears_first,
+                           .program = program, .erase = erase, .kind = kind,
                            .words = below(2) == 0 ? words : NULL};
     their_flash = our_flash;
     their_flash.context = &theirs;
@@ -220,7 +227,9 @@ static void call_with_a_fault(uint32_t addresses) {
 static void read_damaged(uint32_t addresses) {
     uint32_t place = (uint32_t)below(ours.pages * ours.places);
     uint64_t was = ours.numbers[place], address = 1 + below(addresses);
-    ours.numbers[place] = theirs.numbers[place] = below(4) << 16 | address;
+    uint64_t number = below(4) << 16 | address;
+    if (kind == EE_CODED && below(2)) number = coded_number(number, ours.pages / 2, ours.places);
+    ours.numbers[place] = theirs.numbers[place] = number;
     both(&(struct made_call){READ, (uint16_t)address, 0, NULL, 0});
     ours.numbers[place] = theirs.numbers[place] = was;
 }
@@ -268,13 +277,14 @@ static void run(void) {
 int main(int argc, char **argv) {
     if (argc != 4 && argc != 5) return 2;
     by_index = argc == 5;
-    clears_first = atoi(argv[1]) == 2;
-    pairs = atoi(argv[1]) != 0;
+    kind = (uint32_t)atoi(argv[1]);
+    clears_first = kind == EE_PAIRS_CLEARING;
+    pairs = kind == EE_PAIRS || kind == EE_PAIRS_CLEARING;
     seed = strtoull(argv[2], NULL, 10) * 2 + 1;
     uint64_t wanted = strtoull(argv[3], NULL, 10);
     while (calls < wanted) run();
     if (by_index && calls_by_index < calls / 4) fail("an index that is in use too seldom");
-    printf("lockstep%s, pairs %u: %llu calls, %llu cuts, the same\n", by_index ? " by an index" : "", (unsigned)(pairs << clears_first),
+    printf("lockstep%s, kind %u: %llu calls, %llu cuts, the same\n", by_index ? " by an index" : "", (unsigned)kind,
            (unsigned long long)calls, (unsigned long long)cuts);
     return 0;
 }

@@ -2,7 +2,7 @@
 
 use crate::flash::{Cells, Cut, Memory, Noted};
 use ee_store::nor::{Ecc, NorDriver, Plain};
-use ee_store::Kind::{Pairs, PairsClearing, Words};
+use ee_store::Kind::{Coded, Pairs, PairsClearing, Words};
 use ee_store::{Driver, NorError, Shape, Unfit, Word};
 use std::cell::RefCell;
 use std::rc::Rc;
@@ -101,6 +101,8 @@ pub fn all() -> impl Iterator<Item = Kind> {
         sectors!(Single, Noted::<false>, 16, 1, true, Words),
         sectors!(Plain, Plain, 16, 16, false, Words),
         sectors!(Several, Noted::<true>, 32, 32, true, Words),
+        sectors!(Several, Noted::<true>, 8, 8, true, Coded),
+        sectors!(Single, Noted::<false>, 16, 1, true, Coded),
     ]
     .into_iter()
     .flatten()

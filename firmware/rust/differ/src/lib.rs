@@ -1,8 +1,11 @@
 //! A part in memory whose power is cut as one likes, for the tests of `ee-store`.
 #![forbid(unsafe_code)]
 
+#[path = "../../ee-store/tests/ecc/mod.rs"]
+pub mod ecc;
 pub mod image;
 
+use ecc::{Cells, Ecc, ERASED};
 use ee_store::Driver;
 pub use ee_store::{Kind, Shape, Word};
 use std::cell::RefCell;
@@ -49,6 +52,9 @@ pub struct Part {
     pub pages: Vec<Vec<Word>>,
     /// The numbers of each page, where it has numbers: two for each word.
     pub numbers: Vec<Vec<u64>>,
+    /// The cells of each page, where it has coded words, and their ECC.
+    pub cells: Vec<Vec<Cells>>,
+    pub ecc: Ecc,
     /// Whether an erase of numbers clears the cells of its page before it sets them.
     pub clears_first: bool,
     /// How often each page was erased.
@@ -68,6 +74,8 @@ impl Part {
             shape,
             pages: vec![vec![Word::Erased; shape.words()]; 2 * shape.pages()],
             numbers: Vec::new(),
+            cells: Vec::new(),
+            ecc: Ecc::new(0),
             clears_first: false,
             wear: vec![0; 2 * shape.pages()],
             fuse: None,
@@ -81,6 +89,15 @@ impl Part {
         Part {
             pages: Vec::new(),
             numbers: vec![vec![u64::MAX; 2 * shape.words()]; 2 * shape.pages()],
+            ..Part::blank(shape)
+        }
+    }
+
+    /// A part with an ECC, of which every word is erased.
+    pub fn blank_cells(shape: Shape) -> Part {
+        Part {
+            pages: Vec::new(),
+            cells: vec![vec![ERASED; shape.words()]; 2 * shape.pages()],
             ..Part::blank(shape)
         }
     }
@@ -103,9 +120,43 @@ impl Part {
         }
     }
 
-    /// Whether it has numbers.
-    pub fn has_numbers(&self) -> bool {
-        !self.numbers.is_empty()
+    /// What its words are made of.
+    pub fn kind(&self) -> Kind {
+        match (self.pages.is_empty(), self.cells.is_empty()) {
+            (false, _) => Kind::Words,
+            (true, false) => Kind::Coded,
+            (true, true) if self.clears_first => Kind::PairsClearing,
+            (true, true) => Kind::Pairs,
+        }
+    }
+
+    /// What stands in a word, or in a number of one.
+    pub fn word(&self, page: usize, at: usize) -> Word {
+        match self.kind() {
+            Kind::Words => self.pages[page][at],
+            Kind::Coded => self.ecc.word(self.cells[page][at]),
+            _ => Word::from(self.numbers[page][at]),
+        }
+    }
+
+    /// Programs a word or a number of one, which is erased.
+    pub fn program(&mut self, page: usize, at: usize, value: u64) -> Result<(), PowerCut> {
+        assert_ne!(value, u64::MAX, "the value is all ones");
+        match self.kind() {
+            Kind::Words => self.program_word(page, at, value),
+            Kind::Coded => self.program_cells(page, at, value),
+            _ => self.program_number(page, at, value),
+        }
+    }
+
+    /// Erases a page.
+    pub fn erase(&mut self, page: usize) -> Result<(), PowerCut> {
+        self.wear[page] = self.wear[page].saturating_add(1);
+        match self.kind() {
+            Kind::Words => self.erase_words(page),
+            Kind::Coded => self.erase_cells(page),
+            _ => self.erase_numbers(page),
+        }
     }
 
     // Bits that look random: half of them, few, many, or one.
@@ -126,6 +177,13 @@ impl Part {
         }
     }
 
+    fn any_cells(&mut self) -> Cells {
+        Cells {
+            number: self.any_bits(),
+            check: self.any_bits() as u8,
+        }
+    }
+
     // A step begins: what a cut leaves of it, if it is cut.
     fn begin(&mut self) -> Option<Tear> {
         self.steps += 1;
@@ -142,10 +200,8 @@ impl Part {
         }
     }
 
-    /// Programs a word, which is erased.
-    pub fn program(&mut self, page: usize, at: usize, value: u64) -> Result<(), PowerCut> {
+    fn program_word(&mut self, page: usize, at: usize, value: u64) -> Result<(), PowerCut> {
         assert_eq!(self.pages[page][at], Word::Erased, "the word is written");
-        assert_ne!(value, u64::MAX, "the value is all ones");
         let tear = self.begin();
         self.pages[page][at] = match tear {
             None | Some(Tear::Done) => Word::Held(value),
@@ -155,10 +211,9 @@ impl Part {
         tear.map_or(Ok(()), |_| Err(PowerCut))
     }
 
-    /// Programs a number, which is erased. Where it is cut it has every bit of the one asked for.
-    pub fn program_number(&mut self, page: usize, at: usize, number: u64) -> Result<(), PowerCut> {
+    // Where it is cut it has every bit of the one asked for.
+    fn program_number(&mut self, page: usize, at: usize, number: u64) -> Result<(), PowerCut> {
         assert_eq!(self.numbers[page][at], u64::MAX, "the number is written");
-        assert_ne!(number, u64::MAX, "the number is all ones");
         let tear = self.begin();
         self.numbers[page][at] = match tear {
             None | Some(Tear::Done) => number,
@@ -168,10 +223,37 @@ impl Part {
         tear.map_or(Ok(()), |_| Err(PowerCut))
     }
 
-    /// Erases a page of numbers. Where it is cut each has every bit that it had, or any where it clears first.
-    pub fn erase_numbers(&mut self, page: usize) -> Result<(), PowerCut> {
+    // Where it is cut some cells are as asked for.
+    fn program_cells(&mut self, page: usize, at: usize, number: u64) -> Result<(), PowerCut> {
+        let old = self.cells[page][at];
+        assert_eq!(old, ERASED, "the word is written");
         let tear = self.begin();
-        self.wear[page] = self.wear[page].saturating_add(1);
+        let asked = self.ecc.cells(number);
+        self.cells[page][at] = match tear {
+            None | Some(Tear::Done) => asked,
+            Some(Tear::Nothing) => ERASED,
+            Some(Tear::Torn | Tear::Mixed) => old.programmed(asked, self.any_cells()),
+        };
+        tear.map_or(Ok(()), |_| Err(PowerCut))
+    }
+
+    // Where it is cut some cells of each word are erased.
+    fn erase_cells(&mut self, page: usize) -> Result<(), PowerCut> {
+        let tear = self.begin();
+        for at in 0..self.cells[page].len() {
+            let cells = self.cells[page][at];
+            self.cells[page][at] = match (tear, at % 3) {
+                (None | Some(Tear::Done), _) | (Some(Tear::Mixed), 1) => ERASED,
+                (Some(Tear::Nothing), _) | (Some(Tear::Mixed), 0) => cells,
+                _ => cells.erased(self.any_cells()),
+            };
+        }
+        tear.map_or(Ok(()), |_| Err(PowerCut))
+    }
+
+    // Where it is cut each number has every bit that it had, or any where it clears first.
+    fn erase_numbers(&mut self, page: usize) -> Result<(), PowerCut> {
+        let tear = self.begin();
         if self.clears_first && matches!(tear, Some(Tear::Torn | Tear::Mixed)) {
             self.clear_numbers(page);
             return Err(PowerCut);
@@ -205,10 +287,8 @@ impl Part {
         }
     }
 
-    /// Erases a page.
-    pub fn erase(&mut self, page: usize) -> Result<(), PowerCut> {
+    fn erase_words(&mut self, page: usize) -> Result<(), PowerCut> {
         let tear = self.begin();
-        self.wear[page] = self.wear[page].saturating_add(1);
         for (at, word) in self.pages[page].iter_mut().enumerate() {
             *word = match (tear, at % 3) {
                 (None | Some(Tear::Done), _) | (Some(Tear::Mixed), 1) => Word::Erased,
@@ -239,35 +319,18 @@ impl Driver for Shared {
     }
 
     fn kind(&self) -> Kind {
-        let part = self.0.borrow();
-        match (part.has_numbers(), part.clears_first) {
-            (false, _) => Kind::Words,
-            (true, false) => Kind::Pairs,
-            (true, true) => Kind::PairsClearing,
-        }
+        self.0.borrow().kind()
     }
 
     fn word(&self, page: usize, at: usize) -> Result<Word, PowerCut> {
-        let part = self.0.borrow();
-        Ok(match part.has_numbers() {
-            true => Word::from(part.numbers[page][at]),
-            false => part.pages[page][at],
-        })
+        Ok(self.0.borrow().word(page, at))
     }
 
     fn program(&mut self, page: usize, at: usize, value: u64) -> Result<(), PowerCut> {
-        let mut part = self.0.borrow_mut();
-        match part.has_numbers() {
-            true => part.program_number(page, at, value),
-            false => part.program(page, at, value),
-        }
+        self.0.borrow_mut().program(page, at, value)
     }
 
     fn erase(&mut self, page: usize) -> Result<(), PowerCut> {
-        let mut part = self.0.borrow_mut();
-        match part.has_numbers() {
-            true => part.erase_numbers(page),
-            false => part.erase(page),
-        }
+        self.0.borrow_mut().erase(page)
     }
 }

@@ -1,6 +1,6 @@
 //! Drops each call of a store for async drivers at each of its polls: that is a power cut, and nothing is lost.
 //!
-//!     drops COUNT SEED    makes so many random calls on parts of words, and as many on pairs of numbers
+//!     drops COUNT SEED    makes so many random calls on parts of words, as many on pairs of numbers, and on coded words
 //!     drops               plays worked scripts: each line of standard input names an image and a script, with a tab between
 //!
 //! A call is made up to its first poll, up to its second, and so on, and then dropped. The store must be off, and the next
@@ -213,7 +213,9 @@ fn main() -> io::Result<()> {
     let numbers: Vec<u64> = env::args().filter_map(|word| word.parse().ok()).collect();
     let mut drops = 0;
     if let [count, seed] = numbers[..] {
-        drops += random(count, seed, Part::blank) + random(count, seed, Part::blank_numbers);
+        for blank in [Part::blank, Part::blank_numbers, Part::blank_cells] {
+            drops += random(count, seed, blank);
+        }
     } else {
         for line in io::stdin().lock().lines() {
             let line = line?;

@@ -90,35 +90,20 @@ impl Driver for Shared {
     }
 
     fn kind(&self) -> Kind {
-        match self.part.borrow().has_numbers() {
-            true => Kind::Pairs,
-            false => Kind::Words,
-        }
+        self.part.borrow().kind()
     }
 
     async fn word(&self, page: usize, at: usize) -> Result<Word, PowerCut> {
         a_look().await;
-        let part = self.part.borrow();
-        Ok(match part.has_numbers() {
-            true => Word::from(part.numbers[page][at]),
-            false => part.pages[page][at],
-        })
+        Ok(self.part.borrow().word(page, at))
     }
 
     async fn program(&mut self, page: usize, at: usize, value: u64) -> Result<(), PowerCut> {
-        self.step(|part| match part.has_numbers() {
-            true => part.program_number(page, at, value),
-            false => part.program(page, at, value),
-        })
-        .await
+        self.step(|part| part.program(page, at, value)).await
     }
 
     async fn erase(&mut self, page: usize) -> Result<(), PowerCut> {
-        self.step(|part| match part.has_numbers() {
-            true => part.erase_numbers(page),
-            false => part.erase(page),
-        })
-        .await
+        self.step(|part| part.erase(page)).await
     }
 }
 

@@ -52,7 +52,7 @@ impl Driver for Part {
     }
 
     fn kind(&self) -> Kind {
-        Kind::Words
+        Kind::Coded
     }
 
     fn word(&self, page: usize, at: usize) -> Result<Word, Fault> {

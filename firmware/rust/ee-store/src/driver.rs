@@ -17,7 +17,7 @@ use crate::ee_flash::{Shape, Word};
 ///   leaves each word of the page erased and all else as it was.
 /// - Where power fails in `program`, or it ends in an error, its word alone may have changed: it is erased still, holds
 ///   the number or is torn. Where that happens in `erase`, each word of its page is as before, erased or torn. What a pair
-///   may hold then is said at [`Kind`].
+///   or a coded word may hold then is said at [`Kind`].
 /// - No call of the store is made from inside one of these functions.
 ///
 /// `&mut D` is a driver too: lend one that you want back behind an opening that is refused.
@@ -80,9 +80,12 @@ pub trait Driver {
 /// reads and programs these as words that are never torn, and the store makes a word of each two, a value beside its complement.
 ///
 /// A number may be programmed by parts of 8, 16 or 32 bits, in any order.
+///
+/// Only [`Coded`](Kind::Coded) words say the shape of their store, so that an opening under another is told.
 #[derive(Clone, Copy, Debug, PartialEq, Eq)]
 pub enum Kind {
-    /// Words of 64 bits with error correction (ECC), so that one that a cut left half written is told: [`Word::Torn`].
+    /// Words of 64 bits with error correction (ECC), so that one that a cut left half written is told: [`Word::Torn`]. That the ECC
+    /// makes no other number of it is a premise, which ECCs of 72 bits break now and then: a new store takes `Coded`.
     Words,
     /// Pairs of numbers, whose cells go one way: from one to zero while a number is programmed, from zero to one while a page is
     /// erased. So what a cut leaves of a number that is programmed has every bit of the one asked for, and what it leaves of
@@ -92,6 +95,11 @@ pub enum Kind {
     /// says that an erase doesn't. A cut erase leaves any numbers. That no two of a word come out as each other's complement
     /// is a premise then: chance makes them of 64 bits, and of a word that a cut program tore of the few that it lacks.
     PairsClearing,
+    /// Words of 64 bits with ECC, each with a check of 15 bits, in as much flash as `Words` and by the same driver. Cells go one way,
+    /// as of `Pairs`, and a word reads as they are, with one bit turned by the ECC, or as torn: then none that a cut leaves reads as
+    /// another, and one that no store wrote is torn. That a cut erase makes no word whole which an earlier cut had left torn is a
+    /// premise.
+    Coded,
 }
 
 impl<D: Driver> Driver for &mut D {

@@ -8,6 +8,14 @@ use core::fmt;
 pub enum OpenError<E> {
     /// Sizes of the flash don't fit, or the place of the store in it.
     Unfit(Unfit),
+    /// The flash holds a store of [coded words](crate::Kind::Coded) of this other shape, by the mark in page 0, or in the first page of
+    /// the second set as the driver's shape has it. It comes before all else that an opening says of the flash.
+    OtherShape {
+        /// Pages of each set, 1 to 64.
+        pages: usize,
+        /// Words of a page, 5 to 512.
+        words: usize,
+    },
     /// Every word is erased, so there is no store to open: [`open_or_format`](crate::Store::open_or_format) makes one.
     Unformatted,
     /// No set is committed, and the flash isn't blank: it holds something else, or a `format` that was cut.
@@ -155,6 +163,7 @@ impl<E> OpenError<E> {
     pub(crate) fn text(&self) -> &'static str {
         match self {
             OpenError::Unfit(unfit) => unfit.text(),
+            OpenError::OtherShape { .. } => "the flash holds a store of another shape",
             OpenError::Unformatted => "the flash is not formatted",
             OpenError::NoLiveSet => "no set of the flash is live",
             OpenError::TwoLive => "both sets of the flash are live",
@@ -215,6 +224,9 @@ impl<E: fmt::Debug> fmt::Display for OpenError<E> {
         match self {
             OpenError::Foreign { page, at } => {
                 write!(f, "word {at} of page {page} is not the store's")
+            }
+            OpenError::OtherShape { pages, words } => {
+                write!(f, "{}: {pages} pages of {words} words", self.text())
             }
             OpenError::Driver(error) => fmt::Display::fmt(error, f),
             _ => f.write_str(self.text()),

@@ -98,6 +98,7 @@ pub mod proved {
     };
     pub use crate::ee_flash::{Cut, Flash};
     pub use crate::ee_index::{Entry, LentIndex};
+    pub use crate::ee_nor::coded::{Coded, EccNor};
     pub use crate::ee_nor::{Nor, Pairs};
     pub use crate::ee_pages::ScanFault;
     pub use crate::part::holds_more;

@@ -82,6 +82,15 @@ impl<E: Format> Format for OpenError<E> {
                     *page
                 )
             }
+            OpenError::OtherShape { pages, words } => {
+                defmt::write!(
+                    f,
+                    "{=str}: {=usize} pages of {=usize} words",
+                    self.text(),
+                    *pages,
+                    *words
+                )
+            }
             OpenError::Driver(error) => error.format(f),
             _ => defmt::write!(f, "{=str}", self.text()),
         }

@@ -5,8 +5,8 @@
 //! | `WRITE_SIZE` | A word of the store | [`Kind`] | Bytes of a word |
 //! |---|---|---|---|
 //! | 1, 2, 4 | a pair of numbers, a value beside its complement | `Pairs`, `PairsClearing` | 16 |
-//! | 8 | a word with ECC (error correction) | `Words` | 8 |
-//! | 16, 32 | a value and its complement in one unit with ECC; of 32 bytes the rest is zeros | `Words` | 16, 32 |
+//! | 8 | a word with ECC (error correction) | `Coded`, `Words` | 8 |
+//! | 16, 32 | a word and its complement in one unit with ECC; of 32 bytes the rest is zeros | `Coded`, `Words` | 16, 32 |
 //!
 //! Bytes of a number stand from the lowest to the highest.
 
@@ -146,7 +146,7 @@ impl<F: NorFlash, E: Ecc<F>> NorDriver<F, E> {
     /// The first [`Unfit`] that applies.
     pub fn new(flash: F, offset: u32, shape: Shape, kind: Kind, ecc: E) -> Result<Self, Unfit> {
         Self::check_sizes(offset)?;
-        if (kind == Kind::Words) != (F::WRITE_SIZE >= 8) {
+        if matches!(kind, Kind::Words | Kind::Coded) != (F::WRITE_SIZE >= 8) {
             return Err(Unfit::Kind);
         }
         let stride = (shape.words() * Self::WORD_BYTES).next_multiple_of(F::ERASE_SIZE) as u64;
@@ -247,16 +247,22 @@ impl<F: NorFlash, E: Ecc<F>> Driver for NorDriver<F, E> {
         self.shape
     }
 
+    // By what the flash writes at a time a program leaves out pairs, or all but these.
     fn kind(&self) -> Kind {
-        self.kind
+        match self.kind {
+            Kind::Coded if F::WRITE_SIZE >= 8 => Kind::Coded,
+            _ if F::WRITE_SIZE >= 8 => Kind::Words,
+            Kind::Pairs => Kind::Pairs,
+            _ => Kind::PairsClearing,
+        }
     }
 
     fn word(&self, page: usize, at: usize) -> Result<Word, Self::Error> {
         let mut bytes = [0; 32];
         let bytes = &mut bytes[..Self::UNIT];
-        match self.kind {
+        match self.kind() {
             _ if self.look(page, at, bytes)? => Ok(Self::word_in(bytes)),
-            Kind::Words => Ok(Word::Torn),
+            Kind::Words | Kind::Coded => Ok(Word::Torn),
             _ => Ok(Word::Held(TORN)),
         }
     }

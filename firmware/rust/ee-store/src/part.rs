@@ -2,6 +2,7 @@
 
 use crate::driver::{Driver, Kind};
 use crate::ee_flash::{Cut, Flash, Shape, Word};
+use crate::ee_nor::coded::{Coded, EccNor, OtherShape};
 use crate::ee_nor::{LowPair, Nor, Pairs};
 use crate::ee_pages::{blank_to, is_blank};
 use crate::error::{DriverError, Step};
@@ -54,17 +55,25 @@ impl<D: Driver> Part<D> {
     /// The first word of a pair of numbers that no store wrote.
     pub(crate) fn low_pair(&self) -> Option<LowPair> {
         match self.driver.kind() {
-            Kind::Words => None,
+            Kind::Words | Kind::Coded => None,
             _ => Pairs::of(Numbers::of(self, ROOM)).err().map(|it| it.1),
         }
     }
 
-    /// Whether a first store may be made here: of pairs only where no more is written than a first start that was cut leaves. It
-    /// programs the first two words of page 0, and erases that page where it was cut before: such an erase leaves anything there
-    /// if it clears the cells first, and else no others.
+    /// The other shape that the mark of a store of coded words says.
+    pub(crate) fn other_shape(&self) -> Option<OtherShape> {
+        Coded::of(self.codes()?).err().map(|it| it.1)
+    }
+
+    /// Whether a first store may be made here: but for words only where no more is written than a first start that was cut leaves.
+    /// It programs the first two words of page 0, and erases that page where it was cut before: such an erase leaves anything
+    /// there if it clears the cells first, and else no others.
     pub(crate) fn may_be_new(&self) -> bool {
-        let kind = self.driver.kind();
-        kind == Kind::Words || !holds_more(self, kind == Kind::PairsClearing)
+        match self.driver.kind() {
+            Kind::Words => true,
+            Kind::Coded => Coded::known(Codes(self)).may_be_new(),
+            kind => !holds_more(self, kind == Kind::PairsClearing),
+        }
     }
 
     // Whether there is such a word on a part that is on. Where it is outside the part goes off.
@@ -89,6 +98,24 @@ impl<D: Driver> Part<D> {
             }));
             Cut
         })
+    }
+
+    // Its numbers, where its words are coded.
+    fn codes(&self) -> Option<Codes<&Self>> {
+        (self.driver.kind() == Kind::Coded).then_some(Codes(self))
+    }
+
+    // What the driver says of a word, or of the number of a coded one.
+    fn said(&self, page: usize, at: usize) -> Word {
+        if !self.has(page, at) {
+            return Word::Torn;
+        }
+        let answer = self.driver.word(page, at);
+        match self.told((Step::Read, page, at), answer) {
+            Ok(Word::Held(number)) => Word::from(number),
+            Ok(word) => word,
+            Err(Cut) => Word::Torn,
+        }
     }
 
     // Words of a page from a place on, or numbers of pairs, where the driver has so many in memory.
@@ -130,27 +157,21 @@ impl<D: Driver> Flash for Part<D> {
     }
 
     fn word(&self, page: usize, at: usize) -> Word {
-        if !self.has(page, at) {
-            return Word::Torn;
-        }
-        if self.driver.kind() != Kind::Words {
-            return Pairs::known(Numbers::of(self, 2)).word(page, at);
-        }
-        let answer = self.driver.word(page, at);
-        match self.told((Step::Read, page, at), answer) {
-            Ok(Word::Held(number)) => Word::from(number),
-            Ok(word) => word,
-            Err(Cut) => Word::Torn,
+        match self.driver.kind() {
+            Kind::Words => self.said(page, at),
+            Kind::Coded => Coded::known(Codes(self)).word(page, at),
+            _ if !self.has(page, at) => Word::Torn,
+            _ => Pairs::known(Numbers::of(self, 2)).word(page, at),
         }
     }
 
-    // What the room has when the part is off counts for nothing.
+    // What the room has when the part is off counts for nothing. Coded words read as their numbers, of which 0 is none.
     fn run<'a>(&'a self, page: usize, at: usize, room: &'a mut [u64]) -> &'a [u64] {
         let count = room.len();
         if count == 0 || !self.has(page, at + count - 1) {
             return room;
         }
-        if self.driver.kind() != Kind::Words {
+        if matches!(self.driver.kind(), Kind::Pairs | Kind::PairsClearing) {
             Pairs::known(Numbers::of(self, 2 * count)).run(page, at, room);
         } else if let Some(words) = self.window(page, at, count) {
             return words;
@@ -161,12 +182,23 @@ impl<D: Driver> Flash for Part<D> {
         room
     }
 
+    fn number(&self, reading: u64) -> u64 {
+        self.codes()
+            .map_or(reading, |codes| Coded::known(codes).number(reading))
+    }
+
+    fn in_clear(&self, reading: u64) -> u64 {
+        self.codes()
+            .map_or(reading, |codes| Coded::known(codes).in_clear(reading))
+    }
+
     // Steps stay out of the calls that make them: a call costs nothing beside a step of flash, and there are several.
     #[inline(never)]
     fn program(&mut self, page: usize, at: usize, value: u64) -> Result<(), Cut> {
         match self.driver.kind() {
             _ if !self.has(page, at) => Err(Cut),
             Kind::Words => self.program_at(page, at, at, value),
+            Kind::Coded => Coded::known(Codes(self)).program(page, at, value),
             _ => Pairs::known(Numbers::of(self, 2)).program(page, at, value),
         }
     }
@@ -281,6 +313,47 @@ impl<P: Lent> Nor for Numbers<P> {
 
     fn erase(&mut self, page: usize) -> Result<(), Cut> {
         self.part.part_mut().ok_or(Cut)?.erase(page)
+    }
+
+    fn cuts(&self) -> u64 {
+        u64::MAX
+    }
+
+    fn cuts_left(&self) -> Option<u64> {
+        None
+    }
+
+    fn power_on(&mut self) {}
+}
+
+/// The same of a part of coded words, each of which is one number.
+struct Codes<P>(P);
+
+impl<P: Lent> EccNor for Codes<P> {
+    fn shape(&self) -> Shape {
+        self.0.shape
+    }
+
+    fn wear(&self, _page: usize) -> u64 {
+        u64::MAX
+    }
+
+    fn is_on(&self) -> bool {
+        self.0.is_on()
+    }
+
+    fn read(&self, page: usize, at: usize) -> Option<u64> {
+        let word = self.0.said(page, at);
+        (word != Word::Torn).then(|| word.number())
+    }
+
+    fn program(&mut self, page: usize, at: usize, number: u64) -> Result<(), Cut> {
+        let part = self.0.part_mut().ok_or(Cut)?;
+        part.program_at(page, at, at, number)
+    }
+
+    fn erase(&mut self, page: usize) -> Result<(), Cut> {
+        self.0.part_mut().ok_or(Cut)?.erase(page)
     }
 
     fn cuts(&self) -> u64 {

@@ -54,6 +54,18 @@ const NOWHERE: Layout = Layout {
     current: 0,
 };
 
+// Refuses a part of coded words that hold a store of another shape.
+fn refuse_other_shape<D: Driver>(part: &Part<D>) -> Result<(), OpenError<D::Error>> {
+    let Some(other) = part.other_shape() else {
+        return Ok(());
+    };
+    part.turn_off();
+    Err(OpenError::OtherShape {
+        pages: other.pages,
+        words: other.words,
+    })
+}
+
 // Why a part couldn't be opened of which the proved code says this.
 pub(crate) fn open_error<D: Driver>(part: &Part<D>, fault: OpenFault) -> OpenError<D::Error> {
     let is_on = part.is_on();
@@ -70,9 +82,9 @@ impl<D: Driver> Store<D> {
     /// live and each word behind a page's header is erased or torn. It is the call to make at each start: a first start in which
     /// power failed is made again, and no stored value is erased.
     ///
-    /// Of [pairs](crate::Kind::Pairs), whose numbers a cut leaves with every bit that they had, it makes the first store only
-    /// where all numbers are all ones but those of the first two words of page 0. A first start that was cut leaves no others.
-    /// Where an erase clears first, page 0 may hold any numbers but a value.
+    /// Of [pairs](crate::Kind::Pairs) and [coded words](crate::Kind::Coded) it makes the first store only where all words are erased
+    /// but the first two of page 0. A first start that was cut leaves no others. Where an erase clears first, page 0 may hold any
+    /// numbers but a value.
     ///
     /// # Errors
     ///
@@ -125,10 +137,10 @@ impl<D: Driver> Store<D> {
     /// Makes a store of what the slots of the flash say, whatever stands in it: the call behind an opening that refused since a
     /// word went bad. One word that went bad costs its own value, and no more: its address has an older one or none.
     /// `docs/PROMISES.md` in the repository has the premises. The values move to the other set, as in a write that finds no free
-    /// slot. Of [pairs](crate::Kind::Pairs), a word that no store wrote is torn.
+    /// slot. Of [pairs](crate::Kind::Pairs) and coded words, one that no store wrote is torn.
     ///
-    /// It comes last. Under another shape than that of the firmware which wrote the store it destroys values, and so it does on
-    /// a flash that isn't ready to be read. So look at the shape, and open again with pauses, before it.
+    /// It comes last. Under another shape than that of the firmware which wrote the store it destroys values, unless words are
+    /// coded, and so it does on a flash that isn't ready to be read. So look at the shape, and open again with pauses, before it.
     ///
     /// Where pairs had such a word, its page waits to be erased, and the openings refuse the flash until it is. So call
     /// [`clean_step`](Store::clean_step) behind it until that answers `false`. If power fails while that page is erased, nothing
@@ -136,11 +148,12 @@ impl<D: Driver> Store<D> {
     ///
     /// # Errors
     ///
-    /// The first [`OpenError`] that applies: `NothingBegun`, `Spent`, `Driver` or `Unsteady`.
+    /// The first [`OpenError`] that applies: `OtherShape`, `NothingBegun`, `Spent`, `Driver` or `Unsteady`.
     #[doc(alias = "repair")]
     pub fn rescue(driver: D) -> Result<(Store<D>, Rescued), OpenError<D::Error>> {
         let mut part = Part::new(driver);
         part.begin_anew();
+        refuse_other_shape(&part)?;
         let (part, fault) = match proved::rescue(part) {
             Ok((store, rescued)) if store.flash().is_on() => return Ok((Store { store }, rescued)),
             Ok((store, _)) => (store.into_flash(), proved::RescueFault::Cut),
@@ -161,10 +174,11 @@ impl<D: Driver> Store<D> {
         }
     }
 
-    // Turns the part on, and refuses pairs that no store wrote.
+    // Turns the part on, and refuses pairs that no store wrote, and coded words of another shape.
     fn begin(&mut self) -> Result<(), OpenError<D::Error>> {
         let part = &mut self.store.flash;
         part.begin_anew();
+        refuse_other_shape(part)?;
         let low = part.low_pair();
         match (low, part.is_on()) {
             (_, false) => Err(open_error(part, OpenFault::Cut)),
@@ -239,10 +253,16 @@ impl<D: Driver, L: Finds> Store<D, L> {
     pub fn reopen(&mut self) -> Result<(), OpenError<D::Error>> {
         self.store.flash.begin_anew();
         self.store.flash.is_busy.set(true);
-        let opened = open_on(&mut self.store.flash);
-        let answer = self.opened(opened);
+        let answer = self.open_here();
         self.store.flash.is_busy.set(false);
         answer
+    }
+
+    // Opens the store on its part.
+    fn open_here(&mut self) -> Result<(), OpenError<D::Error>> {
+        refuse_other_shape(&self.store.flash)?;
+        let opened = open_on(&mut self.store.flash);
+        self.opened(opened)
     }
 
     // The store, while it is on.

@@ -180,6 +180,9 @@ fn sizes_that_do_not_fit_are_refused() {
     assert_eq!(unfit(Sizes::<4, 4, 64>, 0), Some(Unfit::Kind));
     assert_eq!(unfit(Sizes::<32, 32, 64>, 0), None);
     assert_eq!(unfit(Sizes::<8, 8, 64>, 64), None);
+    let refused = NorDriver::new(Sizes::<4, 4, 64>, 0, SHAPE, Kind::Coded, Plain).err();
+    assert_eq!(refused, Some(Unfit::Kind));
+    assert!(NorDriver::new(Sizes::<8, 8, 64>, 0, SHAPE, Kind::Coded, Plain).is_ok());
     for kind in [Kind::Pairs, Kind::PairsClearing] {
         let refused = NorDriver::new(Sizes::<8, 8, 64>, 0, SHAPE, kind, Plain).err();
         assert_eq!(refused, Some(Unfit::Kind));

@@ -45,9 +45,17 @@ struct Part {
 
 const WORDS: usize = 7;
 
+/// How many numbers a word has.
+fn numbers(kind: Kind) -> usize {
+    match kind {
+        Kind::Words | Kind::Coded => 1,
+        Kind::Pairs | Kind::PairsClearing => 2,
+    }
+}
+
 impl Part {
     fn new(kind: Kind, has_window: bool) -> Part {
-        let places = WORDS * if kind == Kind::Words { 1 } else { 2 };
+        let places = WORDS * numbers(kind);
         Part {
             kind,
             numbers: vec![vec![u64::MAX; places]; 2],
@@ -100,7 +108,7 @@ impl Driver for Part {
         match self.asked(Step::Read, page, at, 1) {
             None => Ok(Word::from(self.numbers[page][at])),
             Some(Answer::Fails | Answer::FailsBehind) => Err(Down),
-            Some(Answer::Torn) if self.kind == Kind::Words => Ok(Word::Torn),
+            Some(Answer::Torn) if numbers(self.kind) == 1 => Ok(Word::Torn),
             Some(Answer::Torn) => Ok(Word::Held(u64::MAX - 1)),
             Some(Answer::Erased) => Ok(Word::Held(u64::MAX)),
             Some(Answer::Foreign) => Ok(Word::Held(7)),
@@ -212,14 +220,14 @@ fn parts(kind: Kind, has_window: bool) -> Vec<Part> {
 /// The driver's error names what it was asked for last, in words.
 fn names_the_last(part: &Part, error: &DriverError<Down>) {
     let (step, page, at) = *part.asked.borrow().last().unwrap();
-    let at = if part.kind == Kind::Words { at } else { at / 2 };
+    let at = at / numbers(part.kind);
     assert_eq!((error.step, error.page, error.error), (step, page, Down));
     // Of a run that the driver reads word by word the first is named.
     assert!(error.at == at || step == Step::Read && error.at < at);
 }
 
 fn each(mut act: impl FnMut(&Part)) {
-    for kind in [Kind::Words, Kind::Pairs, Kind::PairsClearing] {
+    for kind in [Kind::Words, Kind::Pairs, Kind::PairsClearing, Kind::Coded] {
         for has_window in [false, true] {
             parts(kind, has_window).iter().for_each(&mut act);
         }

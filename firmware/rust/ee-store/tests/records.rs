@@ -1,7 +1,10 @@
-//! Records on a part in memory, by words and by pairs. Random calls are made whole and cut in each step in each way: a record
+//! Records on a part in memory, by words, by pairs and by coded words. Random calls are made whole and cut in each step in each way: a record
 //! then reads as before or as it was written, and all else as before. And each word goes bad in turn: behind a rescue a record
 //! is one that was written, none or told as hurt. `EE_CALLS` says how many calls are made, `EE_DAMAGES` how many words go bad.
 
+mod ecc;
+
+use ecc::{Cells, Ecc, ERASED};
 use ee_store::{Address, Driver, Error, Put, Record, Shape, Store, Word};
 
 /// Power was cut.
@@ -115,6 +118,67 @@ impl Driver for Numbers {
     }
 }
 
+/// Coded words, the cells of each as two numbers: its own, and its check below ones. A cut reaches some of the cells.
+#[derive(Clone, Debug)]
+struct Coded(Part, Ecc);
+
+impl Coded {
+    fn cells(&self, page: usize, at: usize) -> Cells {
+        let numbers = &self.0.pages[page][2 * at..];
+        Cells {
+            number: numbers[0],
+            check: numbers[1] as u8,
+        }
+    }
+
+    fn put(&mut self, page: usize, at: usize, cells: Cells) {
+        let check = u64::MAX << 8 | u64::from(cells.check);
+        self.0.pages[page][2 * at..2 * at + 2].copy_from_slice(&[cells.number, check]);
+    }
+
+    /// The cells that a step reaches.
+    fn reached(&mut self) -> (Option<usize>, Cells) {
+        let tear = self.0.step();
+        let reached = tear.map_or(ERASED, |way| Cells {
+            number: BITS[way],
+            check: BITS[(way + self.0.steps as usize) % TEARS] as u8,
+        });
+        (tear, reached)
+    }
+}
+
+impl Driver for Coded {
+    type Error = Down;
+
+    fn shape(&self) -> Shape {
+        Shape::new(self.0.pages.len() / 2, self.0.pages[0].len() / 2).unwrap()
+    }
+
+    fn kind(&self) -> ee_store::Kind {
+        ee_store::Kind::Coded
+    }
+
+    fn word(&self, page: usize, at: usize) -> Result<Word, Down> {
+        Ok(self.1.word(self.cells(page, at)))
+    }
+
+    fn program(&mut self, page: usize, at: usize, number: u64) -> Result<(), Down> {
+        assert_eq!(self.cells(page, at), ERASED);
+        let (tear, reached) = self.reached();
+        let asked = self.1.cells(number);
+        self.put(page, at, ERASED.programmed(asked, reached));
+        tear.map_or(Ok(()), |_| Err(Down))
+    }
+
+    fn erase(&mut self, page: usize) -> Result<(), Down> {
+        let (tear, reached) = self.reached();
+        for at in 0..self.shape().words() {
+            self.put(page, at, self.cells(page, at).erased(reached));
+        }
+        tear.map_or(Ok(()), |_| Err(Down))
+    }
+}
+
 /// A kind of flash over such a part.
 trait Kind: Driver<Error = Down> + Sized {
     const NUMBERS: usize;
@@ -139,6 +203,18 @@ impl Kind for Numbers {
 
     fn over(part: Part) -> Self {
         Numbers(part)
+    }
+
+    fn part(self) -> Part {
+        self.0
+    }
+}
+
+impl Kind for Coded {
+    const NUMBERS: usize = 2;
+
+    fn over(part: Part) -> Self {
+        Coded(part, Ecc::new(1))
     }
 
     fn part(self) -> Part {
@@ -455,6 +531,11 @@ fn random_calls_of_words() {
 #[test]
 fn random_calls_of_pairs() {
     random_calls::<Numbers>(number("EE_SEED", 2) as u64);
+}
+
+#[test]
+fn random_calls_of_coded_words() {
+    random_calls::<Coded>(number("EE_SEED", 3) as u64);
 }
 
 /// What becomes of a record when one word goes bad.

@@ -38,6 +38,7 @@ const UNFITS: [Unfit; 8] = [
 #[test]
 fn errors_are_shown() {
     let mut all = vec![
+        OpenError::OtherShape { pages: 2, words: 5 },
         OpenError::Unformatted,
         OpenError::NoLiveSet,
         OpenError::TwoLive,

@@ -1,12 +1,12 @@
-//! C's flash, of words or of pairs of numbers, as the device that the proved store works on.
+//! C's flash, of words, of pairs of numbers or of coded words, as the device that the proved store works on.
 
-use crate::numbers::Numbers;
+use crate::numbers::{Codes, Numbers};
 use core::cell::Cell;
 use core::ffi::c_void;
 use core::mem::MaybeUninit;
 use core::ptr::null;
 use core::slice::from_raw_parts;
-use ee_store::proved::{self, Cut, Flash as _, Pairs};
+use ee_store::proved::{self, Coded, Cut, Flash as _, Pairs};
 use ee_store::{Shape, Word};
 
 type WordCall = unsafe extern "C" fn(*mut c_void, u32, u32, *mut u64) -> u32;
@@ -23,7 +23,7 @@ pub struct Flash {
     pub word: Option<WordCall>,
     pub program: Option<ProgramCall>,
     pub erase: Option<EraseCall>,
-    /// 0 for words, 1 for pairs of numbers, 2 for those where an erase clears first.
+    /// 0 for words, 1 for pairs of numbers, 2 for those where an erase clears first, 3 for coded words.
     pub kind: u32,
     pub words: Option<WordsCall>,
 }
@@ -31,6 +31,14 @@ pub struct Flash {
 impl Flash {
     fn has(&self, page: usize) -> bool {
         page < 2 * self.pages as usize
+    }
+
+    fn has_pairs(&self) -> bool {
+        matches!(self.kind, 1 | 2)
+    }
+
+    fn is_coded(&self) -> bool {
+        self.kind == 3
     }
 }
 
@@ -72,7 +80,7 @@ impl Device {
 
     /// Its numbers, while it is on and has some.
     pub fn numbers(&self) -> Option<Numbers<'_>> {
-        let flash = self.flash().filter(|flash| flash.kind != 0)?;
+        let flash = self.flash().filter(|flash| flash.has_pairs())?;
         Some(self.numbers_of(flash))
     }
 
@@ -81,6 +89,25 @@ impl Device {
             device: *self,
             flash,
         }
+    }
+
+    /// Its coded words, while it is on and has some.
+    pub fn codes(&self) -> Option<Coded<Codes<'_>>> {
+        let flash = self.flash().filter(|flash| flash.is_coded())?;
+        Some(self.codes_of(flash))
+    }
+
+    /// The pages of a set and the words of a page that coded words say, where they are others.
+    pub fn other_shape(&self) -> Option<(usize, usize)> {
+        let flash = self.flash().filter(|flash| flash.is_coded())?;
+        let device = *self;
+        let (_, other) = Coded::of(Codes { device, flash }).err()?;
+        Some((other.pages, other.words))
+    }
+
+    fn codes_of<'a>(&self, flash: &'a Flash) -> Coded<Codes<'a>> {
+        let device = *self;
+        Coded::known(Codes { device, flash })
     }
 
     /// The word or the number of a page, `None` if it can't be read.
@@ -214,8 +241,11 @@ impl proved::Flash for Device {
                 return Word::Torn;
             }
         };
-        if flash.kind != 0 {
+        if flash.has_pairs() {
             return Pairs::known(self.numbers_of(flash)).word(page, at);
+        }
+        if flash.is_coded() {
+            return self.codes_of(flash).word(page, at);
         }
         self.found(flash, page, at).map_or(Word::Torn, Word::from)
     }
@@ -224,7 +254,7 @@ impl proved::Flash for Device {
     fn run<'a>(&'a self, page: usize, at: usize, room: &'a mut [u64]) -> &'a [u64] {
         match self.flash() {
             Some(flash) if at != 0 || flash.has(page) => {
-                if flash.kind != 0 {
+                if flash.has_pairs() {
                     self.fill_pairs(flash, page, at, room);
                 } else if let Some(words) = self.seen(flash, page, at, room.len()) {
                     return words;
@@ -237,10 +267,23 @@ impl proved::Flash for Device {
         room
     }
 
+    // What a device says that is off counts for nothing.
+    fn number(&self, reading: u64) -> u64 {
+        self.codes().map_or(reading, |codes| codes.number(reading))
+    }
+
+    fn in_clear(&self, reading: u64) -> u64 {
+        self.codes()
+            .map_or(reading, |codes| codes.in_clear(reading))
+    }
+
     fn program(&mut self, page: usize, at: usize, value: u64) -> Result<(), Cut> {
         let flash = self.flash_with(page)?;
-        if flash.kind != 0 {
+        if flash.has_pairs() {
             return Pairs::known(self.numbers_of(flash)).program(page, at, value);
+        }
+        if flash.is_coded() {
+            return self.codes_of(flash).program(page, at, value);
         }
         self.write(flash, page, at, value)
     }

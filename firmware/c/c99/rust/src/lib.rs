@@ -32,6 +32,7 @@ const EE_WRONG_NUMBER: u32 = 12;
 const EE_NULL: u32 = 13;
 const EE_DUPLICATE: u32 = 14;
 const EE_BUSY: u32 = 15;
+const EE_OTHER_SHAPE: u32 = 16;
 
 /// `ee_numbers` of `ee.h`.
 #[repr(C)]

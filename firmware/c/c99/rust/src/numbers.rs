@@ -1,7 +1,7 @@
-//! C's flash of numbers, two for each word, as the proved words take them.
+//! C's flash of numbers, two for each word or each a coded word, as the proved words take them.
 
 use crate::flash::{Device, Flash};
-use ee_store::proved::{Cut, Flash as _, Nor};
+use ee_store::proved::{Cut, EccNor, Flash as _, Nor};
 use ee_store::Shape;
 
 /// The numbers of a device that was on: they are read and programmed in the flash that it had then. Only its `word`, its `run`,
@@ -39,6 +39,48 @@ impl Nor for Numbers<'_> {
 
     fn window(&self, page: usize, at: usize, count: usize) -> Option<&[u64]> {
         self.device.seen(self.device.flash()?, page, at, count)
+    }
+
+    fn program(&mut self, page: usize, at: usize, number: u64) -> Result<(), Cut> {
+        self.device.write(self.flash, page, at, number)
+    }
+
+    fn erase(&mut self, page: usize) -> Result<(), Cut> {
+        self.device.erased(page)
+    }
+
+    fn cuts(&self) -> u64 {
+        self.device.cuts()
+    }
+
+    fn cuts_left(&self) -> Option<u64> {
+        self.device.cuts_left()
+    }
+
+    fn power_on(&mut self) {}
+}
+
+/// The same of a flash of coded words.
+pub struct Codes<'a> {
+    pub device: Device,
+    pub flash: &'a Flash,
+}
+
+impl EccNor for Codes<'_> {
+    fn shape(&self) -> Shape {
+        self.device.shape
+    }
+
+    fn wear(&self, page: usize) -> u64 {
+        self.device.wear(page)
+    }
+
+    fn is_on(&self) -> bool {
+        self.device.is_on()
+    }
+
+    fn read(&self, page: usize, at: usize) -> Option<u64> {
+        self.device.found(self.device.flash()?, page, at)
     }
 
     fn program(&mut self, page: usize, at: usize, number: u64) -> Result<(), Cut> {

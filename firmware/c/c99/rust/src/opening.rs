@@ -1,10 +1,10 @@
 //! The calls that open a store.
 
 use crate::flash::{Device, Flash};
-use crate::numbers::{How, Numbers};
+use crate::numbers::How;
 use crate::{
-    Kept, Memory, EE_DRIVER, EE_FOREIGN, EE_NO_LIVE_SET, EE_NULL, EE_OK, EE_TWO_LIVE,
-    EE_UNFORMATTED, EE_WRONG_SHAPE,
+    Kept, Memory, EE_DRIVER, EE_FOREIGN, EE_NO_LIVE_SET, EE_NULL, EE_OK, EE_OTHER_SHAPE,
+    EE_TWO_LIVE, EE_UNFORMATTED, EE_WRONG_SHAPE,
 };
 use core::mem::MaybeUninit;
 use core::ptr::{addr_of, addr_of_mut, null};
@@ -33,18 +33,26 @@ fn kept(lent: &mut MaybeUninit<Kept>, mut device: Device, how: How) -> u32 {
     }
 }
 
-/// Says how a flash of numbers is opened, or the status that refuses it. One that holds more than a first start that was cut
-/// leaves is opened, and no first store made there: `Store::open_or_format` of ee-store does so too.
-fn prepared(device: &Device, numbers: Numbers, how: How) -> Result<How, u32> {
-    let clears_first = numbers.clears_first();
+/// Says how a flash is opened, or the status that refuses it. One of numbers or of coded words that holds more than a first start
+/// that was cut leaves is opened, and no first store made there: `Store::open_or_format` of ee-store does so too.
+fn prepared(device: &Device, how: How) -> Result<How, u32> {
     if how == How::Format {
-        // Its own first steps are those of `Pairs::wipe`: it erases each page that isn't blank, by rising page. A page is blank
-        // by its words where it is by its numbers.
+        // Its own first steps are those of `wipe` of `Pairs` and `Coded`: it erases each page that isn't blank, by rising page.
         return Ok(how);
     }
-    if Pairs::of(numbers).is_err() {
-        return Err(EE_FOREIGN);
-    } else if how == How::Start && proved::holds_more(device, clears_first) {
+    if device.other_shape().is_some() {
+        return Err(EE_OTHER_SHAPE);
+    }
+    let mut clears_first = false;
+    if let Some(numbers) = device.numbers() {
+        clears_first = numbers.clears_first();
+        if Pairs::of(numbers).is_err() {
+            return Err(EE_FOREIGN);
+        }
+    } else if device.codes().is_none() {
+        return Ok(how);
+    }
+    if how == How::Start && proved::holds_more(device, clears_first) {
         return Ok(How::Open);
     }
     Ok(how)
@@ -66,15 +74,14 @@ unsafe fn opened(lent: *mut Memory, flash: *const Flash, how: How) -> u32 {
         return EE_NULL;
     }
     let shape = Shape::new(given.pages as usize, given.page_words as usize);
-    let (Some(shape), 0..=2) = (shape, given.kind) else {
+    let (Some(shape), 0..=3) = (shape, given.kind) else {
         return EE_WRONG_SHAPE;
     };
     power.set(flash);
     // SAFETY: the flash has all functions, and C keeps it and the memory where they are.
     let device = unsafe { Device::new(power, shape) };
-    let numbers = device.numbers();
     let memory = unsafe { &mut *addr_of_mut!((*lent).store) };
-    let status = match numbers.map_or(Ok(how), |numbers| prepared(&device, numbers, how)) {
+    let status = match prepared(&device, how) {
         Ok(how) => kept(memory, device, how),
         Err(status) => status,
     };

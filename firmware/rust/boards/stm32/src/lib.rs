@@ -135,12 +135,12 @@ impl Ecc<Flash<'static, Blocking>> for Noted {
 /// The store, as it stands in a `static` or in a resource.
 pub type Settings = Store<NorDriver<Flash<'static, Blocking>, Noted>>;
 
-/// Opens the settings, or makes them on a new part.
+/// Opens the settings, or makes them on a new part. Where there is a store of `Kind::Words` from before, that kind stays.
 ///
 /// # Errors
 ///
 /// Why there are none: the flash doesn't fit, or the store isn't opened.
 pub fn settings(flash: Flash<'static, Blocking>) -> Result<Settings, OpenError<NorError<Error>>> {
-    let driver = NorDriver::over_ecc(flash, RANGE, Kind::Words, Noted)?;
+    let driver = NorDriver::over_ecc(flash, RANGE, Kind::Coded, Noted)?;
     Store::open_or_format(driver)
 }

@@ -2,7 +2,7 @@
 //!
 //!     anything COUNT SEED
 //!
-//! makes so many calls on stores over parts of words, and as many over each kind of pairs. A look at a word gives what stands
+//! makes so many calls on stores over parts of each kind. A look at a word gives what stands
 //! there, or now and then anything: erased, torn, a mark, an element, any number, or an error; and a step is made, or fails,
 //! or does nothing. A part sees to each page and place that is asked for. The last line is `N passed, 0 failed`, of N calls.
 #![forbid(unsafe_code)]
@@ -107,7 +107,7 @@ impl Driver for Part {
 
     fn word(&self, page: usize, at: usize) -> Result<Word, Failed> {
         let number = self.look(page, at)?;
-        if self.kind != Kind::Words {
+        if matches!(self.kind, Kind::Pairs | Kind::PairsClearing) {
             return Ok(Word::from(number));
         }
         Ok(match self.below(4 * self.odds) {
@@ -134,7 +134,7 @@ fn main() {
     };
     let dice = Cell::new(seed.wrapping_mul(0x9e37_79b9_7f4a_7c15) | 1);
     let mut calls = 0;
-    for kind in [Kind::Words, Kind::Pairs, Kind::PairsClearing] {
+    for kind in [Kind::Words, Kind::Pairs, Kind::PairsClearing, Kind::Coded] {
         let mut made = 0;
         while made < count {
             made += play(part(&dice, kind));
@@ -156,7 +156,10 @@ fn part(dice: &Cell<u64>, kind: Kind) -> Part {
     };
     let words = 5 + part.below(6) as usize;
     part.shape = Shape::new(1 + part.below(3) as usize, words).unwrap();
-    let per_word = if kind == Kind::Words { 1 } else { 2 };
+    let per_word = match kind {
+        Kind::Words | Kind::Coded => 1,
+        Kind::Pairs | Kind::PairsClearing => 2,
+    };
     part.numbers = vec![vec![u64::MAX; per_word * words]; 2 * part.shape.pages()];
     part.odds = [2, 10, 50, 300, 2000][part.below(5) as usize];
     part.faults = [0, 0, 30, 1000][part.below(4) as usize];

@@ -1,8 +1,9 @@
 //! Random calls against a map, lists of values among them, each with power cut at every step and in every way.
 //!
-//!     calls COUNT SEED [pairs | clearing]
+//!     calls COUNT SEED [pairs | clearing | coded]
 //!
-//! on a part of words, of pairs of numbers, or of pairs whose erase clears cells first, plays so many calls of stores of random sizes. Each is started on a new part, cut as often as it happens. A call is played first with a cut at its first step, at its second,
+//! on a part of words, of pairs of numbers, of pairs whose erase clears cells first, or of coded words under an ECC drawn for each
+//! store, plays so many calls of stores of random sizes. Each is started on a new part, cut as often as it happens. A call is played first with a cut at its first step, at its second,
 //! and so on, in each of the four ways, up to a step that it does not take; each time the store is opened again, with
 //! a cut in the opening too now and then, and must hold the map before the call or after it. Then it is played uncut.
 //! At last the part is formatted, cut in each step and then again. All these count as calls. The first difference ends the program with a panic; without one it ends with a line
@@ -10,7 +11,7 @@
 #![forbid(unsafe_code)]
 
 use ee_store::{Address, Error, Kind, OpenError, Put, Shape, Store, Written};
-use ee_store_differ::{Part, Shared, Tear, TEARS};
+use ee_store_differ::{ecc::Ecc, Part, Shared, Tear, TEARS};
 use std::collections::{BTreeMap, BTreeSet};
 use std::{env, process};
 
@@ -65,11 +66,12 @@ fn main() {
     let kind = match words.get(2).map(String::as_str) {
         None => Kind::Words,
         Some("clearing") => Kind::PairsClearing,
+        Some("coded") => Kind::Coded,
         Some(_) => Kind::Pairs,
     };
     let numbers: Vec<u64> = words.iter().filter_map(|word| word.parse().ok()).collect();
     let [count, seed] = numbers[..] else {
-        eprintln!("calls COUNT SEED [pairs | clearing]");
+        eprintln!("calls COUNT SEED [pairs | clearing | coded]");
         process::exit(2);
     };
     let mut dice = Dice(seed.wrapping_mul(0x9e37_79b9_7f4a_7c15) | 1);
@@ -100,7 +102,8 @@ impl Course {
         } else {
             1 + dice.below(500) as u16
         };
-        let blank = blank(shape, kind);
+        let mut blank = blank(shape, kind);
+        blank.ecc = Ecc::new(dice.0);
         let (part, starts) = started(blank, dice);
         Course {
             kind,
@@ -198,10 +201,12 @@ impl Course {
             assert_eq!(listed(&store), Map::new());
             let left = shared.0.borrow();
             let fresh = Shared::new(blank(self.shape, self.kind));
+            fresh.0.borrow_mut().ecc = left.ecc.clone();
             assert!(Store::format(fresh.clone()).is_ok());
             let fresh = fresh.0.borrow();
             assert_eq!(left.pages, fresh.pages, "formatted is as new");
             assert_eq!(left.numbers, fresh.numbers, "formatted is as new");
+            assert_eq!(left.cells, fresh.cells, "formatted is as new");
             if !is_cut {
                 return;
             }
@@ -310,6 +315,7 @@ fn blank(shape: Shape, kind: Kind) -> Part {
             clears_first: true,
             ..Part::blank_numbers(shape)
         },
+        Kind::Coded => Part::blank_cells(shape),
     }
 }
 

@@ -115,6 +115,14 @@ impl Flash for Device {
         room
     }
 
+    fn number(&self, reading: u64) -> u64 {
+        reading
+    }
+
+    fn in_clear(&self, reading: u64) -> u64 {
+        reading
+    }
+
     fn program(&mut self, page: usize, at: usize, value: u64) -> Result<(), Cut> {
         if !self.on {
             return Err(Cut);

@@ -29,10 +29,18 @@ pub trait Flash {
     /// What a word holds, whether power is on or off.
     fn word(&self, page: usize, at: usize) -> Word;
 
-    /// The numbers of the words from a place on, as many as there is room for, whether power is on
-    /// or off: `u64::MAX` of an erased word, 0 of a torn one. They stand in the room, or where the
-    /// device has them. `word` tells a torn word from one that holds 0.
+    /// Readings of the words from a place on, as many as there is room for, whether power is on or
+    /// off. They stand in the room, or where the device has them. An erased word alone reads as
+    /// `u64::MAX`, and a slot's number as one that ends in the same 16 bits.
     fn run<'a>(&'a self, page: usize, at: usize, room: &'a mut [u64]) -> &'a [u64];
+
+    /// The number of the word that reads so: `u64::MAX` of an erased word, 0 of a torn one. `word`
+    /// tells a torn word from one that holds 0.
+    fn number(&self, reading: u64) -> u64;
+
+    /// What a reading says of a slot with no check: its number, which a torn word may seem to hold.
+    /// One that ends in 65535 may be that of any word.
+    fn in_clear(&self, reading: u64) -> u64;
 
     /// Programs an erased word with a number below `u64::MAX`, one of those that a store writes.
     ///

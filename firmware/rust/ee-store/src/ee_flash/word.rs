@@ -16,7 +16,7 @@ pub enum Word {
 }
 
 impl Word {
-    /// Its number in a run: `u64::MAX` where it is erased, and 0 where it is torn.
+    /// Its number: `u64::MAX` where it is erased, and 0 where it is torn.
     #[must_use]
     pub const fn number(self) -> u64 {
         match self {

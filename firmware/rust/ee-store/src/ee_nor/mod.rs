@@ -39,6 +39,7 @@
 //!
 //! `specs/Nor.antt`.
 
+pub mod coded;
 mod low_pair;
 mod nor;
 mod pairs;

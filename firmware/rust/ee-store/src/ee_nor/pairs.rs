@@ -101,6 +101,14 @@ impl<N: Nor> Flash for Pairs<N> {
         room
     }
 
+    fn number(&self, reading: u64) -> u64 {
+        reading
+    }
+
+    fn in_clear(&self, reading: u64) -> u64 {
+        reading
+    }
+
     /// Programs an erased word with any number below `u64::MAX`.
     // The complement of 0 is what an erased place reads as.
     fn program(&mut self, page: usize, at: usize, value: u64) -> Result<(), Cut> {

@@ -8,7 +8,7 @@ use crate::ee_pages::number::address_in;
 use crate::ee_pages::runs::{RUN, UNREAD, run_from};
 use crate::ee_pages::side::{Side, first_page};
 use crate::ee_codec::Address;
-use crate::ee_flash::{Flash, HEADER_WORDS};
+use crate::ee_flash::{Flash, HEADER_WORDS, Word};
 
 /// The live addresses of a stretch of addresses, with their values: as many as are found in one
 /// look through the slots.
@@ -72,25 +72,36 @@ fn gather_page<F: Flash>(flash: &F, side: Side, page: usize, above: u16, nearest
     while at < words {
         let run = run_from(flash, here, at, words, &mut room);
         at += run.len();
-        span = note_all(above, span, run, nearest);
+        span = note_all(flash, above, span, run, nearest);
     }
 }
 
-/// Notes what these numbers say, of so many addresses above this one, which are those that have a
+/// Notes what the words of these readings say, of so many addresses above this one, which are those that have a
 /// place in the batch. Gives how many have one then.
 #[inline(never)]
-fn note_all(above: u16, span: u32, numbers: &[u64], nearest: &mut Batch) -> u32 {
+fn note_all<F: Flash>(
+    flash: &F,
+    above: u16,
+    span: u32,
+    readings: &[u64],
+    nearest: &mut Batch,
+) -> u32 {
     let mut span = span;
-    for number in numbers {
-        span = note_within(above, span, *number, nearest);
+    for reading in readings {
+        span = note_within(flash, above, span, *reading, nearest);
     }
     span
 }
 
-/// Notes what a number says, if it is of one of so many addresses above this one.
-fn note_within(above: u16, span: u32, number: u64, nearest: &mut Batch) -> u32 {
+/// Notes what the word of a reading says, if it is of one of so many addresses above this one.
+fn note_within<F: Flash>(flash: &F, above: u16, span: u32, reading: u64, nearest: &mut Batch) -> u32 {
     // Asked first, since most words are of an address that has no place in a batch.
-    if !is_within(address_in(number), above, span) {
+    let address = address_in(reading);
+    if !is_within(address, above, span) {
+        return span;
+    }
+    let number = flash.number(reading);
+    if address_in(number) != address {
         return span;
     }
     if nearest.note_any(number) {

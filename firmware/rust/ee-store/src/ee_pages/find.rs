@@ -8,7 +8,7 @@ use crate::ee_pages::runs::{RUN, UNREAD, run_from};
 use crate::ee_pages::side::{Side, committed, first_page, set_word};
 use crate::ee_pages::state::{blank_to, is_blank, is_torn};
 use crate::ee_pages::table::fits_header;
-use crate::ee_flash::{Flash, HEADER_WORDS};
+use crate::ee_flash::{Flash, HEADER_WORDS, Word};
 
 /// Where the live set of a legal image is and how far it is used.
 #[derive(Clone, Copy, Debug, PartialEq, Eq)]
@@ -185,11 +185,10 @@ fn used_to<F: Flash>(flash: &F, page: usize) -> usize {
     let mut at = HEADER_WORDS;
     while at < words {
         let run = run_from(flash, page, at, words, &mut room);
-        let slots = slots_in(run);
+        let slots = slots_in(flash, run);
         let all = slots == run.len();
         at += slots;
         if !all {
-            // A torn word is 0 in a run, as one that holds 0 is.
             if !is_torn(flash.word(page, at)) {
                 return at;
             }
@@ -199,12 +198,13 @@ fn used_to<F: Flash>(flash: &F, page: usize) -> usize {
     words
 }
 
-/// How many numbers, from the first on, are each of an element or a forgetting.
-fn slots_in(numbers: &[u64]) -> usize {
-    for (place, number) in numbers.iter().enumerate() {
-        if !is_slot(*number) {
+/// How many words of these readings, from the first on, each are torn or have an element or a
+/// forgetting. The next has neither, and may be torn.
+fn slots_in<F: Flash>(flash: &F, readings: &[u64]) -> usize {
+    for (place, reading) in readings.iter().enumerate() {
+        if !is_slot(flash.in_clear(*reading)) {
             return place;
         }
     }
-    numbers.len()
+    readings.len()
 }

@@ -4,11 +4,11 @@
 
 use crate::ee_pages::find::Layout;
 use crate::ee_pages::number::address_in;
-use crate::ee_pages::read::said;
+use crate::ee_pages::read::said_by;
 use crate::ee_pages::runs::{RUN, UNREAD, run_from};
 use crate::ee_pages::side::{Side, first_page};
 use crate::ee_codec::Address;
-use crate::ee_flash::{Flash, HEADER_WORDS};
+use crate::ee_flash::{Flash, HEADER_WORDS, Word};
 
 /// An address whose value is wanted, and the value that a load finds.
 #[derive(Clone, Copy, Debug, PartialEq, Eq)]
@@ -47,26 +47,26 @@ fn tell_page<F: Flash>(flash: &F, side: Side, page: usize, entries: &mut [Wanted
     while at < words {
         let run = run_from(flash, here, at, words, &mut room);
         at += run.len();
-        tell_run(run, entries);
+        tell_run(flash, run, entries);
     }
 }
 
-/// Gives the entries what these numbers of slots say.
-fn tell_run(numbers: &[u64], entries: &mut [Wanted]) {
+/// Gives the entries what the words of these readings say.
+fn tell_run<F: Flash>(flash: &F, readings: &[u64], entries: &mut [Wanted]) {
     for at in 0..entries.len() {
-        if let Some(said) = said_in(numbers, entries[at].address) {
+        if let Some(said) = said_in(flash, readings, entries[at].address) {
             entries[at].value = said;
         }
     }
 }
 
-/// What these numbers of slots say of an address: the last that says something counts.
-fn said_in(numbers: &[u64], address: Address) -> Option<Option<u32>> {
-    let mut left = numbers.len();
+/// What the words of these readings say of an address: the last that says something counts.
+fn said_in<F: Flash>(flash: &F, readings: &[u64], address: Address) -> Option<Option<u32>> {
+    let mut left = readings.len();
     while left > 0 {
         left -= 1;
-        if address_in(numbers[left]) == address.get() {
-            let said = said(numbers[left]);
+        if address_in(readings[left]) == address.get() {
+            let said = said_by(flash, readings[left]);
             if said.is_some() {
                 return said;
             }

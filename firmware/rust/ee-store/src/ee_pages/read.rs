@@ -122,7 +122,7 @@ fn said_in_page<F: Flash>(
         let run = flash.run(here, HEADER_WORDS + left, &mut room[..count]);
         let ends = ending_in(run, address);
         if ends > 0 {
-            if let Some(said) = said(run[ends - 1]) {
+            if let Some(said) = said_by(flash, run[ends - 1]) {
                 return Some(said);
             }
             left += ends - 1;
@@ -131,15 +131,25 @@ fn said_in_page<F: Flash>(
     None
 }
 
-/// How many of these numbers stand up to the last that ends in an address, 0 where none does. It
-/// does no more than that, since most numbers end in another one.
+/// How many of these readings stand up to the last that ends in an address, 0 where none does. It
+/// does no more than that, since most end in another one.
 #[inline(never)]
-fn ending_in(numbers: &[u64], address: Address) -> usize {
-    let mut left = numbers.len();
-    while left > 0 && address_in(numbers[left - 1]) != address.get() {
+fn ending_in(readings: &[u64], address: Address) -> usize {
+    let mut left = readings.len();
+    while left > 0 && address_in(readings[left - 1]) != address.get() {
         left -= 1;
     }
     left
+}
+
+/// What the word of a reading says of the address that this ends in.
+pub(crate) fn said_by<F: Flash>(flash: &F, reading: u64) -> Option<Option<u32>> {
+    let number = flash.number(reading);
+    // Another one ends in another address, as 0 does, the number of a torn word.
+    if address_in(number) != address_in(reading) {
+        return None;
+    }
+    said(number)
 }
 
 /// What a number says of the address that it ends in: nothing, or that it has a value

@@ -11,7 +11,7 @@ pub(crate) const RUN: usize = 16;
 /// cores of 32 bits write such a number with less code.
 pub(crate) const UNREAD: u64 = 0x1_0000_0001;
 
-/// The numbers of the words of a page from a place on: up to `RUN` of them, all before
+/// Readings of the words of a page from a place on: up to `RUN` of them, all before
 /// `end`, and at least one.
 #[inline(always)]
 pub(crate) fn run_from<'a, F: Flash>(

@@ -62,7 +62,7 @@ fn page_number<F: Flash>(flash: &F, side: Side, page: usize, slot: usize) -> u64
         HEADER_WORDS + slot,
         &mut room,
     );
-    run[0]
+    flash.number(run[0])
 }
 
 /// The number of the slot of this number of a set, counted from 0: it says what the slot says.
@@ -74,10 +74,10 @@ pub(crate) fn set_number<F: Flash>(flash: &F, side: Side, slot: usize) -> u64 {
 /// The generation with which a set is committed.
 pub(crate) fn committed<F: Flash>(flash: &F, side: Side) -> Option<u32> {
     let mut room = [1; COMMITTING];
-    let numbers = flash.run(first_page(flash, side), 0, &mut room[..COMMITTING]);
-    // A torn word is 0 in a run, and an erased one all ones: neither is a mark or a receive word.
-    if numbers[1] == MARK {
-        read_receive(Word::Held(numbers[0]))
+    let run = flash.run(first_page(flash, side), 0, &mut room[..COMMITTING]);
+    // The number of a torn word is 0, of an erased one all ones: neither is a mark or a receive word.
+    if flash.number(run[1]) == MARK {
+        read_receive(Word::Held(flash.number(run[0])))
     } else {
         None
     }

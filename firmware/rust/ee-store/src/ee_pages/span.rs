@@ -8,7 +8,7 @@ use crate::ee_pages::read::said;
 use crate::ee_pages::runs::{RUN, UNREAD};
 use crate::ee_pages::side::{Side, first_page};
 use crate::ee_codec::{Address, element_word};
-use crate::ee_flash::{Flash, HEADER_WORDS};
+use crate::ee_flash::{Flash, HEADER_WORDS, Word};
 
 /// How many addresses a span has at the most.
 pub const SPAN: usize = 16;
@@ -57,11 +57,16 @@ impl Span {
         }
     }
 
-    /// Notes what a number says, if it is of one of the addresses, of which nothing is said.
-    fn note(&mut self, number: u64) {
-        let at = usize::from(address_in(number).wrapping_sub(self.first.get()));
+    /// Notes what the word of a reading says, if it is of one of the addresses, of which nothing is
+    /// said.
+    fn note<F: Flash>(&mut self, flash: &F, reading: u64) {
+        let address = address_in(reading);
+        let at = usize::from(address.wrapping_sub(self.first.get()));
         if at < self.count && said(self.numbers[at]).is_none() {
-            self.numbers[at] = number;
+            let number = flash.number(reading);
+            if address_in(number) == address {
+                self.numbers[at] = number;
+            }
         }
     }
 
@@ -116,17 +121,17 @@ fn tell_page<F: Flash>(
         let count = RUN.min(left);
         left -= count;
         let run = flash.run(here, HEADER_WORDS + left, &mut room[..count]);
-        tell_run(run, span);
+        tell_run(flash, run, span);
         said_to = span.said_from(said_to);
     }
     said_to
 }
 
-/// Notes what these numbers say, which stand before those noted.
-fn tell_run(numbers: &[u64], span: &mut Span) {
-    let mut left = numbers.len();
+/// Notes what the words of these readings say, which stand before those noted.
+fn tell_run<F: Flash>(flash: &F, readings: &[u64], span: &mut Span) {
+    let mut left = readings.len();
     while left > 0 {
         left -= 1;
-        span.note(numbers[left]);
+        span.note(flash, readings[left]);
     }
 }

@@ -74,23 +74,23 @@ pub fn blank_to<F: Flash>(flash: &F, page: usize, from: usize) -> usize {
     words
 }
 
-/// Whether all numbers are all ones.
-fn is_erased(numbers: &[u64]) -> bool {
+/// Whether all readings are all ones.
+fn is_erased(readings: &[u64]) -> bool {
     let mut all = u64::MAX;
-    for number in numbers {
-        all &= *number;
+    for reading in readings {
+        all &= *reading;
     }
     all == u64::MAX
 }
 
-/// How many numbers, from the first on, are all ones.
-fn erased_in(numbers: &[u64]) -> usize {
-    for (place, number) in numbers.iter().enumerate() {
-        if *number != u64::MAX {
+/// How many readings, from the first on, are all ones.
+fn erased_in(readings: &[u64]) -> usize {
+    for (place, reading) in readings.iter().enumerate() {
+        if *reading != u64::MAX {
             return place;
         }
     }
-    numbers.len()
+    readings.len()
 }
 
 /// Whether something was programmed into the word, whole or torn.
