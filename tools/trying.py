@@ -4,6 +4,7 @@ import re
 import shutil
 import subprocess
 import tempfile
+from pathlib import Path
 
 # Where files are written in memory alone, if there is such a folder.
 MEMORY = "/dev/shm" if os.access("/dev/shm", os.W_OK) else None
@@ -42,6 +43,16 @@ class Place:
 
     def names(self):
         return sorted(os.listdir(self.folder))
+
+    def left(self):
+        """What stands in the folder: of each name its mode, its owner, and its text or where it
+        leads."""
+        found = {}
+        for path in sorted(Path(self.folder).rglob("*")):
+            at, is_link = path.lstat(), path.is_symlink()
+            text = os.readlink(path) if is_link else path.read_bytes() if path.is_file() else None
+            found[str(path.relative_to(self.folder))] = at.st_mode, at.st_uid, at.st_gid, text
+        return found
 
     def run(self, words, prefix=(), **how):
         """The status, or that there was no end; what was printed, and said on standard error."""
