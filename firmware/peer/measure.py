@@ -33,20 +33,13 @@ def four_calls(tally, targets, what, core, flags):
     """The instructions of the four calls on a core, None where they fail."""
     board, tick, for_linker = targets.BOARDS[core]
     program = tally.folder / "peer.elf"
-    words = [
-        "arm-none-eabi-gcc",
-        *flags,
-        "-nostdlib",
-        *for_linker,
-        "-Tcortex-m/link.ld",
-        "-Wl,--gc-sections,-z,noexecstack",
-    ]
-    sources = [HERE / "calls.c", HERE / "peer.c", "cortex-m/memory.c"]
-    if tally.run(f"the program for {what}", *words, *sources, "-lgcc", "-o", program) is None:
+    linked = [*for_linker, "-nostdlib", "-Tcortex-m/link.ld", "-Wl,--gc-sections,-z,noexecstack"]
+    sources = [HERE / "calls.c", HERE / "peer.c", "cortex-m/memory.c", "-lgcc", "-o", program]
+    built = ["arm-none-eabi-gcc", *flags, *linked, *sources]
+    if tally.run(f"the program for {what}", *built) is None:
         return None
-    ticks = tally.run(
-        what, "qemu-system-arm", "-M", *board, *targets.COUNTED, *targets.QEMU, program
-    )
+    words = ["qemu-system-arm", "-M", *board, *targets.COUNTED, *targets.QEMU, program]
+    ticks = tally.run(what, *words)
     return ticks and [round(int(it) * tick / targets.INSTRUCTION) for it in ticks.split()]
 
 
@@ -54,26 +47,15 @@ def figures(tally, targets, core, choice):
     """Bytes of code and the four calls of one of the peers, None where it fails."""
     pairs, mapped, scans = choice
     what = f"the peer on {CORES[core]}, {KINDS[pairs]}, {READ_BY[mapped]}, {MOVES[scans]}"
-    flags = [
-        *targets.STRICT,
-        "-std=c99",
-        "-Os",
-        "-ffreestanding",
-        "-mthumb",
-        f"-mcpu={core}",
-        f"-DPEER_PAIRS={pairs}",
-        f"-DPEER_MAPPED={mapped}",
-        f"-DPEER_SCANS={scans}",
-    ] + [f"-DPEER_ADDRESSES={VARIABLES}"] * scans
+    flags = [*targets.STRICT, *"-std=c99 -Os -ffreestanding -mthumb".split(), f"-mcpu={core}"]
+    flags += [f"-DPEER_{it}={value}" for it, value in zip(("PAIRS", "MAPPED", "SCANS"), choice)]
+    flags += [f"-DPEER_ADDRESSES={VARIABLES}"] * scans
     compiled = tally.folder / "peer.o"
     words = [
-        "arm-none-eabi-gcc",
-        *flags,
-        "-ffunction-sections",
-        "-c",
-        HERE / "peer.c",
-        "-o",
+        *"arm-none-eabi-gcc -ffunction-sections -c -o".split(),
         compiled,
+        HERE / "peer.c",
+        *flags,
     ]
     if tally.run(f"the object for {what}", *words) is None:
         return None
