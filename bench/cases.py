@@ -46,9 +46,6 @@ def script_text(*lines):
     return "".join(line + "\n" for line in lines).encode()
 
 
-SIX = worked.formatted(1, 6)
-
-
 def values_script():
     """Writes the values 0 to 99999 and the greatest at one address, and reads each."""
     return script_text(*(f"w 1 {value}\nr 1" for value in [*range(100000), 2**32 - 1]))
@@ -56,33 +53,29 @@ def values_script():
 
 def full_script(slots):
     """Fills as many slots with a variable each, and moves them all two times."""
-    puts = [(address, 2**32 - 1 - address) for address in range(1, slots + 1)]
-    return script_text(
-        *(f"w {address} {value}" for address, value in [*puts, (1, 0), (2, 2**32 - 1)])
-    )
+    lines = (f"w {address} {2**32 - 1 - address}" for address in range(1, slots + 1))
+    return script_text(*lines, "w 1 0", f"w 2 {2**32 - 1}")
+
+
+# A new part.
+SIX = worked.formatted(1, 6)
 
 
 def limits():
     """Texts as long as they may be, and a byte longer; long texts with nothing in them; every value
     up to a hundred thousand, and the greatest image full."""
-    reads = b"r 1\n" * (SCRIPT_BYTES // 4)
-    scripts = {
-        "no line end": b"w 1 1",
-        "the longest script": reads,
-        "a script too long": reads + b"\n",
-        "zeros for a script": bytes(SCRIPT_BYTES),
-        "line feeds for a script": b"\n" * SCRIPT_BYTES,
-    }
-    images = {
-        "zeros for an image": bytes(IMAGE_BYTES),
-        "an image too long": SIX + bytes(IMAGE_BYTES + 1 - len(SIX)),
-        "a long first line": b"ee 1 " + b"6" * (IMAGE_BYTES - 6) + b"\n",
-    }
-    large = [Case("each value", worked.formatted(1, 512), [values_script()])]
-    large += [Case("the greatest image", worked.formatted(64, 512), [full_script(64 * 508)])]
-    return large + [
-        *(Case(name, SIX, [script]) for name, script in scripts.items()),
-        *(Case(name, image, [b""]) for name, image in images.items()),
+    reads, too_long = b"r 1\n" * (SCRIPT_BYTES // 4), SIX + bytes(IMAGE_BYTES + 1 - len(SIX))
+    return [
+        Case("each value", worked.formatted(1, 512), [values_script()]),
+        Case("the greatest image", worked.formatted(64, 512), [full_script(64 * 508)]),
+        Case("no line end", SIX, [b"w 1 1"]),
+        Case("the longest script", SIX, [reads]),
+        Case("a script too long", SIX, [reads + b"\n"]),
+        Case("zeros for a script", SIX, [bytes(SCRIPT_BYTES)]),
+        Case("line feeds for a script", SIX, [b"\n" * SCRIPT_BYTES]),
+        Case("zeros for an image", bytes(IMAGE_BYTES), [b""]),
+        Case("an image too long", too_long, [b""]),
+        Case("a long first line", b"ee 1 " + b"6" * (IMAGE_BYTES - 6) + b"\n", [b""]),
     ]
 
 

@@ -275,24 +275,21 @@ class Waiting:
         return self.run.returncode, printed, told
 
 
-def changed_meanwhile(place, command):
-    """An image that another program changes while a run reads its script stays as that left it."""
+def meanwhile(place, command, change):
+    """An image that another program changes, or takes away, while a run reads its script stays as
+    that left it."""
     run, changed = Waiting(place, command, 1, 10), MOVED.replace(b"0000000c", b"0000000d")
     with run.begun() as pipe:
-        place.put("image", changed)
+        if change == "gone":
+            os.unlink(place.path("image"))
+        else:
+            place.put("image", changed)
         pipe.write(run.line)
     expect(IMAGE_CHANGED, run.end(), "the end")
-    place.stands(changed, "")
-
-
-def gone_meanwhile(place, command):
-    """An image that is gone isn't made anew."""
-    run = Waiting(place, command, 1, 10)
-    with run.begun() as pipe:
-        os.unlink(place.path("image"))
-        pipe.write(run.line)
-    expect(IMAGE_CHANGED, run.end(), "the end")
-    expect(sorted({*INPUTS, *place.more} - {"image"}), place.names(), "files")
+    left = sorted({*INPUTS, *place.more} - ({"image"} if change == "gone" else set()))
+    expect(left, place.names(), "files")
+    if change != "gone":
+        place.stands(changed, "")
 
 
 def at_once(place, _):
@@ -322,23 +319,16 @@ def at_once(place, _):
     expect(sorted([*INPUTS, *place.more]), place.names(), "files")
 
 
-def lost_output(place, words, new):
+def lost_output(place, name):
     """Standard output is full, or a pipe that nobody reads: the image was written before."""
+    words, new = place.written(name) if name in WRITERS else (READERS[name], MOVED)
     reading, writing = os.pipe()
     os.close(reading)
     end = (3, None, b"ee: cannot write output\n")
     with open("/dev/full", "wb") as full, os.fdopen(writing, "wb") as closed:
-        for name, output in (("a full device", full), ("a closed pipe", closed)):
+        for what, output in (("a full device", full), ("a closed pipe", closed)):
             place.put("image", MOVED)
-            place.ends(end, words, new, f"with {name}", stdout=output)
-
-
-def lost_output_writer(place, writer):
-    lost_output(place, *place.written(writer))
-
-
-def lost_output_reader(place, reader):
-    lost_output(place, READERS[reader], MOVED)
+            place.ends(end, words, new, f"with {what}", stdout=output)
 
 
 def in_place(place, writer, options):
@@ -518,31 +508,28 @@ def can_mount(folder):
 
 
 # The checks that can be made everywhere: a function, and the names that it is given.
-USUAL = [
-    *((check, WRITERS) for check in (no_room, links, modes, leftover, second_name, held)),
-    (taken, ["run"]),
-    *((check, ["run", "run --indexed"]) for check in (changed_meanwhile, gone_meanwhile)),
-    (at_once, ["runs"]),
-    (lost_output_writer, WRITERS),
-    (lost_output_reader, [name for name in READERS if name != "stale"]),
-    *((check, ["format"]) for check in (output_as_image, new_image)),
-    (output_to_image, WRITERS),
-    (at_a_terminal, ["try"]),
-    (refused, REFUSED),
-]
+USUAL = {
+    **dict.fromkeys((no_room, links, modes, leftover, second_name, held, output_to_image), WRITERS),
+    lost_output: [*WRITERS, *(name for name in READERS if name != "stale")],
+    refused: REFUSED,
+    taken: ["run"],
+    **dict.fromkeys((output_as_image, new_image, at_once, at_a_terminal), [""]),
+}
 
 
 def all_checks(program, folder, tally):
     """Each check: a function, the name that it is given, and what else."""
-    functions = USUAL + [(owner, WRITERS)] * (os.getuid() == 0)
+    functions = USUAL | ({owner: WRITERS} if os.getuid() == 0 else {})
     if can_mount(folder):
-        functions.append((full_system, WRITERS))
+        functions[full_system] = WRITERS
     else:
         tally.skip("a full file system", "none can be mounted (run it as root)")
     if not tally.lacks("the calls on files", ["strace"], "apt-get install strace"):
-        functions.append((system_calls, [*WRITERS, *READERS, *REFUSED]))
-    for function, names in functions:
+        functions[system_calls] = [*WRITERS, *READERS, *REFUSED]
+    for function, names in functions.items():
         yield from ((function, name) for name in names)
+    for command, change in product(("run", "run --indexed"), ("changed", "gone")):
+        yield meanwhile, command, change
     options = other_user(program, folder)
     if options is None:
         tally.skip("folders that may not be written", "another user can't run the program")

@@ -128,6 +128,24 @@ class EccFlash(Stm32):
         flags = self.others[self.ECCR] & ~(value & self.FLAGS) & ~self.ECCIE
         self.others[self.ECCR] = flags | (value & self.ECCIE)
 
+    def is_by_cache(self):
+        return self.is_cached()
+
+    def read_flash(self, offset, width):
+        check(width == 4 and self.is_settled, "a read before the cache is on or off as it was told")
+        self.settle()
+        at = offset // 4
+        if self.is_by_cache():
+            return self.cache.read(at, self.fetch)[0]
+        self.sense(at // self.PARTS)
+        return self.cells.values[at]
+
+    def fetch(self, at):
+        """A line for the cache."""
+        for unit in range(at // self.PARTS, (at + self.LINE) // self.PARTS):
+            self.sense(unit)
+        return self.cells.values[at : at + self.LINE]
+
     def is_of_others(self):
         """So it is beside a corrected one, which may have been first: the address may be that of either. So it is where the address
         is of another word."""
@@ -162,20 +180,6 @@ class DoubleWords(EccFlash):
     def is_cached(self):
         return self.others[self.ACR] & self.ON
 
-    def read_flash(self, offset, width):
-        check(width == 4 and self.is_settled, "a read before the cache is on or off as it was told")
-        self.settle()
-        half = offset // 4
-        if not self.others[self.ACR] & self.ON:
-            self.sense(half // 2)
-            return self.cells.values[half]
-        return self.cache.read(half, self.fetch)[0]
-
-    def fetch(self, half):
-        for unit in range(half // 2, (half + self.LINE) // 2):
-            self.sense(unit)
-        return self.cells.values[half : half + self.LINE]
-
     def leave(self, cells, at, values):
         super().leave(cells, at, values)
         if self.updates and cells is self.cells and values != [ONES, ONES]:
@@ -184,8 +188,8 @@ class DoubleWords(EccFlash):
     def set(self, offset, value):
         if offset == self.ECCR:
             self.set_eccr(value)
-            return
-        self.control_cache(offset, value, self.ON, self.EMPTY)
+        else:
+            self.control_cache(offset, value, self.ON, self.EMPTY)
 
 
 class Stm32g4(DoubleWords):
@@ -228,7 +232,7 @@ class Stm32u5(EccFlash):
     """The last two pages of 8 KB of the first bank, which is read at the address of the second, and ICACHE: a line for each unit
     of 16 bytes."""
 
-    FLASH, SIZE, PARTS, PAGES, COUNT = 0x081FC000, 0x4000, 4, 2, 1024
+    FLASH, SIZE, PARTS, LINE, PAGES, COUNT = 0x081FC000, 0x4000, 4, 4, 2, 1024
     FIRST_PAGE, BANK, PAGES_MASK = 126, 0, 0xFF
     FIRST_UNIT, UNIT, BESIDE = FIRST_PAGE * 512, 16, 0
     SR, CR, ECCR, OPTR = 32, 40, 48, 64
@@ -241,13 +245,16 @@ class Stm32u5(EccFlash):
         return [*super().regions(), (self.CACHE, 0x1000, self.read_cache, self.write_cache)]
 
     def reset(self):
-        self.cache, self.cache_busy, self.is_ended = Cache(self.PARTS), 0, False
+        self.cache, self.cache_busy, self.is_ended = Cache(self.LINE), 0, False
         # The cache is emptied as it is turned off.
         self.empties = self.dice.random() < 0.5
         super().reset()
 
     def is_cached(self):
         return self.others[self.CACHE_CR] & 1
+
+    def is_by_cache(self):
+        return self.is_cached() and not self.cache_busy
 
     def set(self, offset, value):
         check(offset == self.ECCR, "another register is written")
@@ -278,19 +285,7 @@ class Stm32u5(EccFlash):
         if self.cache_busy:
             return
         if value & 2 or (self.empties and before & ~value & 1):
-            self.cache, self.cache_busy = Cache(self.PARTS), 9
-
-    def read_flash(self, offset, width):
-        check(width == 4 and self.is_settled, "a read before the cache is on or off as it was told")
-        self.settle()
-        at = offset // 4
-        if not self.others[self.CACHE_CR] & 1 or self.cache_busy:
-            return self.fetch(at)[0]
-        return self.cache.read(at, self.fetch)[0]
-
-    def fetch(self, at):
-        self.sense(at // self.PARTS)
-        return self.cells.values[at : at + self.PARTS]
+            self.cache, self.cache_busy = Cache(self.LINE), 9
 
     def is_at_rest(self):
         return super().is_at_rest() and not self.is_ended
