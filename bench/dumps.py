@@ -112,9 +112,8 @@ def told_of(found):
     of this page and place."""
     if isinstance(found, bytes):
         return 0, "imported\n"
-    if isinstance(found, int):
-        return 3, f"ee: dump line {found}\n"
-    return 3, "ee: dump {} {} {}\n".format(*found)
+    wrong = "line {}".format(found) if isinstance(found, int) else "{} {} {}".format(*found)
+    return 3, f"ee: dump {wrong}\n"
 
 
 def record(address, kind, data):
@@ -313,14 +312,14 @@ def damaged_pairs(place):
         expect(place, f"import --pairs {pages} {words} dump image", (3, "ee: dump length\n"))
 
 
-def greatest_text(place):
+def greatest_texts(place):
+    for form in FORMS:
+        greatest_text(place, form)
+
+
+def greatest_text(place, form):
     """A text as long as may be read says the greatest part over and over; one that is longer isn't
     read."""
-    for form in FORMS:
-        greatest_text_of(place, form)
-
-
-def greatest_text_of(place, form):
     dump = form.written(random_dump(random.Random(4), PAGES, WORDS))
     rows = hex_of(dump, 0)
     end = record(0, 1, b"")
@@ -344,7 +343,7 @@ def greatest_text_of(place, form):
 
 def checks(program, folder, tally):
     """Makes each check in a folder of its own. Gives its name and what was found, if anything."""
-    tried = [(bytes_and_texts,), (broken_texts,), (damaged_pairs,), (greatest_text,)]
+    tried = [(bytes_and_texts,), (broken_texts,), (damaged_pairs,), (greatest_texts,)]
     if not tally.lacks("HEX by objcopy", ["objcopy"], "apt-get install binutils"):
         tried.append((objcopy,))
     return trying.faults(tried, lambda: trying.Place(program, folder))

@@ -1,19 +1,10 @@
-#!/usr/bin/env python3
-"""Measures the peer as firmware/targets measures the store: code, and the instructions of four calls, in QEMU.
-
-    python3 firmware/peer/measure.py
+"""Measures the peer as firmware/targets measures the store, which calls this: code, and the instructions of four calls, in QEMU.
 
 Each row is a target, what the flash has, how it is read, how a move finds what it copies, bytes of code and constants, and the
-instructions of calls.c: a write into a free slot, a read through all slots, an opening, and a move. The last line is
-`N passed, M failed, K skipped`. firmware/targets has the same rows, and the store's over them."""
-import importlib.machinery
-import importlib.util
+instructions of calls.c: a write into a free slot, a read through all slots, an opening, and a move."""
 import itertools
-import sys
-import tempfile
 from pathlib import Path
 
-sys.dont_write_bytecode = True
 HERE = Path(__file__).resolve().parent
 CORES = {"cortex-m4": "Cortex-M4", "cortex-m0plus": "Cortex-M0+"}
 KINDS, READ_BY, MOVES = (
@@ -92,27 +83,3 @@ def ratios(peers, rows):
                 over = [f"{its / mine:.2f}" for its, mine in zip(row.calls, peer[1:])]
                 cells.append([*row[:4], read_by, *over])
     return cells
-
-
-def loaded_targets():
-    """firmware/targets as a module."""
-    sys.path.insert(0, str(HERE.parent))
-    loader = importlib.machinery.SourceFileLoader("targets", str(HERE.parent / "targets"))
-    module = importlib.util.module_from_spec(importlib.util.spec_from_loader("targets", loader))
-    loader.exec_module(module)
-    return module
-
-
-def main():
-    targets = loaded_targets()
-    with tempfile.TemporaryDirectory() as folder:
-        tally = targets.Tally(folder, "firmware/peer")
-        if tally.lacks("Cortex-M", ["arm-none-eabi-gcc", "qemu-system-arm"], ".ci/install"):
-            return tally.close()
-        for cells in [COLUMNS, *lines(measured(tally, targets))]:
-            print(targets.line_of(*cells))
-    return tally.close()
-
-
-if __name__ == "__main__":
-    sys.exit(main())
