@@ -90,13 +90,8 @@ class Source:
     """The tokens of a proved source, and the forms in it that plain Rust has not."""
 
     def __init__(self, package, crate, path):
-        self.package = package
-        self.crate = crate
-        self.name = (crate, path.stem)
-        text = path.read_text()
-        self.lines = text.split("\n")
-        self.absent = package.absent[crate]
-        self.tokens = scan(text)
+        self.package, self.crate, self.name = package, crate, (crate, path.stem)
+        self.absent, self.tokens = package.absent[crate], scan(path.read_text())
         jumps = zip(self.tokens, self.tokens[1:])
         self.named = {label for (word, _), (label, _) in jumps if word in ("break", "continue")}
 
@@ -179,24 +174,20 @@ class Source:
             return "hidings of modules", place + 7
         return None
 
-    def derived(self, place):
+    def derived(self, at):
         """A name in a `derive` that the package has not, or a `derive` of such names alone."""
-        if self.reads(place, "#", "[", "derive", "("):
-            end = self.closed(place + 1)
-            names = {self.text(now) for now in range(place + 4, end - 2)} - {","}
+        if self.reads(at, "#", "[", "derive", "("):
+            end = self.closed(at + 1)
+            names = {self.text(now) for now in range(at + 4, end - 2)} - {","}
             return ("derives", end) if names and names <= self.package.derives else None
-        behind = self.text(place + 1) in self.package.derives and self.text(place) == ","
-        if behind and self.text(place + 2) in (",", ")") and self.in_derive(place):
-            return "derives", place + 2
-        before = self.text(place) in self.package.derives and self.text(place + 1) == ","
-        if before and self.text(place - 1) == "(" and self.text(place - 2) == "derive":
-            return "derives", place + 2
-        return None
-
-    def in_derive(self, place):
-        while self.text(place) not in ("(", "", "{", ";"):
+        name, other, place = self.text(at), self.text(at + 1), at
+        is_first = name in self.package.derives and other == "," and self.text(at - 1) == "("
+        is_later = name == "," and other in self.package.derives and self.text(at + 2) in (",", ")")
+        if not is_first and not is_later:
+            return None
+        while self.text(place - 1) not in ("(", "", "{", ";"):
             place -= 1
-        return self.text(place - 1) == "derive"
+        return ("derives", at + 2) if self.text(place - 2) == "derive" else None
 
     def bound(self, place):
         if self.reads(place, "+", "Drop") and self.text(place + 2) in (">", ",", "+", "{", "="):

@@ -83,14 +83,9 @@ class Begun:
     def __init__(self, turn):
         self.turn, self.name = turn, " ".join([turn.part, *turn.words])
         self.kept = tempfile.TemporaryFile("w+") if turn.beside else None
-        self.process = subprocess.Popen(
-            [*PARTS[turn.part].test, *turn.words],
-            cwd=TOP,
-            stdout=self.kept or subprocess.PIPE,
-            stderr=subprocess.STDOUT,
-            text=True,
-            start_new_session=True,
-        )
+        how = {"cwd": TOP, "stderr": subprocess.STDOUT, "text": True, "start_new_session": True}
+        words = [*PARTS[turn.part].test, *turn.words]
+        self.process = subprocess.Popen(words, stdout=self.kept or subprocess.PIPE, **how)
 
     def shown(self):
         """Shows what it prints, to its end, and gives the lines."""
@@ -120,15 +115,14 @@ class Run:
         """Begins a part, or skips it for what is missing. The program is sought, and built, behind
         the first one."""
         if self.begun and not self.is_sought:
-            found, self.is_sought = program(), True
-            if found:
-                os.environ["EE"] = found
+            os.environ |= {"EE": found} if (found := program()) else {}
+            self.is_sought = True
         wants = missing(turn.part)
         if wants:
             self.skipped.add(f"skipped: {turn.part}, all of it: {wants}")
             self.tally.skipped += 1
-            return
-        self.begun.append(Begun(turn))
+        else:
+            self.begun.append(Begun(turn))
 
     def finish(self, part):
         """Waits for a part, and adds up what it said."""
