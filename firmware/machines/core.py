@@ -1,6 +1,7 @@
 """A Cortex-M in Unicorn, with a part behind its addresses. Unicorn has no NVIC, so the NMI is taken here by hand: its frame is
 pushed, the vector table is followed, and the return is undone."""
 import struct
+import subprocess
 
 from tools.places import said_by
 from unicorn import UC_ARCH_ARM, UC_HOOK_CODE, UC_MODE_MCLASS, UC_MODE_THUMB, Uc, UcError
@@ -35,23 +36,12 @@ class Program:
     """A program as the linker made it."""
 
     def __init__(self, path, core):
-        self.core, whole = core, path.read_bytes()
-        at, size, count = (
-            struct.unpack_from(*it)[0]
-            for it in (("<I", whole, 28), ("<H", whole, 42), ("<H", whole, 44))
-        )
-        headers = [struct.unpack_from("<8I", whole, at + i * size) for i in range(count)]
-        # Where each piece stands in flash, and its bytes.
-        self.pieces = [
-            (physical, whole[offset : offset + length])
-            for kind, offset, _, physical, length, *_ in headers
-            if kind == 1 and length
-        ]
-        self.base = min(place for place, _ in self.pieces)
+        self.core, code = core, path.with_suffix(".bin")
+        subprocess.run(["arm-none-eabi-objcopy", "-O", "binary", path, code], check=True)
         names = (line.split() for line in said_by("arm-none-eabi-nm", path).splitlines())
-        self.names = {
-            name: int(value, 16) for value, _, name in (it for it in names if len(it) == 3)
-        }
+        self.names = {it[2]: int(it[0], 16) for it in names if len(it) == 3}
+        # Where it stands in flash, which its vectors begin, and its bytes.
+        self.base, self.code = self.names["vectors"], code.read_bytes()
         self.barriers, self.conditional = [], set()
         self.read(said_by("arm-none-eabi-objdump", "-d", path).splitlines())
 
@@ -80,8 +70,7 @@ class Core:
         self.uc = uc = Uc(UC_ARCH_ARM, UC_MODE_THUMB | UC_MODE_MCLASS)
         uc.ctl_set_cpu_model(MODELS[program.core])
         uc.mem_map(program.base & ~(PAGE - 1), 0x8000)
-        for place, piece in program.pieces:
-            uc.mem_write(place, piece)
+        uc.mem_write(program.base, program.code)
         uc.mem_map(RAM, RAM_SIZE)
         self.map(TESTER, PAGE, self.ask, self.tell)
         for base, size, read, write in part.regions():
