@@ -38,52 +38,39 @@ FILES = {
     "bad": "w 1\n",
     "dump": "old",
 }
-SET, FORMAT, NEW, GET = (
-    "set image settings a 7",
-    "format 1 6 image",
-    "format 1 6 new",
-    "get image settings a",
-)
-# A name so long that none beside it can be made.
-LONG = "mv image $(printf %250s | tr ' ' i); ln -s i* image"
-IN_ODD = """sh -c 'cd "$(printf "\\377")" && exec "$@"' sh"""
 # What is tried: the name of a way, what a shell does before in the folder, the words in front of the
-# program, and the commands. In an odd folder, whose name is no text, lie the image and a link.
-CASES = [
-    (
-        "nothing",
-        "",
-        "",
-        [NEW, FORMAT, SET, "run image script", "run image bad", "export image new"],
-    ),
-    ("nothing more", "", "", ["export image dump", GET, "clean image", "set image settings a 99"]),
-    ("another owner", "chown 1:1 image; chmod 640 image", "", [SET, FORMAT]),
-    ("a link", "mv image real; ln -s real image", "", [SET, FORMAT]),
-    ("a link to nothing", "rm image; ln -s real image", "", [FORMAT, SET]),
-    ("a name that is taken", "printf another > image.ee-saving-0", "", [SET]),
-    ("all names taken", "for n in $(seq 0 99); do echo > image.ee-saving-$n; done", "", [SET]),
-    ("a lock", "", "flock -o image", [SET, FORMAT, GET]),
-    ("no image", "rm image", "", [SET, FORMAT, "format 1 6 none/image"]),
-    ("a folder", "rm image; mkdir image", "", [SET, FORMAT]),
-    ("a device", "rm image; ln -s /dev/full image", "", [FORMAT, "export dump image"]),
-    ("a long name", LONG, "", [SET, FORMAT]),
-    ("a longer text", f"printf %200s >> image; {LONG}", "", [FORMAT, "format 1 5 image"]),
-    ("no room", "", "prlimit --fsize=40", [SET, FORMAT, NEW, "export image dump"]),
-    (
-        "an odd folder",
-        'it=$(printf "\\377"); mkdir "$it"; mv image "$it"; ln -s ../settings "$it"',
-        IN_ODD,
-        [SET, FORMAT, NEW],
-    ),
-    ("a full output", "", """sh -c 'exec "$@" > /dev/full' sh""", [SET, NEW, GET]),
-    ("no output", "", "", [GET, NEW]),
-    (
-        "an odd word",
-        "",
-        """sh -c 'exec "$@" "$(printf "\\377")"' sh""",
-        ["list image", "format 1 6"],
-    ),
-]
+# program, and the commands. In an odd folder, whose name is no text, lie the image and a link; beside
+# a long name none can be made.
+TABLE = r"""
+nothing :: :: :: NEW; FORMAT; SET; run image script; run image bad; export image new
+nothing more :: :: :: DUMP; GET; clean image; set image settings a 99
+another owner :: chown 1:1 image; chmod 640 image :: :: SET; FORMAT
+a link :: mv image real; ln -s real image :: :: SET; FORMAT
+a link to nothing :: rm image; ln -s real image :: :: FORMAT; SET
+a name that is taken :: printf another > image.ee-saving-0 :: :: SET
+all names taken :: for n in $(seq 0 99); do echo > image.ee-saving-$n; done :: :: SET
+a lock :: :: flock -o image :: SET; FORMAT; GET
+no image :: rm image :: :: SET; FORMAT; format 1 6 none/image
+a folder :: rm image; mkdir image :: :: SET; FORMAT
+a device :: rm image; ln -s /dev/full image :: :: FORMAT; export dump image
+a long name :: mv image LONG; ln -s LONG image :: :: SET; FORMAT
+a longer text :: printf %200s >> image; mv image LONG; ln -s LONG image :: :: FORMAT; format 1 5 image
+no room :: :: prlimit --fsize=40 :: SET; FORMAT; NEW; DUMP
+an odd folder :: mkdir "$ODD"; mv image "$ODD"; ln -s ../settings "$ODD" :: sh -c 'cd "$ODD" && exec "$@"' sh :: SET; FORMAT; NEW
+a full output :: :: sh -c 'exec "$@" > /dev/full' sh :: SET; NEW; GET
+no output :: :: :: GET; NEW
+an odd word :: :: sh -c 'exec "$@" "$ODD"' sh :: list image; format 1 6
+"""
+SHORT = {
+    "SET": "set image settings a 7",
+    "FORMAT": "format 1 6 image",
+    "NEW": "format 1 6 new",
+    "GET": "get image settings a",
+    "DUMP": "export image dump",
+}
+LINES = TABLE.replace("LONG", "i" * 250).strip().splitlines()
+CASES = [re.split(r"\s*::\s*", line) for line in LINES]
+ENV = {**os.environb, b"ODD": b"\xff"}
 
 
 def in_one_form(calls, folder):
@@ -102,12 +89,13 @@ def outcome(program, way, before, prefix, words):
     """What a program says, does to files and leaves."""
     with tempfile.TemporaryDirectory() as name:
         place = Place(program, os.path.realpath(os.path.join(name, "place")), FILES)
-        place.run(FORMAT)
-        subprocess.run(["sh", "-c", before], cwd=place.folder, check=True)
+        place.run("format 1 6 image")
+        subprocess.run(["sh", "-c", before], cwd=place.folder, env=ENV, check=True)
         reader, output = os.pipe()
         # Signals of Python stay as they are, so that a file with no room is an error and not the
         # end.
-        how = {"restore_signals": False} | ({"stdout": output} if way == "no output" else {})
+        how = {"restore_signals": False, "env": ENV}
+        how |= {"stdout": output} if way == "no output" else {}
         os.close(reader)
         ended, calls = place.calls(words, CALLS, shlex.split(prefix), **how)
         os.close(output)
@@ -130,6 +118,6 @@ def difference(ours, theirs):
 def checks(plain, proved, _words):
     """Tries each command in each way. Gives its name and what differs, if anything."""
     for way, before, prefix, commands in CASES:
-        for words in commands:
+        for words in (SHORT.get(it, it) for it in commands.split("; ")):
             ours, theirs = (outcome(it, way, before, prefix, words) for it in (plain, proved))
             yield f"{way}, ee {words}", difference(ours, theirs)
