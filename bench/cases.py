@@ -16,42 +16,73 @@ LAST_GENERATION = 4294967294
 MOST_WEAR = 2**64 - 1
 IMAGE_BYTES = 4194304
 SCRIPT_BYTES = 16777216
+# Numbers at some limit.
+LIMITS = [
+    0,
+    1,
+    4,
+    5,
+    6,
+    64,
+    65,
+    512,
+    513,
+    *range(65534, 65538),
+    2**32 - 1,
+    2**32,
+    2**64 - 1,
+    2**64,
+]
+LIMITS += [10**19, 10**20, 10**40]
 
 
-def image_text(pages, words, lines=()):
-    """An image of these lines, with blank pages behind them."""
-    blank = "0" + " -" * words
-    lines = list(lines) + [blank] * (2 * pages - len(lines))
-    return ("\n".join([f"ee {pages} {words}"] + lines) + "\n").encode()
+def image_text(pages, words, rows=()):
+    """An image of these pages, each its wear and its words, with blank ones behind them."""
+    blank = ["0" + " -" * words] * (2 * pages - len(rows))
+    return "\n".join([f"ee {pages} {words}", *map(" ".join, rows), *blank, ""]).encode()
 
 
 def script_text(*lines):
     return "".join(line + "\n" for line in lines).encode()
 
 
+def values_script():
+    """Writes the values 0 to 99999 and the greatest at one address, and reads each."""
+    return script_text(*(f"w 1 {value}\nr 1" for value in [*range(100000), 2**32 - 1]))
+
+
+def full_script(slots):
+    """Fills as many slots with a variable each, and moves them all two times."""
+    lines = (f"w {address} {2**32 - 1 - address}" for address in range(1, slots + 1))
+    return script_text(*lines, "w 1 0", f"w 2 {2**32 - 1}")
+
+
+# A new part.
 SIX = worked.formatted(1, 6)
 
 
 def limits():
-    """Texts as long as they may be, and a byte longer; long texts with nothing in them."""
-    reads = b"r 1\n" * (SCRIPT_BYTES // 4)
+    """Texts as long as they may be, and a byte longer; long texts with nothing in them; every value
+    up to a hundred thousand, and the greatest image full."""
+    reads, too_long = b"r 1\n" * (SCRIPT_BYTES // 4), SIX + bytes(IMAGE_BYTES + 1 - len(SIX))
     return [
+        Case("each value", worked.formatted(1, 512), [values_script()]),
+        Case("the greatest image", worked.formatted(64, 512), [full_script(64 * 508)]),
         Case("no line end", SIX, [b"w 1 1"]),
         Case("the longest script", SIX, [reads]),
         Case("a script too long", SIX, [reads + b"\n"]),
         Case("zeros for a script", SIX, [bytes(SCRIPT_BYTES)]),
         Case("line feeds for a script", SIX, [b"\n" * SCRIPT_BYTES]),
         Case("zeros for an image", bytes(IMAGE_BYTES), [b""]),
-        Case("an image too long", SIX + bytes(IMAGE_BYTES + 1 - len(SIX)), [b""]),
+        Case("an image too long", too_long, [b""]),
         Case("a long first line", b"ee 1 " + b"6" * (IMAGE_BYTES - 6) + b"\n", [b""]),
     ]
 
 
 def examples():
     """The worked examples, and the limits."""
-    return [
-        Case(run.name, worked.text_of(run.start), [run.script]) for run in worked.runs()
-    ] + limits()
+    runs = worked.runs()
+    return [Case(run.name, worked.text_of(run.start), [run.script]) for run in runs] + limits()
 
 
 def random_size(dice):
@@ -82,34 +113,18 @@ def random_wear(dice):
 def odd_word(dice):
     """A word that stands in few places, or in none; seldom one that no image may have."""
     value, address = random_value(dice), dice.randrange(65536)
-    return dice.choice(
-        [
-            "-",
-            "?",
-            "-",
-            "?",
-            MARK,
-            "0" * 16,
-            "f" * 15 + dice.choice("0eeeef"),
-            f"aaaaaaaa{dice.randrange(2 ** 32):08x}",
-            f"{value:08x}00000000",
-            f"{value:08x}0000ffff",
-            f"{value:08x}0001{address:04x}",
-            f"{value:08x}0002{address:04x}",
-            f"{dice.randrange(MOST_WEAR):016x}",
-        ]
-    )
+    lows = ["00000000", "0000ffff", f"0001{address:04x}", f"0002{address:04x}"]
+    fixed = [*"-?-?", MARK, "0" * 16, "f" * 15 + dice.choice("0eeeef")]
+    drawn = [f"aaaaaaaa{dice.randrange(2 ** 32):08x}", f"{dice.randrange(MOST_WEAR):016x}"]
+    return dice.choice([*fixed, *drawn, *(f"{value:08x}{low}" for low in lows)])
 
 
 def random_slots(dice, count, addresses):
     words = []
     for _ in range(count):
         kind = dice.random()
-        words.append(
-            "?"
-            if kind < 0.05
-            else f"{random_value(dice):08x}{int(kind < 0.2):04x}{dice.choice(addresses):04x}"
-        )
+        word = f"{random_value(dice):08x}{int(kind < 0.2):04x}{dice.choice(addresses):04x}"
+        words.append("?" if kind < 0.05 else word)
     return words
 
 
@@ -122,12 +137,7 @@ def written_set(dice, pages, words, generation, addresses):
     receive = f"aaaaaaaa{generation:08x}"
     result = []
     for page in range(pages):
-        header = [
-            dice.choice(["-", "?", receive]),
-            dice.choice(["-", "?", MARK]),
-            dice.choice(["-", "?", MARK]),
-            "-",
-        ]
+        header = [*(dice.choice(["-", "?", mark]) for mark in (receive, MARK, MARK)), "-"]
         if page == 0:
             header[:2] = [receive, MARK]
         elif page * per_page > fill or (page * per_page == fill and dice.random() < 0.7):
@@ -166,10 +176,7 @@ def random_image(dice, pages, words, addresses):
         generation = LAST_GENERATION - dice.randrange(4)
     elif kind < 0.2:
         generation = dice.randrange(1, LAST_GENERATION + 1)
-    sets = [
-        written_set(dice, pages, words, generation, addresses),
-        other_set(dice, pages, words, generation, addresses),
-    ]
+    sets = [drawn(dice, pages, words, generation, addresses) for drawn in (written_set, other_set)]
     if dice.random() < 0.5:
         sets.reverse()
     rows = sets[0] + sets[1]
@@ -177,7 +184,7 @@ def random_image(dice, pages, words, addresses):
         row = dice.choice(rows)
         written = [at for at, word in enumerate(row) if word != "-"]
         row[dice.choice(written or range(words))] = odd_word(dice)
-    return image_text(pages, words, [" ".join([str(random_wear(dice))] + row) for row in rows])
+    return image_text(pages, words, [[str(random_wear(dice)), *row] for row in rows])
 
 
 def random_command(dice, kind, addresses):
@@ -187,33 +194,24 @@ def random_command(dice, kind, addresses):
     if kind in "fr":
         return f"{kind} {address}"
     if kind == "x":
-        step = dice.choice(
-            [
-                1,
-                1,
-                2,
-                3,
-                dice.randrange(1, 13),
-                dice.randrange(1, 41),
-                dice.choice([10, 2**64 - 1]),
-            ]
-        )
-        return f"x {step} {dice.choice('ndtm')}"
+        drawn = [dice.randrange(1, 13), dice.randrange(1, 41), dice.choice([10, 2**64 - 1])]
+        return f"x {dice.choice([1, 1, 2, 3, *drawn])} {dice.choice('ndtm')}"
     return kind
+
+
+def drawn_kinds(dice, kinds, weights, count):
+    """So many kinds of lines, each as often as its weight says."""
+    weights = list(map(int, weights.split()))
+    return dice.choices(kinds[: len(weights)], weights, k=count)
 
 
 def random_script(dice, addresses):
     """Mostly changes; with cuts or without."""
     weights = dice.choice(
-        [
-            {"w": 60, "f": 10, "r": 20, "c": 10},
-            {"w": 50, "f": 12, "r": 10, "c": 8, "x": 12, "p": 8},
-            {"w": 40, "f": 10, "r": 6, "c": 14, "x": 15, "p": 15},
-            {"w": 25, "f": 25, "r": 20, "c": 10, "x": 10, "p": 10},
-        ]
+        ["60 10 20 10", "50 12 10 8 12 8", "40 10 6 14 15 15", "25 25 20 10 10 10"]
     )
     count = dice.choice([0, 1, 2, 5, 10, 10, 30, 30, 80, 200])
-    kinds = dice.choices(list(weights), list(weights.values()), k=count)
+    kinds = drawn_kinds(dice, "wfrcxp", weights, count)
     return script_text(*(random_command(dice, kind, addresses) for kind in kinds))
 
 
@@ -234,33 +232,9 @@ def change_number(dice, text):
     if not places:
         return text
     place = dice.choice(places)
-    number = dice.choice(
-        [
-            0,
-            1,
-            4,
-            5,
-            6,
-            64,
-            65,
-            512,
-            513,
-            65534,
-            65535,
-            65536,
-            65537,
-            2**32 - 1,
-            2**32,
-            2**64 - 1,
-            2**64,
-            10**19,
-            10**20,
-            10**40,
-        ]
-    )
-    spelled = dice.choice(
-        [str(number), str(number), "", "+1", "-1", "00", "1.0", "0x1", "0" + place[0].decode()]
-    )
+    number = dice.choice(LIMITS)
+    others = ["", "+1", "-1", "00", "1.0", "0x1", "0" + place[0].decode()]
+    spelled = dice.choice([str(number), str(number), *others])
     return text[: place.start()] + spelled.encode() + text[place.end() :]
 
 
@@ -289,32 +263,27 @@ def lengthen(dice, text):
 
 def spell_elsewhere(dice, text):
     """The text as another system would have it."""
-    return dice.choice(
-        [
-            text.replace(b"\n", b"\r\n"),
-            text.replace(b"\n", b"\r"),
-            b"\xef\xbb\xbf" + text,
-            text.replace(b" ", b"\t"),
-            text.decode("latin-1").encode("utf-16"),
-            text + b"\x1a",
-        ]
-    )
+    replaced = [(b"\n", b"\r\n"), (b"\n", b"\r"), (b" ", b"\t")]
+    others = [b"\xef\xbb\xbf" + text, text.decode("latin-1").encode("utf-16"), text + b"\x1a"]
+    return dice.choice([*(text.replace(*change) for change in replaced), *others])
+
+
+# How a text is damaged: each up to this share of all.
+DAMAGES = [
+    (0.5, change_bytes),
+    (0.65, change_number),
+    (0.75, lambda dice, text: text[: dice.randrange(len(text) + 1)]),
+    (0.85, change_lines),
+    (0.92, spell_elsewhere),
+    (0.98, lengthen),
+]
 
 
 def damaged(dice, text):
     kind = dice.random()
-    if kind < 0.5:
-        return change_bytes(dice, text)
-    if kind < 0.65:
-        return change_number(dice, text)
-    if kind < 0.75:
-        return text[: dice.randrange(len(text) + 1)]
-    if kind < 0.85:
-        return change_lines(dice, text)
-    if kind < 0.92:
-        return spell_elsewhere(dice, text)
-    if kind < 0.98:
-        return lengthen(dice, text)
+    for most, change in DAMAGES:
+        if kind < most:
+            return change(dice, text)
     return dice.randbytes(dice.choice([1, 10, 100, 5000]))
 
 
@@ -328,31 +297,22 @@ def spread_addresses(dice, count):
         return [256 * row + dice.randrange(1, 255) for row in dice.sample(range(255), count)]
     if kind == 2:
         rows = dice.sample(range(256), min(256, max(1, count // 10)))
-        return dice.sample(
-            [a for row in rows for a in range(256 * row, 256 * row + 256) if 0 < a < 65535], count
-        )
+        among = [it for row in rows for it in range(256 * row, 256 * row + 256) if 0 < it < 65535]
+        return dice.sample(among, count)
     return dice.sample(range(1, 65535), count)
 
 
 def long_script(dice, addresses, lines):
     """Many lines, some addresses more often than others; with no cut, or with cuts that come early,
     late, or in the midst alone."""
-    weights = dice.choice(
-        [
-            {"w": 90, "r": 10},
-            {"w": 50, "r": 45, "f": 5},
-            {"r": 95, "w": 5},
-            {"w": 45, "f": 45, "r": 10},
-            {"w": 30, "f": 5, "r": 60, "c": 5},
-        ]
-    )
+    weights = dice.choice(["90 10", "50 45 5", "5 95", "45 10 45", "30 60 5 5"])
     often = dice.sample(addresses, max(1, len(addresses) // 16))
     among = [dice.choice([addresses, often]) for _ in range(7)]
     apart = dice.choice([0, 0, 25, 60, 300])
     near = dice.choice([10, 60, 400])
     cuts = range(lines // 3, 2 * lines // 3) if dice.random() < 0.4 else range(lines)
     script = []
-    for line, kind in enumerate(dice.choices(list(weights), list(weights.values()), k=lines)):
+    for line, kind in enumerate(drawn_kinds(dice, "wrfc", weights, lines)):
         if apart and line in cuts and line % apart == apart - 1:
             cut = [f"x {dice.randrange(1, near)} {dice.choice('ndtm')}", "p"]
             script += cut if dice.random() < 0.7 else cut[::-1]
@@ -363,10 +323,8 @@ def long_script(dice, addresses, lines):
 def reads_of_the_newest(dice, addresses):
     """A line that writes an address and many that read it, which a store without an index finds at
     once."""
-    address = dice.choice(addresses)
-    return script_text(
-        f"w {address} {random_value(dice)}", *[f"r {address}"] * dice.choice([100, 400, 2000])
-    )
+    address, count = dice.choice(addresses), dice.choice([100, 400, 2000])
+    return script_text(f"w {address} {random_value(dice)}", *[f"r {address}"] * count)
 
 
 def choosing_script(dice, addresses):
@@ -383,22 +341,16 @@ def choosing_case(seed, number):
     give it back: about as many live addresses as are counted sooner by one, sets that are full of
     them or hardly used, and scripts on both sides of when looking has cost enough."""
     dice = random.Random(f"{seed} choosing {number}")
-    pages, words = dice.choice(
-        [(1, 54), (1, 250), (1, 260), (4, 68), (1, 512), (5, 132), (2, 512), (8, 512)]
-    )
+    shapes = [(1, 54), (1, 250), (1, 260), (4, 68), (1, 512), (5, 132), (2, 512), (8, 512)]
+    pages, words = dice.choice(shapes)
     slots = pages * (words - 4)
-    count = min(
-        slots, dice.choice([2, 17, 50, 100, 240, 256, 600, 623, 624, 625, slots - 1, slots])
-    )
-    addresses = spread_addresses(dice, count)
+    counts = [2, 17, 50, 100, 240, 256, 600, 623, 624, 625, slots - 1, slots]
+    addresses = spread_addresses(dice, min(slots, dice.choice(counts)))
     filled = script_text(*(f"w {address} {random_value(dice)}" for address in addresses))
-    again = [filled] * dice.choice([1, 1, 2])
+    again = filled * dice.choice([1, 1, 2])
     scripts = [choosing_script(dice, addresses) for _ in range(dice.choice([1, 1, 2]))]
-    return Case(
-        f"seed {seed} choosing {number}",
-        worked.formatted(pages, words),
-        [b"".join(again)] + scripts,
-    )
+    name = f"seed {seed} choosing {number}"
+    return Case(name, worked.formatted(pages, words), [again, *scripts])
 
 
 def random_case(seed, number):

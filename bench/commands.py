@@ -3,21 +3,15 @@ argparse is told the rows, and takes and refuses lines of words, some of which l
 more, or have a number at its bounds or spelled otherwise. The program is to take and to refuse the
 same. No clause says that the help shows what the program takes."""
 import argparse
-import os
 import re
-import shutil
-import subprocess
 from collections import namedtuple
 
-REFUSED = (2, "ee: bad command line\n")
+from tools.trying import Place
+
+REFUSED = (2, b"ee: bad command line\n")
 GREATEST = 4294967295
-BOUNDS = {
-    "P": (1, 64),
-    "W": (5, 512),
-    "VALUE": (0, GREATEST),
-    "CYCLES": (1, GREATEST),
-    "RUNS": (1, GREATEST),
-}
+BOUNDS = {"P": (1, 64), "W": (5, 512), "VALUE": (0, GREATEST)}
+BOUNDS |= dict.fromkeys(("CYCLES", "RUNS"), (1, GREATEST))
 BASES = ["0807f000", "0807F000", "0807f004", "807f000", "00807f000", "0x807f00", "0807g000", ""]
 # What stands for a word where another one is tried. A path is its own name, and there is no such
 # file.
@@ -65,18 +59,16 @@ def commands_of(text):
         name, *shown = row.split(" < ")[0].split(" ")
         if not any(word.strip("[]").isupper() for word in shown):
             continue
-        for one in [name] if "[" not in name else [name.split("[")[0], re.sub(r"[\[\]]", "", name)]:
+        short, bracket, _ = name.partition("[")
+        for one in [short, re.sub(r"[\[\]]", "", name)] if bracket else [name]:
             flags.setdefault(one, set()).update(word.strip("[]") for word in shown if "--" in word)
             if shown[-1] != "...":
                 words[one] = [word for word in shown if "--" not in word]
-    return {
-        name: Command(
-            sorted(flags[name]),
-            [word.strip("[]") for word in shown],
-            sum("[" not in word for word in shown),
-        )
-        for name, shown in words.items()
-    }
+    found = {}
+    for name, shown in words.items():
+        least = sum("[" not in word for word in shown)
+        found[name] = Command(sorted(flags[name]), [word.strip("[]") for word in shown], least)
+    return found
 
 
 def parser_of(command):
@@ -84,9 +76,8 @@ def parser_of(command):
     for flag in command.flags:
         parser.add_argument(flag, action="store_true")
     for place, word in enumerate(command.words):
-        parser.add_argument(
-            word, type=KINDS.get(word, str), nargs="?" if place >= command.least else None
-        )
+        count = "?" if place >= command.least else None
+        parser.add_argument(word, type=KINDS.get(word, str), nargs=count)
     return parser
 
 
@@ -96,17 +87,8 @@ def tried(word):
     if word not in BOUNDS:
         return BASES if word == "BASE" else []
     least, most = BOUNDS[word]
-    return [
-        str(least - 1),
-        str(least),
-        str(most),
-        str(most + 1),
-        f"+{most}",
-        f"0{most}",
-        f"{most} ",
-        hex(most),
-        "",
-    ]
+    inside = [str(number) for number in (least - 1, least, most, most + 1)]
+    return [*inside, f"+{most}", f"0{most}", f"{most} ", hex(most), ""]
 
 
 def lines_of(command):
@@ -129,52 +111,36 @@ def is_taken(parser, line):
     return True
 
 
-def takes(path, folder, words):
+def takes(place, words):
     """Whether the program takes these words, or says that they are a bad command line."""
-    done = subprocess.run(
-        [path, *words],
-        cwd=folder,
-        stdin=subprocess.DEVNULL,
-        stdout=subprocess.DEVNULL,
-        stderr=subprocess.PIPE,
-        text=True,
-        timeout=60,
-        check=False,
-    )
-    if (done.returncode == REFUSED[0]) != (done.stderr == REFUSED[1]):
-        raise ValueError(f"{words}: status {done.returncode}, {done.stderr!r}")
-    return done.returncode != REFUSED[0]
+    status, _, said = place.run(words)
+    if (status == REFUSED[0]) != (said == REFUSED[1]):
+        raise ValueError(f"{words}: status {status}, {said!r}")
+    return status != REFUSED[0]
 
 
-def fault_of(path, folder, name, command):
+def fault_of(place, name, command):
     """What is wrong with a command, if anything is."""
     parser = parser_of(command)
     taken = {True: 0, False: 0}
     for line in lines_of(command):
         wanted = is_taken(parser, line)
         taken[wanted] += 1
-        try:
-            if takes(path, folder, [name, *line]) != wanted:
-                return f"{name} {line}: argparse {'takes' if wanted else 'refuses'} it"
-        except ValueError as fault:
-            return str(fault)
-    return (
-        None
-        if all(taken.values())
-        else f"{name}: no line is {'taken' if taken[False] else 'refused'}"
-    )
+        if takes(place, [name, *line]) != wanted:
+            return f"{name} {line}: argparse {'takes' if wanted else 'refuses'} it"
+    missing = [word for word, count in zip(("taken", "refused"), taken.values()) if not count]
+    return f"{name}: no line is {missing[0]}" if missing else None
 
 
-def checks(path, folder, _tally):
+def checks(program, folder, _tally):
     """Tries each command, and gives for each its name and what is wrong with it."""
-    shutil.rmtree(folder, ignore_errors=True)
-    os.makedirs(folder)
-    text = subprocess.run(
-        [path, "--help"], stdout=subprocess.PIPE, text=True, timeout=60, check=True
-    ).stdout
-    commands = commands_of(text)
+    place = Place(program, folder)
+    commands = commands_of(place.run("--help")[1].decode())
     yield "rows", None if commands else "the help shows no command"
     for name, command in commands.items():
-        yield name, fault_of(path, folder, name, command)
+        try:
+            yield name, fault_of(place, name, command)
+        except ValueError as fault:
+            yield name, str(fault)
     for words in (["nothing"], ["Inspect", "image"], [""]):
-        yield "no command", f"{words} is taken" if takes(path, folder, words) else None
+        yield "no command", f"{words} is taken" if takes(place, words) else None

@@ -3,13 +3,14 @@ written by `ee` and by this file, read by `ee`, by this file and by objcopy wher
 pairs that a cut left, and others; broken lines; and a HEX text as long as may be read, with its
 time."""
 import random
+import re
 import subprocess
 import time
 from collections import namedtuple
 from itertools import product
 
+import cases
 from tools import trying
-from tools.places import is_here
 
 # The sizes that are tried: the least, one page of 2 KiB, and the greatest.
 PAGES, WORDS = 64, 512
@@ -26,8 +27,7 @@ MUTATIONS = 300
 
 def expect(place, words, wanted):
     """Runs a command, which is to end with this status and to print this."""
-    status, printed, said = place.run(words)
-    trying.expect(wanted, (status, (printed + said).decode()), words)
+    trying.expect(wanted, place.told(words), words)
 
 
 def tells_shape(number, at):
@@ -67,11 +67,8 @@ def paired(dump):
 
 def image_text(texts, pages, words):
     """The image of words with these texts, whose pages were never erased."""
-    lines = [f"ee {pages} {words}"]
-    lines += [
-        " ".join(["0", *texts[page * words : (page + 1) * words]]) for page in range(2 * pages)
-    ]
-    return "".join(line + "\n" for line in lines).encode()
+    rows = [["0", *texts[at : at + words]] for at in range(0, 2 * pages * words, words)]
+    return cases.image_text(pages, words, rows)
 
 
 def image_of(dump, pages, words):
@@ -85,9 +82,7 @@ def image_of_pairs(dump, pages, words):
     numbers that are too low."""
     texts = []
     for at in range(0, len(dump), 16):
-        number, other = (
-            int.from_bytes(dump[place : place + 8], "little") for place in (at, at + 8)
-        )
+        number, other = (int.from_bytes(dump[it : it + 8], "little") for it in (at, at + 8))
         if number + other < MOST_NUMBER:
             return "pair", *divmod(at // 16, words)
         whole = number + other == MOST_NUMBER and number != MOST_NUMBER
@@ -117,9 +112,8 @@ def told_of(found):
     of this page and place."""
     if isinstance(found, bytes):
         return 0, "imported\n"
-    if isinstance(found, int):
-        return 3, f"ee: dump line {found}\n"
-    return 3, "ee: dump {} {} {}\n".format(*found)
+    wrong = "line {}".format(found) if isinstance(found, int) else "{} {} {}".format(*found)
+    return 3, f"ee: dump {wrong}\n"
 
 
 def record(address, kind, data):
@@ -156,23 +150,13 @@ def sparse_of(dump, base, size):
 
 def record_of(line):
     """The address, the type and the data of a line, if it is a record's."""
-    digits = line.removesuffix(b"\r")
-    if (
-        digits[:1] != b":"
-        or len(digits) % 2 == 0
-        or any(c not in b"0123456789abcdefABCDEF" for c in digits[1:])
-    ):
+    if not re.fullmatch(rb":(?:[0-9a-fA-F]{2}){5,}\r?", line):
         return None
-    body = bytes.fromhex(digits[1:].decode())
-    if len(body) < 5 or len(body) != body[0] + 5 or sum(body) & 255:
-        return None
+    body = bytes.fromhex(line[1:].strip().decode())
     address, kind, data = body[1] << 8 | body[2], body[3], body[4:-1]
-    fits = (
-        address + len(data) <= 0x10000
-        if kind == 0
-        else len(data) == {1: 0, 2: 2, 3: 4, 4: 2, 5: 4}.get(kind)
-    )
-    return (address, kind, data) if fits else None
+    length = {1: 0, 2: 2, 3: 4, 4: 2, 5: 4}.get(kind, body[0] if kind == 0 else None)
+    is_whole = len(data) == body[0] == length and not sum(body) & 255
+    return (address, kind, data) if is_whole and (kind or address + length <= 0x10000) else None
 
 
 def read_hex(text, base, size):
@@ -183,12 +167,10 @@ def read_hex(text, base, size):
         if not found:
             return number
         address, kind, data = found
+        if kind == 1 and lines[number:] != [b""]:
+            return number + 1
         if kind == 1:
-            return (
-                bytes(said.get(base + at, 255) for at in range(size))
-                if lines[number:] == [b""]
-                else number + 1
-            )
+            return bytes(said.get(base + at, 255) for at in range(size))
         if kind in (2, 4):
             upper = int.from_bytes(data, "big") << (4 if kind == 2 else 16)
         elif kind == 0:
@@ -214,16 +196,11 @@ def bytes_and_texts(place):
                 line = f"export-hex{flag}{fill} image {base:08x} hex{fill.strip()}"
                 expect(place, line, (0, "exported\n"))
                 place.same(f"hex{fill.strip()}", text, f"{line}, {pages} {words}")
-            place.put(
-                "rows",
-                hex_of(dump, base, chance.choice([1, 7, 32, 255] if words < WORDS else [32, 255])),
-            )
+            rows = chance.choice([1, 7, 32, 255] if words < WORDS else [32, 255])
+            place.put("rows", hex_of(dump, base, rows))
             for name in ("hex", "hex--fill", "rows"):
-                expect(
-                    place,
-                    f"import-hex{flag} {pages} {words} {base:08X} {name} again",
-                    (0, "imported\n"),
-                )
+                line = f"import-hex{flag} {pages} {words} {base:08X} {name} again"
+                expect(place, line, (0, "imported\n"))
                 place.same("again", image, f"import-hex{flag} {pages} {words} {base:x} of {name}")
 
 
@@ -236,13 +213,27 @@ def objcopy(place):
         place.put("image", read(dump, pages, words))
         expect(place, f"export{flag} image dump", (0, "exported\n"))
         copy("-I", "binary", "-O", "ihex", "--change-addresses", hex(base), "dump", "theirs")
-        expect(
-            place, f"import-hex{flag} {pages} {words} {base:08x} theirs again", (0, "imported\n")
-        )
+        line = f"import-hex{flag} {pages} {words} {base:08x} theirs again"
+        expect(place, line, (0, "imported\n"))
         place.same("again", place.get("image"), f"objcopy's HEX{flag}, {pages} {words}")
         expect(place, f"export-hex{flag} --fill image {base:08x} ours", (0, "exported\n"))
         copy("-I", "ihex", "-O", "binary", "ours", "back")
         place.same("back", dump, f"what objcopy reads{flag}, {pages} {words}")
+
+
+def changed(chance, line):
+    """A line with one thing about it changed."""
+    at = chance.randrange(len(line))
+    address, kind, data = record_of(line.rstrip()) or (0, 0, b"")
+    records = [
+        (address ^ 16, kind, data),
+        (address, chance.randrange(7), data),
+        (address, kind, data + b"\x01"),
+        (address, kind, data[::-1]),
+    ]
+    letter = bytes([chance.choice(b"0123456789ABCDEF:\n\r x")])
+    others = [line.rstrip() + b"\r\n", line.swapcase(), line[:at] + letter + line[at + 1 :]]
+    return chance.choice([*others, record(*chance.choice(records))])
 
 
 def mutated(chance, text):
@@ -251,31 +242,13 @@ def mutated(chance, text):
     at = chance.randrange(len(lines))
     how = chance.randrange(7)
     if how == 0:
-        del lines[at]
-    elif how == 1:
-        lines.insert(at, chance.choice(lines))
-    elif how == 2:
-        lines[at] = lines[at].rstrip() + b"\r\n"
-    elif how == 3:
-        lines[at] = lines[at].swapcase()
-    elif how == 4:
-        place = chance.randrange(len(lines[at]))
-        lines[at] = (
-            lines[at][:place]
-            + bytes([chance.choice(b"0123456789ABCDEF:\n\r x")])
-            + lines[at][place + 1 :]
-        )
-    elif how == 5:
-        address, kind, data = record_of(lines[at].rstrip()) or (0, 0, b"")
-        changed = [
-            (address ^ 16, kind, data),
-            (address, chance.randrange(7), data),
-            (address, kind, data + b"\x01"),
-            (address, kind, data[::-1]),
-        ]
-        lines[at] = record(*chance.choice(changed))
-    else:
         return text[: chance.randrange(len(text))]
+    if how == 1:
+        del lines[at]
+    elif how == 2:
+        lines.insert(at, chance.choice(lines))
+    else:
+        lines[at] = changed(chance, lines[at])
     return b"".join(lines)
 
 
@@ -339,46 +312,38 @@ def damaged_pairs(place):
         expect(place, f"import --pairs {pages} {words} dump image", (3, "ee: dump length\n"))
 
 
-def greatest_text(place):
+def greatest_texts(place):
+    for form in FORMS:
+        greatest_text(place, form)
+
+
+def greatest_text(place, form):
     """A text as long as may be read says the greatest part over and over; one that is longer isn't
     read."""
-    for form in FORMS:
-        greatest_text_of(place, form)
-
-
-def greatest_text_of(place, form):
     dump = form.written(random_dump(random.Random(4), PAGES, WORDS))
     rows = hex_of(dump, 0)
     end = record(0, 1, b"")
-    rows = rows[: -len(end)]
+    rows = rows.removesuffix(end)
     text = rows * ((MOST_BYTES - len(end)) // len(rows)) + end
     # Lines that say nothing fill it up.
     nothing = record(0, 0, b"")
     text = nothing * ((MOST_BYTES - len(text)) // len(nothing)) + text
     place.put("hex", text)
     began = time.monotonic()
-    expect(place, f"import-hex{form.flag} {PAGES} {WORDS} 00000000 hex image", (0, "imported\n"))
+    line = f"import-hex{form.flag} {PAGES} {WORDS} 00000000 hex"
+    expect(place, f"{line} image", (0, "imported\n"))
     seconds = time.monotonic() - began
-    print(
-        f"import-hex{form.flag} of a text of {len(text)} bytes took {seconds:.2f} seconds",
-        flush=True,
-    )
+    print(f"import-hex{form.flag} of {len(text)} bytes took {seconds:.2f} seconds", flush=True)
     place.same("image", form.read(dump, PAGES, WORDS), f"the greatest text{form.flag}")
     if seconds > MOST_SECONDS:
         raise trying.Wrong(f"the greatest text{form.flag} took {seconds:.2f} seconds")
     place.put("hex", text + b" " * (MOST_BYTES + 1 - len(text)))
-    expect(
-        place,
-        f"import-hex{form.flag} {PAGES} {WORDS} 00000000 hex never",
-        (3, "ee: dump too long\n"),
-    )
+    expect(place, f"{line} never", (3, "ee: dump too long\n"))
 
 
 def checks(program, folder, tally):
     """Makes each check in a folder of its own. Gives its name and what was found, if anything."""
-    tried = [(bytes_and_texts,), (broken_texts,), (damaged_pairs,), (greatest_text,)]
-    if is_here("objcopy"):
+    tried = [(bytes_and_texts,), (broken_texts,), (damaged_pairs,), (greatest_texts,)]
+    if not tally.lacks("HEX by objcopy", ["objcopy"], "apt-get install binutils"):
         tried.append((objcopy,))
-    else:
-        tally.skip("HEX by objcopy", "no objcopy (apt-get install binutils)")
     return trying.faults(tried, lambda: trying.Place(program, folder))

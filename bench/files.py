@@ -11,6 +11,7 @@ import signal
 import stat
 import subprocess
 import time
+from itertools import product
 
 from cases import worked
 from dumps import hex_of
@@ -18,67 +19,61 @@ from tools import trying
 from tools.places import is_here
 from tools.trying import Wrong, expect
 
-SAVING = "image.ee-saving-0"
+SAVING = "image.ee-saving-"
 # The worked example all-live, which begins with the image that two moves leave, and its tight
 # certificate.
 ALL_LIVE = worked.example("all-live")
 MOVED = ALL_LIVE.files["image"]
-CERTIFICATE = next(
-    step.printed for step in ALL_LIVE.steps if step.words == "cat certificate"
-).encode()
-DUMP = worked.example("dumps").files["dump"]
-HEX = worked.example("hex").files["part"]
 PAIRS = worked.example("pairs").files["dump"]
-SETTINGS = worked.example("second-schema").files["settings"]
 INPUTS = {
     "image": MOVED,
     "script": ALL_LIVE.files["script"],
-    "settings": SETTINGS,
-    "certificate": CERTIFICATE,
+    "settings": worked.example("second-schema").files["settings"],
+    "certificate": next(it.printed for it in ALL_LIVE.steps if it.words == "cat certificate"),
     "bad": b"w 2 6\nw 2 6 \n",
     "before": MOVED,
     "values": b"volume = 9\n",
-    "dump": DUMP,
-    "hex": HEX,
+    "dump": worked.example("dumps").files["dump"],
+    "hex": worked.example("hex").files["part"],
     "pairs": PAIRS,
     "pairs-hex": hex_of(PAIRS, 0x0807F000),
 }
 # The commands that write an image, and those that don't. Each of the first changes the image.
 WRITERS = {
-    "run": ["run", "image", "script"],
-    "run --indexed": ["run", "--indexed", "image", "script"],
-    "format": ["format", "2", "8", "image"],
-    "set": ["set", "image", "settings", "volume", "10"],
-    "import": ["import", "1", "6", "dump", "image"],
-    "import --pairs": ["import", "--pairs", "1", "6", "pairs", "image"],
-    "import-hex": ["import-hex", "1", "6", "0807f000", "hex", "image"],
-    "import-hex --pairs": ["import-hex", "--pairs", "1", "6", "0807f000", "pairs-hex", "image"],
-    "unset": ["unset", "image", "settings", "volume"],
-    "apply": ["apply", "image", "settings", "values"],
-    "clean": ["clean", "image"],
-    "rescue": ["rescue", "image"],
-    "forget-all": ["forget-all", "--force", "image"],
-    "tidy": ["tidy", "image", "settings"],
+    "run": "run image script",
+    "run --indexed": "run --indexed image script",
+    "format": "format 2 8 image",
+    "set": "set image settings volume 10",
+    "import": "import 1 6 dump image",
+    "import --pairs": "import --pairs 1 6 pairs image",
+    "import-hex": "import-hex 1 6 0807f000 hex image",
+    "import-hex --pairs": "import-hex --pairs 1 6 0807f000 pairs-hex image",
+    "unset": "unset image settings volume",
+    "apply": "apply image settings values",
+    "clean": "clean image",
+    "rescue": "rescue image",
+    "forget-all": "forget-all --force image",
+    "tidy": "tidy image settings",
 }
 READERS = {
-    "get": ["get", "image", "settings", "volume"],
-    "plan": ["plan", "image", "script"],
-    "check": ["check", "image", "script", "certificate"],
-    "wear": ["wear", "image", "before"],
-    "states": ["states", "image"],
-    "stale": ["stale", "image", "settings"],
-    "inspect": ["inspect", "image"],
-    "header": ["header", "settings"],
+    "get": "get image settings volume",
+    "plan": "plan image script",
+    "check": "check image script certificate",
+    "wear": "wear image before",
+    "states": "states image",
+    "stale": "stale image settings",
+    "inspect": "inspect image",
+    "header": "header settings",
 }
 REFUSED = {
-    "a bad script": ["run", "image", "bad"],
-    "a bad script, indexed": ["run", "--indexed", "image", "bad"],
-    "no script": ["run", "image", "none"],
-    "no image": ["run", "settings", "script"],
-    "a folder for a script": ["run", "image", "."],
-    "an unknown name": ["set", "image", "settings", "treble", "1"],
-    "out of range": ["set", "image", "settings", "volume", "11"],
-    "no settings": ["tidy", "image", "script"],
+    "a bad script": "run image bad",
+    "a bad script, indexed": "run --indexed image bad",
+    "no script": "run image none",
+    "no image": "run settings script",
+    "a folder for a script": "run image .",
+    "an unknown name": "set image settings treble 1",
+    "out of range": "set image settings volume 11",
+    "no settings": "tidy image script",
 }
 CANNOT_WRITE_IMAGE = (3, b"", b"ee: cannot write image\n")
 IMAGE_CHANGED = (3, b"", b"ee: image changed\n")
@@ -88,21 +83,44 @@ ROUNDS = 100
 
 
 class Place(trying.Place):
-    """A folder with the inputs in it, in which a program is run."""
+    """A folder with the inputs in it. `more` are the other files that are to be there."""
 
     def __init__(self, program, folder):
-        super().__init__(program, folder)
-        for name, text in INPUTS.items():
-            self.put(name, text)
-
-    def text(self, name="image"):
-        return self.get(name)
+        super().__init__(program, folder, INPUTS)
+        self.more = []
 
     def mode(self, name="image"):
         return oct(stat.S_IMODE(os.stat(self.path(name)).st_mode))
 
-    def names(self):
-        return sorted(os.listdir(self.folder))
+    def link(self, target, name="link"):
+        os.symlink(target, self.path(name))
+        self.more.append(name)
+
+    def stands(self, text, what, image="image"):
+        """The image has this text, and no file is there that is not to be."""
+        expect(text, self.get(image), f"the image {what}")
+        expect(sorted([*INPUTS, *self.more]), self.names(), f"files {what}")
+
+    def ends(self, wanted, words, text, what="", image="image", **how):
+        """A command ends so, or with this status, and leaves this image."""
+        ended = self.run(words, **how)
+        expect(wanted, ended if isinstance(wanted, tuple) else ended[0], f"the end {what}")
+        self.stands(text, what, image)
+
+    def written(self, writer):
+        """The words of a command, and the image that it writes where nothing hinders it."""
+        expect(0, self.run(WRITERS[writer])[0], "status")
+        text = self.get("image")
+        if text == MOVED:
+            raise Wrong("the image is as before")
+        self.stands(text, "")
+        self.put("image", MOVED)
+        return WRITERS[writer], text
+
+
+def over(words, image):
+    """The words with another image."""
+    return [image if word == "image" else word for word in words.split()]
 
 
 def other_user(program, folder):
@@ -111,23 +129,11 @@ def other_user(program, folder):
         return {}
     options = {"user": 65534, "group": 65534, "extra_groups": []}
     try:
-        done = subprocess.run(
-            [program, "no", "command"], cwd=folder, stderr=subprocess.DEVNULL, **options
-        )
+        words, quiet = [program, "no", "command"], subprocess.DEVNULL
+        done = subprocess.run(words, cwd=folder, stderr=quiet, check=False, **options)
     except OSError:
         return None
     return options if done.returncode == 2 else None
-
-
-def written_by(place, writer):
-    """The image that a command writes where nothing hinders it."""
-    expect(0, place.run(WRITERS[writer])[0], "status")
-    if place.text() == MOVED:
-        raise Wrong("the image is as before")
-    expect(sorted(INPUTS), place.names(), "files")
-    text = place.text()
-    place.put("image", MOVED)
-    return text
 
 
 def limited(size, ignored):
@@ -143,178 +149,147 @@ def limited(size, ignored):
 
 def no_room(place, writer):
     """Where the new image doesn't fit the old one stands, and the next run is as ever."""
-    new = written_by(place, writer)
-    for size in (0, 1, len(new) // 2, len(new) - 1):
-        for ignored in (False, True):
-            ended = place.run(WRITERS[writer], preexec_fn=limited(size, ignored))
-            what = f"after {size} bytes of {len(new)}"
-            expect(MOVED, place.text(), "the image " + what)
-            left = [SAVING] if not ignored and ended[0] == -signal.SIGXFSZ else []
-            if not left:
-                expect(CANNOT_WRITE_IMAGE, ended, "the end " + what)
-            expect(sorted([*INPUTS, *left]), place.names(), "files " + what)
-            expect(0, place.run(WRITERS[writer])[0], "status of the run behind it")
-            expect(new, place.text(), "the image of the run behind it")
-            expect(sorted(INPUTS), place.names(), "files of the run behind it")
-            place.put("image", MOVED)
-    expect(
-        0,
-        place.run(WRITERS[writer], preexec_fn=limited(len(new), False))[0],
-        "status where it just fits",
-    )
-    expect(new, place.text(), "the image where it just fits")
+    words, new = place.written(writer)
+    for size, ignored in product((0, 1, len(new) // 2, len(new) - 1), (False, True)):
+        what = f"after {size} bytes of {len(new)}"
+        ended = place.run(words, preexec_fn=limited(size, ignored))
+        is_killed = not ignored and ended[0] == -signal.SIGXFSZ
+        if not is_killed:
+            expect(CANNOT_WRITE_IMAGE, ended, f"the end {what}")
+        place.more = [SAVING + "0"] * is_killed
+        place.stands(MOVED, what)
+        place.more = []
+        place.ends(0, words, new, "of the run behind it")
+        place.put("image", MOVED)
+    place.ends(0, words, new, "where it just fits", preexec_fn=limited(len(new), False))
 
 
 def links(place, writer):
     """A link stays one, and the file that it leads to has the new text and its old mode."""
-    new = written_by(place, writer)
-    words = ["link" if word == "image" else word for word in WRITERS[writer]]
+    words, new = place.written(writer)
     os.mkdir(place.path("there"))
     place.put("there/image", MOVED)
-    os.symlink("there/image", place.path("two"))
-    for target, real in (
-        ("image", "image"),
-        ("there/image", "there/image"),
-        ("two", "there/image"),
-        (place.path("there/image"), "there/image"),
-    ):
+    place.more = ["there"]
+    place.link("there/image", "two")
+    whole = place.path("there/image")
+    for target in ("image", "there/image", "two", whole):
+        real = "image" if target == "image" else "there/image"
         place.put(real, MOVED, 0o640)
-        os.symlink(target, place.path("link"))
-        names = place.names()
-        expect(
-            CANNOT_WRITE_IMAGE,
-            place.run(words, preexec_fn=limited(1, True)),
-            f"no room behind {target}",
-        )
-        expect(MOVED, place.text(real), f"the image behind {target}, without room")
-        expect(0, place.run(words)[0], f"status with a link to {target}")
+        place.link(target)
+        linked, what = over(words, "link"), f"behind a link to {target}"
+        full = limited(1, True)
+        place.ends(CANNOT_WRITE_IMAGE, linked, MOVED, what + ", no room", real, preexec_fn=full)
+        place.ends(0, linked, new, what, real)
         expect(target, os.readlink(place.path("link")), "the link")
-        expect(new, place.text(real), f"the image behind a link to {target}")
-        expect(oct(0o640), place.mode(real), f"mode of the image behind a link to {target}")
-        expect(names, place.names(), "files")
+        expect(oct(0o640), place.mode(real), f"mode of the image {what}")
         expect(["image"], os.listdir(place.path("there")), "files there")
         os.unlink(place.path("link"))
+        place.more.remove("link")
 
 
 def modes(place, writer):
     """An image keeps its mode."""
-    new = written_by(place, writer)
+    words, new = place.written(writer)
     for mode in (0o600, 0o644, 0o666, 0o755):
         place.put("image", MOVED, mode)
-        expect(0, place.run(WRITERS[writer])[0], "status")
-        expect(new, place.text(), "the image")
+        place.ends(0, words, new)
         expect(oct(mode), place.mode(), "mode")
 
 
 def leftover(place, writer):
     """What a run that died left behind is taken away."""
-    new = written_by(place, writer)
+    words, new = place.written(writer)
     for text in (b"", b"ee 1", 3 * new):
-        place.put(SAVING, text, 0o600)
-        expect(0, place.run(WRITERS[writer])[0], "status")
-        expect(new, place.text(), "the image")
+        place.put(SAVING + "0", text, 0o600)
+        place.ends(0, words, new)
         expect(oct(0o644), place.mode(), "mode")
-        expect(sorted(INPUTS), place.names(), "files")
         place.put("image", MOVED)
 
 
 def second_name(place, writer):
     """A second name of the old image's file goes on having it."""
-    new = written_by(place, writer)
+    words, new = place.written(writer)
     os.link(place.path("image"), place.path("second"))
-    expect(0, place.run(WRITERS[writer])[0], "status")
-    expect(new, place.text(), "the image")
-    expect(MOVED, place.text("second"), "the file of the second name")
+    place.more = ["second"]
+    place.ends(0, words, new)
+    place.stands(MOVED, "of the second name", "second")
 
 
 def taken(place, writer):
     """What another run is writing stays, and so does what is no plain file; with none of a hundred
     names free nothing is written."""
-    new = written_by(place, writer)
-    names = [SAVING[:-1] + str(number) for number in range(100)]
-    os.symlink("script", place.path(names[0]))
-    os.mkdir(place.path(names[1]))
+    words, new = place.written(writer)
+    place.link("script", SAVING + "0")
+    os.mkdir(place.path(SAVING + "1"))
+    names = [SAVING + str(number) for number in range(2, 100)]
+    place.more += [SAVING + "1", *names]
     written = []
-    for name in names[2:]:
+    for name in names:
         place.put(name, b"another's")
         written.append(open(place.path(name), "rb"))
         fcntl.flock(written[-1], fcntl.LOCK_EX)
-    expect(CANNOT_WRITE_IMAGE, place.run(WRITERS[writer]), "the end with no name free")
-    expect(MOVED, place.text(), "the image with no name free")
-    for name in names[2:]:
-        expect(b"another's", place.text(name), name)
-    expect(sorted([*INPUTS, *names]), place.names(), "files")
+    place.ends(CANNOT_WRITE_IMAGE, words, MOVED, "with no name free")
+    for name in names:
+        expect(b"another's", place.get(name), name)
     written.pop().close()
-    expect(0, place.run(WRITERS[writer])[0], "status with one free")
-    expect(new, place.text(), "the image with one free")
-    expect(sorted([*INPUTS, *names[:-1]]), place.names(), "files with one free")
+    place.more.pop()
+    place.ends(0, words, new, "with one free")
     for file in written:
         file.close()
 
 
 def held(place, writer):
     """Where another has the image's lock nothing is written; a lock is gone with who had it."""
-    new = written_by(place, writer)
+    words, new = place.written(writer)
     with open(place.path("image"), "rb") as file:
         fcntl.flock(file, fcntl.LOCK_EX)
-        expect(IMAGE_CHANGED, place.run(WRITERS[writer]), "the end")
-        expect(MOVED, place.text(), "the image")
-        expect(sorted(INPUTS), place.names(), "files")
-    expect(0, place.run(WRITERS[writer])[0], "status of the run behind it")
-    expect(new, place.text(), "the image of the run behind it")
+        place.ends(IMAGE_CHANGED, words, MOVED)
+    place.ends(0, words, new, "of the run behind it")
 
 
-def start_run(place, command, address, value):
-    """Starts a run that writes a value at an address, by a script that comes through a pipe."""
-    script = f"script-{address}"
-    if not os.path.exists(place.path(script)):
-        os.mkfifo(place.path(script))
-    run = subprocess.Popen(
-        [place.program, *command, "image", script],
-        cwd=place.folder,
-        stdin=subprocess.DEVNULL,
-        stdout=subprocess.PIPE,
-        stderr=subprocess.PIPE,
-    )
-    return run, script, f"w {address} {value}\n".encode()
+class Waiting:
+    """A run of a command that writes a value at an address, by a script that comes by a pipe."""
+
+    def __init__(self, place, command, address, value):
+        self.script, self.line = f"script-{address}", f"w {address} {value}\n".encode()
+        self.path, words = place.path(self.script), [place.program, *command.split()]
+        if not os.path.exists(self.path):
+            os.mkfifo(self.path)
+            place.more.append(self.script)
+        how = {"stdin": subprocess.DEVNULL, "stdout": subprocess.PIPE, "stderr": subprocess.PIPE}
+        self.run = subprocess.Popen([*words, "image", self.script], cwd=place.folder, **how)
+
+    def begun(self):
+        """The pipe to the script, once the run opens it, which comes behind its image."""
+        for _ in range(20000):
+            try:
+                return os.fdopen(os.open(self.path, os.O_WRONLY | os.O_NONBLOCK), "wb")
+            except OSError as error:
+                if error.errno != errno.ENXIO:
+                    raise
+                time.sleep(0.001)
+        raise Wrong(f"nobody opens {self.script}")
+
+    def end(self):
+        printed, told = self.run.communicate(timeout=60)
+        return self.run.returncode, printed, told
 
 
-def begin(place, script):
-    """Waits until a run opens its script, which comes behind its image. Gives the pipe to it."""
-    for _ in range(20000):
-        try:
-            return os.fdopen(os.open(place.path(script), os.O_WRONLY | os.O_NONBLOCK), "wb")
-        except OSError as error:
-            if error.errno != errno.ENXIO:
-                raise
-            time.sleep(0.001)
-    raise Wrong(f"nobody opens {script}")
-
-
-def end(run):
-    printed, told = run.communicate(timeout=60)
-    return run.returncode, printed, told
-
-
-def changed_meanwhile(place, writer):
-    """An image that another program changes while a run reads its script stays as that left it."""
-    run, script, line = start_run(place, WRITERS[writer][:-2], 1, 10)
-    with begin(place, script) as pipe:
-        place.put("image", MOVED.replace(b"0000000c", b"0000000d"))
-        pipe.write(line)
-    expect(IMAGE_CHANGED, end(run), "the end")
-    expect(MOVED.replace(b"0000000c", b"0000000d"), place.text(), "the image")
-    expect(sorted([*INPUTS, script]), place.names(), "files")
-
-
-def gone_meanwhile(place, writer):
-    """An image that is gone isn't made anew."""
-    run, script, line = start_run(place, WRITERS[writer][:-2], 1, 10)
-    with begin(place, script) as pipe:
-        os.unlink(place.path("image"))
-        pipe.write(line)
-    expect(IMAGE_CHANGED, end(run), "the end")
-    expect(sorted({*INPUTS, script} - {"image"}), place.names(), "files")
+def meanwhile(place, command, change):
+    """An image that another program changes, or takes away, while a run reads its script stays as
+    that left it."""
+    run, changed = Waiting(place, command, 1, 10), MOVED.replace(b"0000000c", b"0000000d")
+    with run.begun() as pipe:
+        if change == "gone":
+            os.unlink(place.path("image"))
+        else:
+            place.put("image", changed)
+        pipe.write(run.line)
+    expect(IMAGE_CHANGED, run.end(), "the end")
+    left = sorted({*INPUTS, *place.more} - ({"image"} if change == "gone" else set()))
+    expect(left, place.names(), "files")
+    if change != "gone":
+        place.stands(changed, "")
 
 
 def at_once(place, _):
@@ -322,83 +297,60 @@ def at_once(place, _):
     image, and each other said that the image changed. In every second round both have read the
     image before either goes on: then it is one of them that writes. In the others they go as they
     come."""
-    expect(0, place.run(["format", "2", "64", "image"])[0], "status")
+    expect(0, place.run("format 2 64 image")[0], "status")
     wanted = {}
     for number in range(ROUNDS):
-        runs = [
-            start_run(place, command, address, number)
-            for command, address in ((["run"], 1), (["run", "--indexed"], 2))
-        ]
-        if number % 2:
-            pipes = [begin(place, script) for _, script, _ in runs]
-            for pipe, (_, _, line) in zip(pipes, runs):
-                pipe.write(line)
-            for pipe in pipes:
-                pipe.close()
-        else:
-            for _, script, line in runs:
-                with begin(place, script) as pipe:
-                    pipe.write(line)
-        done = 0
-        for address, (run, _, _) in enumerate(runs, 1):
-            ended = end(run)
-            if ended[0] == 0:
-                wanted[address] = number
-                done += 1
-            else:
-                expect(IMAGE_CHANGED, ended, f"the end of a run of round {number}")
-        if done == 0 or done == 2 and number % 2:
-            raise Wrong(f"round {number}: {done} runs ended with 0")
-        found = dict(
-            map(int, line.split()) for line in place.run(["list", "image"])[1].splitlines()
-        )
+        commands = (("run", 1), ("run --indexed", 2))
+        runs = {address: Waiting(place, command, address, number) for command, address in commands}
+        pipes = ((run, run.begun()) for run in runs.values())
+        for run, pipe in list(pipes) if number % 2 else pipes:
+            with pipe:
+                pipe.write(run.line)
+        ended = {address: run.end() for address, run in runs.items()}
+        done = [address for address, end in ended.items() if end[0] == 0]
+        for address in ended.keys() - done:
+            expect(IMAGE_CHANGED, ended[address], f"the end of a run of round {number}")
+        if not done or len(done) == 2 and number % 2:
+            raise Wrong(f"round {number}: {len(done)} runs ended with 0")
+        wanted |= dict.fromkeys(done, number)
+        lines = place.run("list image")[1].splitlines()
+        found = dict(map(int, line.split()) for line in lines)
         expect(wanted, found, f"the image behind round {number}")
-    expect(sorted([*INPUTS, "script-1", "script-2"]), place.names(), "files")
+    expect(sorted([*INPUTS, *place.more]), place.names(), "files")
 
 
-def lost_output(place, words, new):
+def lost_output(place, name):
     """Standard output is full, or a pipe that nobody reads: the image was written before."""
+    words, new = place.written(name) if name in WRITERS else (READERS[name], MOVED)
     reading, writing = os.pipe()
     os.close(reading)
+    end = (3, None, b"ee: cannot write output\n")
     with open("/dev/full", "wb") as full, os.fdopen(writing, "wb") as closed:
-        for name, output in (("a full device", full), ("a closed pipe", closed)):
+        for what, output in (("a full device", full), ("a closed pipe", closed)):
             place.put("image", MOVED)
-            ended = place.run(words, stdout=output)
-            expect((3, None, b"ee: cannot write output\n"), ended, f"the end, with {name}")
-            expect(new, place.text(), "the image")
-            expect(sorted(INPUTS), place.names(), "files")
-
-
-def lost_output_writer(place, writer):
-    lost_output(place, WRITERS[writer], written_by(place, writer))
-
-
-def lost_output_reader(place, reader):
-    lost_output(place, READERS[reader], MOVED)
+            place.ends(end, words, new, f"with {what}", stdout=output)
 
 
 def in_place(place, writer, options):
     """Where no file may be made beside it, or none may replace it, an image is written in its
     place."""
-    new = written_by(place, writer)
+    words, new = place.written(writer)
     for mode in (0o555, 0o1777) if options else (0o555,):
         place.put("image", MOVED, 0o666)
         os.chmod(place.folder, mode)
         before = os.stat(place.path("image")).st_ino
-        ended = place.run(WRITERS[writer], **options)
+        ended = place.run(words, **options)
         os.chmod(place.folder, 0o755)
-        expect((0, b""), (ended[0], ended[2]), "the end")
-        expect(new, place.text(), "the image")
+        expect((0, b""), ended[::2], "the end")
         expect(before, os.stat(place.path("image")).st_ino, "which file it is")
-        expect(sorted(INPUTS), place.names(), "files")
+        place.stands(new, "")
 
 
 def owner(place, writer):
     """An image keeps its owner, whoever writes it."""
-    new = written_by(place, writer)
+    words, new = place.written(writer)
     os.chown(place.path("image"), 65533, 65532)
-    expect(0, place.run(WRITERS[writer])[0], "status")
-    expect(new, place.text(), "the image")
+    place.ends(0, words, new)
     found = os.stat(place.path("image"))
     expect((65533, 65532), (found.st_uid, found.st_gid), "the owner")
 
@@ -412,74 +364,53 @@ cat /dev/zero > there/fill 2> /dev/null; "$@"; echo "status $?"; cat there/image
 def full_system(place, writer):
     """Where a file system is full the old image stands."""
     os.mkdir(place.path("there"))
-    words = ["there/image" if word == "image" else word for word in WRITERS[writer]]
-    if writer == "format":
-        words[1:3] = ["64", "100"]
-    ended = place.run(words, prefix=["unshare", "-m", "sh", "-c", FILLING, "sh"])
-    expect(
-        (0, b"status 3\n" + MOVED + b"fill\nimage\n", b"ee: cannot write image\n"), ended, "the end"
-    )
+    words = "format 64 100 image" if writer == "format" else WRITERS[writer]
+    prefix = ["unshare", "-m", "sh", "-c", FILLING, "sh"]
+    ended = place.run(over(words, "there/image"), prefix)
+    left = b"status 3\n" + MOVED + b"fill\nimage\n"
+    expect((0, left, b"ee: cannot write image\n"), ended, "the end")
 
 
 def full_device(place, _, options):
     """A full device is no plain file: it stays what it is, and so does a link to it."""
-    os.symlink("/dev/full", place.path("link"))
-    names = place.names()
+    place.link("/dev/full")
     for image in ("/dev/full", "link"):
-        expect(
-            CANNOT_WRITE_IMAGE,
-            place.run(["format", "1", "6", image], **options),
-            f"the end with {image}",
-        )
-        expect(
-            (3, b"", b"ee: image too long\n"),
-            place.run(["run", image, "script"], **options),
-            f"the end of a run on {image}",
-        )
+        place.ends(CANNOT_WRITE_IMAGE, ["format", "1", "6", image], MOVED, image, **options)
+        too_long = (3, b"", b"ee: image too long\n")
+        place.ends(too_long, ["run", image, "script"], MOVED, f"of a run on {image}", **options)
     expect("/dev/full", os.readlink(place.path("link")), "the link")
     expect(True, stat.S_ISCHR(os.stat("/dev/full").st_mode), "/dev/full is a device")
-    expect(names, place.names(), "files")
 
 
 def output_as_image(place, _):
     """An image can go to standard output, where that is a pipe."""
-    expect(0, place.run(["format", "1", "6", "image"])[0], "status")
-    os.symlink("/proc/self/fd/1", place.path("link"))
-    names = place.names()
-    ended = place.run(["format", "1", "6", "link"])
-    expect((0, place.text() + b"formatted\n", b""), ended, "the end")
-    expect(names, place.names(), "files")
+    expect(0, place.run("format 1 6 image")[0], "status")
+    text = place.get("image")
+    place.link("/proc/self/fd/1")
+    place.ends((0, text + b"formatted\n", b""), "format 1 6 link", text)
 
 
 def output_to_image(place, writer):
     """Where standard output goes to the image, whatever leads there, nothing is written."""
-    os.symlink("image", place.path("link"))
-    for name in ("image", "link"):
-        for words in (
-            WRITERS[writer],
-            [name if word == "image" else word for word in WRITERS[writer]],
-        ):
-            with open(place.path(name), "ab") as output:
-                expect(OUTPUT_IS_WRITTEN, place.run(words, stdout=output), "the end")
-            expect(MOVED, place.text(), "the image")
-            expect(sorted([*INPUTS, "link"]), place.names(), "files")
+    place.link("image")
+    for output, image in product(("image", "link"), repeat=2):
+        if (output, image) != ("image", "link"):
+            with open(place.path(output), "ab") as file:
+                words = over(WRITERS[writer], image)
+                place.ends(OUTPUT_IS_WRITTEN, words, MOVED, stdout=file)
 
 
 def new_image(place, _):
     """`format` makes a file that wasn't there, also where a link leads to none."""
-    expect(0, place.run(["format", "1", "6", "image"])[0], "status")
-    wanted = place.text()
-    os.symlink("second", place.path("link"))
+    expect(0, place.run("format 1 6 image")[0], "status")
+    wanted = place.get("image")
+    place.link("second")
     for image, real in (("first", "first"), ("link", "second")):
-        expect(
-            (0, b"formatted\n", b""),
-            place.run(["format", "1", "6", image], umask=0o027),
-            f"the end with {image}",
-        )
-        expect(wanted, place.text(real), "the image")
+        place.more.append(real)
+        words = ["format", "1", "6", image]
+        place.ends((0, b"formatted\n", b""), words, wanted, f"with {image}", real, umask=0o027)
         expect(oct(0o640), place.mode(real), "mode")
     expect("second", os.readlink(place.path("link")), "the link")
-    expect(sorted([*INPUTS, "first", "link", "second"]), place.names(), "files")
 
 
 def typed(place, words, *given):
@@ -507,145 +438,98 @@ def at_a_terminal(place, _):
     expect((0, True, True), (status, waits in shown, "\nok\n" in shown), shown)
     status, shown = typed(place, ["run", "image", "bad"])
     expect((3, True), (status, 'ee: script line 2\n  the line is "w 2 6 "\n' in shown), shown)
-    status, _, said = place.run([], input=b"w 1 10\n")
-    expect((0, b""), (status, said), "by a pipe")
+    expect((0, b""), place.run([], input=b"w 1 10\n")[::2], "by a pipe")
 
 
 def refused(place, cause):
     """A refused command leaves the file as it was: its text, its time and its place."""
-    before = [os.stat(place.path(name)) for name in ("image", "script")]
-    ended = place.run(REFUSED[cause])
+
+    def seen():
+        found = [os.stat(place.path(name)) for name in ("image", "script")]
+        return [(it.st_ino, it.st_mtime_ns, it.st_mode) for it in found]
+
+    before, ended = seen(), place.run(REFUSED[cause])
     expect((True, b""), (ended[0] in (3, 4), ended[1]), "the end")
-    after = [os.stat(place.path(name)) for name in ("image", "script")]
-    for old, new in zip(before, after):
-        expect(
-            (old.st_ino, old.st_mtime_ns, old.st_mode),
-            (new.st_ino, new.st_mtime_ns, new.st_mode),
-            "the file",
-        )
-    expect(sorted(INPUTS), place.names(), "files")
+    expect(before, seen(), "the files")
+    place.stands(MOVED, "")
+
+
+# What a call that opens a file is for, by the first of its flags.
+OPENS = [
+    ("O_CREAT|O_TRUNC", "write"),
+    ("O_WRONLY|O_RDWR", "hold"),
+    ("O_DIRECTORY|O_PATH", "folder"),
+    ("", "open"),
+]
+CALLS = {"flock": "lock", "read": "read", "pread64": "read", "readv": "read", "creat": "write"}
+TRACED = "open,openat,rename,renameat,renameat2,truncate," + ",".join(CALLS)
 
 
 def calls_of(place, words):
     """The system calls of a run that open, lock, read, write beside standard output, or rename:
     each a kind and a path."""
-    log = place.path("strace")
-    place.run(
-        words,
-        prefix=[
-            "strace",
-            "-f",
-            "-y",
-            "-o",
-            log,
-            "-e",
-            "trace=open,openat,creat,flock,read,pread64,readv,rename,renameat,renameat2,truncate",
-        ],
-    )
-    with open(log) as file:
-        lines = file.read().splitlines()
-    os.unlink(log)
-    calls = []
-    for line in lines:
-        found = re.match(r"\d+ +(\w+)\((.*)\) += (-?\d+)", line)
-        if not found or int(found[3]) < 0:
-            continue
-        name, operands = found[1], found[2]
-        if name in ("open", "openat", "creat"):
-            writes = name == "creat" or re.search(r"O_CREAT|O_TRUNC", operands)
-            holds = re.search(r"O_WRONLY|O_RDWR", operands)
-            kind = (
-                "write"
-                if writes
-                else "hold"
-                if holds
-                else "folder"
-                if re.search("O_DIRECTORY|O_PATH", operands)
-                else "open"
-            )
-            calls.append((kind, re.search(r'"(.*?)"', operands)[1]))
-        elif name == "flock":
-            calls.append(("lock", re.search(r"<(.*?)>", operands)[1]))
-        elif name in ("read", "pread64", "readv"):
-            calls.append(("read", re.search(r"<(.*?)>", operands)[1]))
-        else:
-            calls.append(("write", operands))
-    return calls
+    for name, operands, answer, _ in place.calls(words, TRACED)[1]:
+        if name in ("open", "openat") and answer[0] != "-":
+            kind = next(kind for flags, kind in OPENS if re.search(flags, operands))
+            yield kind, re.search(r'"(.*?)"', operands)[1]
+        elif answer[0] != "-":
+            path = re.search(r"<(.*?)>", operands)
+            yield CALLS.get(name, "write"), path[1] if path else operands
 
 
 def system_calls(place, name):
     """Each input is opened once and read, then the image is opened for writing and locked, and read
     once more; and only then is anything made."""
     words = {**WRITERS, **READERS, **REFUSED}[name]
-    calls = calls_of(place, words)
+    calls = list(calls_of(place, words))
+    at = lambda wanted: [number for number, (kind, _) in enumerate(calls) if kind == wanted]
     opened = [path for kind, path in calls if kind == "open"]
-    twice = sorted({path for path in opened if opened.count(path) > 1})
-    expect([], twice, "opened more than once")
-    inputs = [place.path(word) for word in words if word in INPUTS and name != "format"]
-    reads = [
-        number for number, (kind, path) in enumerate(calls) if kind == "read" and path in inputs
-    ]
-    writes = [number for number, (kind, _) in enumerate(calls) if kind == "write"]
+    expect([], sorted({it for it in opened if opened.count(it) > 1}), "opened more than once")
+    inputs = [place.path(it) for it in words.split() if it in INPUTS and name != "format"]
+    reads = [number for number in at("read") if calls[number][1] in inputs]
+    writes, holds, image = at("write"), at("hold"), place.path("image")
     expect(bool(inputs), bool(reads), "inputs are read")
     expect(name in WRITERS, bool(writes), "something is written")
     if reads and writes and writes[0] < reads[-1]:
         raise Wrong(f"{calls[writes[0]]} comes before the last read of an input")
-    holds = [number for number, (kind, _) in enumerate(calls) if kind == "hold"]
     expect(int(name in WRITERS), len(holds), "how often a file is opened for writing that is there")
     if holds:
-        image = place.path("image")
-        expect([("hold", image), ("lock", image)], calls[holds[0] : holds[0] + 2], "the lock")
-        expect(
-            [],
-            [calls[number] for number in reads if number > holds[0] and calls[number][1] != image],
-            "what is read behind it",
-        )
+        locked = calls[holds[0] : holds[0] + 2]
+        expect([("hold", image), ("lock", image)], locked, "the lock")
+        behind = {calls[number][1] for number in reads if number > holds[0]}
+        expect(set(), behind - {image}, "what is read behind it")
 
 
 def can_mount(folder):
     """Whether a file system can be mounted where no other program sees it."""
     words = ["unshare", "-m", "mount", "-t", "tmpfs", "none", folder]
-    return is_here(words[0]) and subprocess.run(words, stderr=subprocess.DEVNULL).returncode == 0
+    quiet = subprocess.DEVNULL
+    return is_here(words[0]) and not subprocess.run(words, stderr=quiet, check=False).returncode
 
 
-def usual_checks():
-    """The checks that can be made everywhere: a function, and the names that it is given."""
-    return [
-        (no_room, WRITERS),
-        (links, WRITERS),
-        (modes, WRITERS),
-        (leftover, WRITERS),
-        (second_name, WRITERS),
-        (taken, ["run"]),
-        (held, WRITERS),
-        (changed_meanwhile, ["run", "run --indexed"]),
-        (gone_meanwhile, ["run", "run --indexed"]),
-        (at_once, ["runs"]),
-        (lost_output_writer, WRITERS),
-        (lost_output_reader, [name for name in READERS if name != "stale"]),
-        (output_as_image, ["format"]),
-        (output_to_image, WRITERS),
-        (new_image, ["format"]),
-        (at_a_terminal, ["try"]),
-        (refused, REFUSED),
-    ]
+# The checks that can be made everywhere: a function, and the names that it is given.
+USUAL = {
+    **dict.fromkeys((no_room, links, modes, leftover, second_name, held, output_to_image), WRITERS),
+    lost_output: [*WRITERS, *(name for name in READERS if name != "stale")],
+    refused: REFUSED,
+    taken: ["run"],
+    **dict.fromkeys((output_as_image, new_image, at_once, at_a_terminal), [""]),
+}
 
 
 def all_checks(program, folder, tally):
     """Each check: a function, the name that it is given, and what else."""
-    functions = usual_checks()
-    if os.getuid() == 0:
-        functions.append((owner, WRITERS))
+    functions = USUAL | ({owner: WRITERS} if os.getuid() == 0 else {})
     if can_mount(folder):
-        functions.append((full_system, WRITERS))
+        functions[full_system] = WRITERS
     else:
         tally.skip("a full file system", "none can be mounted (run it as root)")
-    if is_here("strace"):
-        functions.append((system_calls, [*WRITERS, *READERS, *REFUSED]))
-    else:
-        tally.skip("the calls on files", "no strace (apt-get install strace)")
-    for function, names in functions:
+    if not tally.lacks("the calls on files", ["strace"], "apt-get install strace"):
+        functions[system_calls] = [*WRITERS, *READERS, *REFUSED]
+    for function, names in functions.items():
         yield from ((function, name) for name in names)
+    for command, change in product(("run", "run --indexed"), ("changed", "gone")):
+        yield meanwhile, command, change
     options = other_user(program, folder)
     if options is None:
         tally.skip("folders that may not be written", "another user can't run the program")

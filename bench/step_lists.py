@@ -3,7 +3,7 @@ code of the store, and what scripts make of a device by these lists alone, cuts 
 from collections import namedtuple
 from functools import lru_cache
 
-MARK, HEADER, LAST_GENERATION = "a" * 16, 4, 4294967294
+MARK, HEADER, LAST_GENERATION, MOST_WEAR = "a" * 16, 4, 4294967294, 2**64 - 1
 # Which word of a header is which mark.
 RECEIVE, ACTIVE, VALID, ERASING = range(HEADER)
 
@@ -26,26 +26,36 @@ def text_of(device):
     return "\n".join([head, *rows, ""]).encode()
 
 
-class Live:
-    """The live set of a device: its first page, its generation, its slots and their meaning."""
+def generation_of(word):
+    """The generation of a receive word, 0 of any other one."""
+    number = int(word[8:], 16) if word[:8] == MARK[:8] else 0
+    return number if number <= LAST_GENERATION else 0
 
-    def __init__(self, device):
+
+def said_by(word):
+    """The address of an element or a forgetting, with its value or None, if the word is one."""
+    if word in "-?":
+        return None
+    value, middle, address = int(word[:8], 16), int(word[8:12], 16), int(word[12:], 16)
+    is_proper = middle < 2 and 0 < address < 65535
+    return (address, None if middle else value) if is_proper else None
+
+
+class Live:
+    """The live set of a device, or its first or second one: its first page, its generation, its
+    slots and their meaning."""
+
+    def __init__(self, device, side=None):
         pages = device.pages
         self.pages, self.size, self.room = pages, len(pages) // 2, len(pages[0]) - HEADER
         firsts = pages[0], pages[self.size]
-        named = [
-            int(page[0][8:], 16) if page[0][:8] == MARK[:8] and page[1] == MARK else 0
-            for page in firsts
-        ]
-        self.generation = max(named)
-        self.first = self.size * named.index(self.generation)
+        named = [generation_of(it[RECEIVE]) if it[ACTIVE] == MARK else 0 for it in firsts]
+        side = named.index(max(named)) if side is None else side
+        self.generation, self.first = named[side], side * self.size
         self.other = self.size - self.first
-        words = sum((page[HEADER:] for page in self.own()), ())
-        self.slots, self.fill, held = len(words), len(words) - words.count("-"), {}
-        for word in words:
-            if word not in "-?":
-                value = int(word[:8], 16) if word[8:12] == "0000" else None
-                held[int(word[12:], 16)] = value
+        self.words = sum((page[HEADER:] for page in self.own()), ())
+        self.slots, self.fill = len(self.words), len(self.words) - self.words.count("-")
+        held = dict(filter(None, map(said_by, self.words)))
         self.values = {name: value for name, value in sorted(held.items()) if value is not None}
 
     def own(self):
@@ -141,11 +151,18 @@ def after(device, step, tear="d"):
     words = list(pages[step.page])
     if step.place is None:
         words = [torn(at, word, tear) for at, word in enumerate(words)]
-        wears[step.page] += 1
+        wears[step.page] = min(wears[step.page] + 1, MOST_WEAR)
     elif tear != "n":
         words[step.place] = step.word if tear == "d" else "?"
     pages[step.page] = tuple(words)
     return Device(tuple(pages), tuple(wears))
+
+
+def left_by(device, steps):
+    """The device behind steps."""
+    for step in steps:
+        device = after(device, step)
+    return device
 
 
 def taken(desk, steps):

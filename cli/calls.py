@@ -3,19 +3,14 @@
 Each case is a folder, a command and what stands in its way. `strace` lists the calls that open,
 lock, write, name and remove files, and what they answer: both programs must make the same ones, and
 leave the same."""
-import fcntl
 import os
 import re
-import stat
+import shlex
 import subprocess
 import tempfile
-from pathlib import Path
 
-SETTINGS = b"a = { address = 1, min = 0, max = 10, default = 5 }\n"
-CALLS = (
-    "open,openat,creat,flock,fcntl,fsync,fdatasync,write,writev,pwrite64,ftruncate,truncate,rename,renameat,renameat2,"
-    "unlink,unlinkat,chmod,fchmod,fchmodat,chown,fchown,lchown,fchownat,link,linkat,symlink,dup,dup2"
-)
+from tools.trying import Place
+
 # Calls that do the same by another name, with or without the folder that a path begins at.
 ALIKE = {
     "open": "openat",
@@ -26,238 +21,85 @@ ALIKE = {
     "fchownat": "chown",
     "fdatasync": "fsync",
 }
+# The others that are compared, and those that are listed with them.
+OTHERS = (
+    "creat,flock,write,writev,pwrite64,ftruncate,truncate,fchmod,fchown,lchown,link,linkat,symlink"
+)
+CALLS = ",".join([*ALIKE, *set(ALIKE.values()), OTHERS])
+# What tells nothing of a call: a folder that is this one, and flags. O_NOCTTY matters where a file
+# is a terminal alone: only the proved program asks for it (README.md, What differs).
+NOTHING = (
+    r"^AT_FDCWD(?:<[^>]*>)?, |, AT_FDCWD(?:<[^>]*>)?(?=, )|\|O_CLOEXEC|O_CLOEXEC\|?|\|O_LARGEFILE"
+    r"|\|O_NOCTTY|, (?:0|RENAME_NOREPLACE)$"
+)
+FILES = {
+    "settings": "a = { address = 1, min = 0, max = 10, default = 5 }\n",
+    "script": "w 1 10\nw 1 11\nw 1 12\n",
+    "bad": "w 1\n",
+    "dump": "old",
+}
+# What is tried: the name of a way, what a shell does before in the folder, the words in front of the
+# program, and the commands. In an odd folder, whose name is no text, lie the image and a link; beside
+# a long name none can be made.
+TABLE = r"""
+nothing :: :: :: NEW; FORMAT; SET; run image script; run image bad; export image new
+nothing more :: :: :: DUMP; GET; clean image; set image settings a 99
+another owner :: chown 1:1 image; chmod 640 image :: :: SET; FORMAT
+a link :: mv image real; ln -s real image :: :: SET; FORMAT
+a link to nothing :: rm image; ln -s real image :: :: FORMAT; SET
+a name that is taken :: printf another > image.ee-saving-0 :: :: SET
+all names taken :: for n in $(seq 0 99); do echo > image.ee-saving-$n; done :: :: SET
+a lock :: :: flock -o image :: SET; FORMAT; GET
+no image :: rm image :: :: SET; FORMAT; format 1 6 none/image
+a folder :: rm image; mkdir image :: :: SET; FORMAT
+a device :: rm image; ln -s /dev/full image :: :: FORMAT; export dump image
+a long name :: mv image LONG; ln -s LONG image :: :: SET; FORMAT
+a longer text :: printf %200s >> image; mv image LONG; ln -s LONG image :: :: FORMAT; format 1 5 image
+no room :: :: prlimit --fsize=40 :: SET; FORMAT; NEW; DUMP
+an odd folder :: mkdir "$ODD"; mv image "$ODD"; ln -s ../settings "$ODD" :: sh -c 'cd "$ODD" && exec "$@"' sh :: SET; FORMAT; NEW
+a full output :: :: sh -c 'exec "$@" > /dev/full' sh :: SET; NEW; GET
+no output :: :: :: GET; NEW
+an odd word :: :: sh -c 'exec "$@" "$ODD"' sh :: list image; format 1 6
+"""
+SHORT = {
+    "SET": "set image settings a 7",
+    "FORMAT": "format 1 6 image",
+    "NEW": "format 1 6 new",
+    "GET": "get image settings a",
+    "DUMP": "export image dump",
+}
+LINES = TABLE.replace("LONG", "i" * 250).strip().splitlines()
+CASES = [re.split(r"\s*::\s*", line) for line in LINES]
+ENV = {**os.environb, b"ODD": b"\xff"}
 
 
-def nothing(_folder):
-    return None
-
-
-def other_owner(folder):
-    os.chown(folder / "image", 1, 1)
-    (folder / "image").chmod(0o640)
-
-
-def by_link(folder):
-    (folder / "image").rename(folder / "real")
-    (folder / "image").symlink_to("real")
-
-
-def link_to_nothing(folder):
-    (folder / "image").unlink()
-    (folder / "image").symlink_to("real")
-
-
-def first_taken(folder):
-    (folder / "image.ee-saving-0").write_bytes(b"of another")
-
-
-def all_taken(folder):
-    for number in range(100):
-        (folder / f"image.ee-saving-{number}").write_bytes(b"of another")
-
-
-def locked(folder):
-    file = (folder / "image").open("rb+")
-    fcntl.flock(file, fcntl.LOCK_EX)
-    return file
-
-
-def missing(folder):
-    (folder / "image").unlink()
-
-
-def a_folder(folder):
-    (folder / "image").unlink()
-    (folder / "image").mkdir()
-
-
-def a_device(folder):
-    (folder / "image").unlink()
-    (folder / "image").symlink_to("/dev/full")
-
-
-def long_name(folder):
-    """A name so long that none beside it can be made."""
-    (folder / "image").rename(folder / ("i" * 250))
-    (folder / "image").symlink_to("i" * 250)
-
-
-def larger(folder):
-    """The same over a longer text than what comes."""
-    (folder / "image").write_bytes((folder / "image").read_bytes() + b" " * 200)
-    return long_name(folder)
-
-
-def no_room(_folder):
-    """A file has no room for more than a few bytes."""
-    return ["prlimit", "--fsize=40"]
-
-
-def odd_folder(folder):
-    """A folder whose name is no text. The files lie in it."""
-    inner = os.path.join(os.fsencode(folder), b"\xff")
-    os.mkdir(inner)
-    os.rename(folder / "image", os.path.join(inner, b"image"))
-    os.symlink("../settings", os.path.join(inner, b"settings"))
-    return ["sh", "-c", 'cd "$(printf "\\377")" && exec "$@"', "sh"]
-
-
-def full_output(_folder):
-    return ["sh", "-c", 'exec "$@" > /dev/full', "sh"]
-
-
-def no_output(_folder):
-    """Who reads the output is gone."""
-    return None
-
-
-def odd_word(_folder):
-    """A word of the command line that is no text."""
-    return ["sh", "-c", 'exec "$@" "$(printf "\\377")"', "sh"]
-
-
-# What stands in the way, and the commands that are tried then. A way gives a file that is kept
-# open, or words before the command.
-CASES = [
-    (
-        nothing,
-        [
-            "format 1 6 new",
-            "format 1 6 image",
-            "set image settings a 7",
-            "run image script",
-            "run image bad",
-            "export image new",
-            "export image dump",
-            "get image settings a",
-            "clean image",
-            "set image settings a 99",
-        ],
-    ),
-    (other_owner, ["set image settings a 7", "format 1 6 image"]),
-    (by_link, ["set image settings a 7", "format 1 6 image"]),
-    (link_to_nothing, ["format 1 6 image", "set image settings a 7"]),
-    (first_taken, ["set image settings a 7"]),
-    (all_taken, ["set image settings a 7"]),
-    (locked, ["set image settings a 7", "format 1 6 image", "get image settings a"]),
-    (missing, ["set image settings a 7", "format 1 6 image", "format 1 6 none/image"]),
-    (a_folder, ["set image settings a 7", "format 1 6 image"]),
-    (a_device, ["format 1 6 image", "export dump image"]),
-    (long_name, ["set image settings a 7", "format 1 6 image"]),
-    (larger, ["format 1 6 image", "format 1 5 image"]),
-    (
-        no_room,
-        ["set image settings a 7", "format 1 6 image", "format 1 6 new", "export image dump"],
-    ),
-    (odd_folder, ["set image settings a 7", "format 1 6 image", "format 1 6 new"]),
-    (full_output, ["set image settings a 7", "format 1 6 new", "get image settings a"]),
-    (no_output, ["get image settings a", "format 1 6 new"]),
-    (odd_word, ["list image", "format 1 6"]),
-]
-
-
-def prepared(program, folder, way):
-    subprocess.run(
-        [program, "format", "1", "6", "image"], cwd=folder, stdout=subprocess.DEVNULL, check=True
-    )
-    (folder / "settings").write_bytes(SETTINGS)
-    (folder / "script").write_bytes(b"w 1 10\nw 1 11\nw 1 12\n")
-    (folder / "bad").write_bytes(b"w 1\n")
-    (folder / "dump").write_bytes(b"old")
-    return way(folder)
-
-
-def calls_of(log, folder):
+def in_one_form(calls, folder):
     """The calls on files of the folder, each in one form."""
-    calls = []
-    for line in log.decode("utf-8", "replace").splitlines():
-        found = re.match(r"(?:\d+ +)?(\w+)\((.*)\) += (-?\w+)(?: ?<[^>]*>)?(?: (E\w+))?", line)
-        if not found:
-            continue
-        name, words, answer, error = found.groups()
-        # O_NOCTTY matters where a file is a terminal alone. Only the proved program asks for it
-        # (README.md, What differs).
-        words = re.sub(
-            r"^AT_FDCWD(?:<[^>]*>)?, |, AT_FDCWD(?:<[^>]*>)?(?=, )|\|O_CLOEXEC|O_CLOEXEC\|?|\|O_LARGEFILE|\|O_NOCTTY",
-            "",
-            words,
-        )
-        words = re.sub(r"\b\d+<([^>]*)>", r"<\1>", words).replace(str(folder), ".")
+    for name, words, answer, error in calls:
+        words = re.sub(NOTHING, "", words)
+        words = re.sub(r"\b\d+<([^>]*)>", r"<\1>", words).replace(folder, ".")
         words = re.sub(r"<pipe:\[\d+\]>", "<pipe>", words)
-        if (
-            name in ("fcntl", "dup", "dup2")
-            or "/proc/" in words
-            or '"/lib' in words
-            or '"/etc' in words
-            or '"/sys' in words
-            or '"/usr' in words
-        ):
-            continue
-        name = ALIKE.get(name, name)
-        if name in ("rename", "unlink", "chmod", "chown"):
-            words = (
-                re.sub(r", (?:0|RENAME_NOREPLACE)$", "", words)
-                if name in ("rename", "unlink")
-                else words
-            )
-        is_made = name == "openat" and not error
-        calls.append(f"{name}({words}) {error or ('a file' if is_made else answer)}")
-    return calls
+        if not re.search(r'/proc/|"/(?:lib|etc|sys|usr)', words):
+            name = ALIKE.get(name, name)
+            is_made = name == "openat" and not error
+            yield f"{name}({words}) {error or ('a file' if is_made else answer)}"
 
 
-def left(folder):
-    found = {}
-    for path in sorted(folder.rglob("*")):
-        at = path.lstat()
-        text = (
-            os.readlink(path)
-            if path.is_symlink()
-            else path.read_bytes()
-            if path.is_file()
-            else None
-        )
-        found[str(path.relative_to(folder))] = (
-            stat.S_IFMT(at.st_mode),
-            stat.S_IMODE(at.st_mode),
-            at.st_uid,
-            at.st_gid,
-            text,
-        )
-    return found
-
-
-def outcome(program, way, words):
+def outcome(program, way, before, prefix, words):
     """What a program says, does to files and leaves."""
-    with tempfile.TemporaryDirectory() as name, tempfile.NamedTemporaryFile() as log:
-        folder = Path(name).resolve()
-        kept = prepared(program, folder, way)
-        before = kept if isinstance(kept, list) else []
+    with tempfile.TemporaryDirectory() as name:
+        place = Place(program, os.path.realpath(os.path.join(name, "place")), FILES)
+        place.run("format 1 6 image")
+        subprocess.run(["sh", "-c", before], cwd=place.folder, env=ENV, check=True)
+        reader, output = os.pipe()
         # Signals of Python stay as they are, so that a file with no room is an error and not the
         # end.
-        tracing = ["strace", "-f", "-y", "-s", "64", "-e", f"trace={CALLS}", "-o", log.name]
-        output = subprocess.PIPE
-        if way is no_output:
-            reader, output = os.pipe()
-            os.close(reader)
-        done = subprocess.run(
-            [*tracing, *before, program, *words.split()],
-            cwd=folder,
-            stdin=subprocess.DEVNULL,
-            stdout=output,
-            stderr=subprocess.PIPE,
-            timeout=60,
-            restore_signals=False,
-            check=False,
-        )
-        if way is no_output:
-            os.close(output)
-        if kept and not before:
-            kept.close()
-        return (
-            (done.returncode, done.stdout, done.stderr),
-            calls_of(Path(log.name).read_bytes(), folder),
-            left(folder),
-        )
+        how = {"restore_signals": False, "env": ENV}
+        how |= {"stdout": output} if way == "no output" else {}
+        os.close(reader)
+        ended, calls = place.calls(words, CALLS, shlex.split(prefix), **how)
+        os.close(output)
+        return ended, list(in_one_form(calls, place.folder)), place.left()
 
 
 def difference(ours, theirs):
@@ -266,9 +108,8 @@ def difference(ours, theirs):
         return None
     lines = [f"{ours[0]!r:.200} and {theirs[0]!r:.200}"]
     calls = zip(ours[1] + ["nothing"] * 99, theirs[1] + ["nothing"] * 99)
-    lines += [f"{mine}\n  where it should be {wanted}" for mine, wanted in calls if mine != wanted][
-        :1
-    ]
+    differing = [f"{mine}\n  where it should be {it}" for mine, it in calls if mine != it]
+    lines += differing[:1]
     if ours[2] != theirs[2]:
         lines.append(f"left {ours[2]!r:.400}\n  where it should be {theirs[2]!r:.400}")
     return "\n  ".join(lines)
@@ -276,8 +117,7 @@ def difference(ours, theirs):
 
 def checks(plain, proved, _words):
     """Tries each command in each way. Gives its name and what differs, if anything."""
-    for way, commands in CASES:
-        for words in commands:
-            yield f"{way.__name__}, ee {words}", difference(
-                outcome(plain, way, words), outcome(proved, way, words)
-            )
+    for way, before, prefix, commands in CASES:
+        for words in (SHORT.get(it, it) for it in commands.split("; ")):
+            ours, theirs = (outcome(it, way, before, prefix, words) for it in (plain, proved))
+            yield f"{way}, ee {words}", difference(ours, theirs)

@@ -2,34 +2,20 @@
 some commands that are made in it one after another, by both programs. What they print, their
 statuses, and the names, texts and modes of all files must be the same."""
 import random
-import stat
-import subprocess
 import tempfile
 from collections import Counter
+from functools import partial
 from multiprocessing import Pool
-from pathlib import Path
 
 import tables
 from bench import cases
+from tools.trying import Place
 
 NUMBERS = [0, 1, 4, 5, 6, 8, 64, 65, 512, 513, 65534, 65535, 2**32 - 1, 2**32]
-FILES = [
-    "image",
-    "other",
-    "script",
-    "settings",
-    "values",
-    "certificate",
-    "dump",
-    "hex",
-    "new",
-    "none",
-]
+FILES = "image other script settings values certificate dump hex new none".split()
 # The commands, those that change an image twice. Words in capitals are drawn, and so is, seldom, a
 # file.
-COMMANDS = [
-    line.split()
-    for line in """
+COMMANDS = """\
 run image script
 run image script
 run --indexed image script
@@ -72,23 +58,16 @@ clean image
 rescue image
 forget-all image
 forget-all --force image
-""".strip(
-        "\n"
-    ).split(
-        "\n"
-    )
-]
+"""
 BASES = ["00000000", "08000000", "0807F000", "fffffff8", "00000004", "0"]
 
 
 def number(dice, usual):
     """Mostly one of these, else one at a limit or none at all."""
     fate = dice.random()
-    if fate < 0.93:
-        return str(dice.choice(usual))
-    return (
-        str(dice.choice(NUMBERS)) if fate < 0.99 else dice.choice(["", "x", "01", "-1", "+1", "1 "])
-    )
+    if fate >= 0.99:
+        return dice.choice(["", "x", "01", "-1", "+1", "1 "])
+    return str(dice.choice(usual if fate < 0.93 else NUMBERS))
 
 
 def drawn(dice, word, size, names):
@@ -105,19 +84,17 @@ def drawn(dice, word, size, names):
     if word == "BASE":
         return dice.choice(BASES)
     if word == "NAME":
-        return (
-            dice.choice(names) if dice.random() < 0.9 else dice.choice(["", "x", "no.name", "NAME"])
-        )
+        return dice.choice(names if dice.random() < 0.9 else ["", "x", "no.name", "NAME"])
     return dice.choice(FILES) if word in FILES and dice.random() < 0.05 else word
 
 
 def command(dice, size, names):
     """The words of a command, of which some are no command."""
-    words = [drawn(dice, word, size, names) for word in dice.choice(COMMANDS)]
+    line = dice.choice(COMMANDS.splitlines())
+    words = [drawn(dice, word, size, names) for word in line.split()]
     if dice.random() < 0.03:
-        words.insert(
-            dice.randrange(len(words) + 1), dice.choice(["--pairs", "--rust", "x", "", "image"])
-        )
+        other = dice.choice(["--pairs", "--rust", "x", "", "image"])
+        words.insert(dice.randrange(len(words) + 1), other)
     if dice.random() < 0.02 and words:
         del words[dice.randrange(len(words))]
     return words
@@ -158,57 +135,33 @@ def case_of(seed, number_of_case):
     return files, commands, dice.choice([0o644, 0o600, 0o640, 0o444])
 
 
-def left(folder):
-    """What stands in a folder."""
-    found = {}
-    for path in sorted(folder.iterdir()):
-        found[path.name] = (stat.S_IMODE(path.stat().st_mode), path.read_bytes())
-    return found
-
-
-def outcome(program, folder, case):
+def outcome(program, case):
     """What a program prints and leaves."""
     files, commands, mode = case
-    for name, text in files.items():
-        (folder / name).write_bytes(text)
-        (folder / name).chmod(mode if name == "image" else 0o644)
-    said = []
-    for words, script in commands:
-        try:
-            done = subprocess.run(
-                [program, *words],
-                cwd=folder,
-                input=script,
-                capture_output=True,
-                timeout=60,
-                check=False,
-            )
-        except subprocess.TimeoutExpired:
-            said.append(("no end within a minute", program, b""))
-            continue
-        said.append((done.returncode, done.stdout, done.stderr))
-        # What a certificate proves is asked where there is one.
-        if words[:1] == ["plan"] and done.returncode == 0:
-            (folder / "certificate").write_bytes(done.stdout)
-    return said, left(folder)
+    with tempfile.TemporaryDirectory() as name:
+        place = Place(program, f"{name}/place", files)
+        place.put("image", files["image"], mode)
+        said = []
+        for words, script in commands:
+            said.append(place.run(words, input=script, timeout=60))
+            # What a certificate proves is asked where there is one.
+            if words[:1] == ["plan"] and said[-1][0] == 0:
+                place.put("certificate", said[-1][1])
+        return said, place.left()
 
 
-def tried(job):
+def tried(plain, proved, seed, number_of_case):
     """What is wrong with a case, if something is, and the statuses that it had."""
-    plain, proved, seed, number_of_case = job
     case = case_of(seed, number_of_case)
-    with tempfile.TemporaryDirectory() as one, tempfile.TemporaryDirectory() as other:
-        ours, theirs = outcome(plain, Path(one), case), outcome(proved, Path(other), case)
+    ours, theirs = outcome(plain, case), outcome(proved, case)
     statuses = [status for status, _, _ in theirs[0]]
     if ours == theirs:
         return None, statuses
-    for (words, _), mine, wanted in zip(case[1], ours[0], theirs[0]):
+    wrong = f"the files differ behind {case[1]!r:.300}"
+    for (words, _), mine, wanted in reversed([*zip(case[1], ours[0], theirs[0])]):
         if mine != wanted:
-            return (
-                f"ee {' '.join(words)}: {mine!r:.300}, where it should be {wanted!r:.300}",
-                statuses,
-            )
-    return f"the files differ behind {case[1]!r:.300}", statuses
+            wrong = f"ee {' '.join(words)}: {mine!r:.300}, where it should be {wanted!r:.300}"
+    return wrong, statuses
 
 
 def checks(plain, proved, words):
@@ -216,10 +169,8 @@ def checks(plain, proved, words):
     is."""
     numbers = range(words.cases) if words.case is None else [words.case]
     with Pool(2) as pool:
-        found = pool.map(tried, [(plain, proved, words.seed, at) for at in numbers], chunksize=8)
+        found = pool.map(partial(tried, plain, proved, words.seed), numbers, chunksize=8)
     statuses = Counter(status for _, all_of_case in found for status in all_of_case)
-    print(
-        "commands by status: "
-        + ", ".join(f"{status}: {count}" for status, count in sorted(statuses.items()))
-    )
+    told = ", ".join(f"{status}: {count}" for status, count in sorted(statuses.items(), key=str))
+    print(f"commands by status: {told}")
     return [(f"case {number}", what) for number, (what, _) in zip(numbers, found)]

@@ -54,29 +54,11 @@ class Package:
         return TOP / self.folder
 
 
-SIGNS = (
-    "..=",
-    "<<=",
-    ">>=",
-    "::",
-    "->",
-    "=>",
-    "..",
-    "==",
-    "!=",
-    "<=",
-    ">=",
-    "&&",
-    "||",
-    "<<",
-    "+=",
-    "-=",
-    "*=",
-    "/=",
-    "%=",
-    "|=",
-    "&=",
-    "^=",
+SIGNS = "..= <<= :: -> => .. == != <= >= && || << += -= *= /= %= |= &= ^=".split()
+# A comment, a text, a letter between quotes, a word or a lifetime, or a sign.
+TOKEN = re.compile(
+    r"""//[^\n]*|"(?:\\.|[^"\\])*"|'\\.[^']*'|'.'|'?\w+|%s|\S""" % "|".join(map(re.escape, SIGNS)),
+    re.DOTALL,
 )
 CLOSING = {"{": "}", "(": ")", "[": "]", "<": ">"}
 
@@ -87,60 +69,17 @@ class Different(Exception):
 
 def scan(text):
     """The tokens of a text, each with its line."""
-    tokens, place, line = [], 0, 1
-    while place < len(text):
-        letter = text[place]
-        if letter == "\n":
-            line += 1
-        if letter.isspace():
-            place += 1
-            continue
-        end = token_end(text, place)
-        tokens.append((text[place:end], line))
-        line += text.count("\n", place, end)
-        place = end
-    return tokens
+    found, line, end = [], 1, 0
+    for token in TOKEN.finditer(text):
+        line += text.count("\n", end, token.start())
+        end = token.start()
+        found.append((token[0], line))
+    return found
 
 
 def tokens(text):
     """The tokens of a text alone."""
     return [token for token, _ in scan(text)]
-
-
-def token_end(text, place):
-    """Where the token ends that begins at this place."""
-    letter = text[place]
-    if text.startswith("//", place):
-        end = text.find("\n", place)
-        return len(text) if end < 0 else end
-    if letter == '"':
-        return quoted_end(text, place)
-    if letter == "'":
-        # A letter between quotes, or a lifetime.
-        if text.startswith("\\", place + 1):
-            return text.index("'", place + 3) + 1
-        if text[place + 2 : place + 3] == "'":
-            return place + 3
-        return word_end(text, place + 1)
-    if letter.isalnum() or letter == "_":
-        return word_end(text, place)
-    for sign in SIGNS:
-        if text.startswith(sign, place):
-            return place + len(sign)
-    return place + 1
-
-
-def quoted_end(text, place):
-    place += 1
-    while text[place] != '"':
-        place += 2 if text[place] == "\\" else 1
-    return place + 1
-
-
-def word_end(text, place):
-    while place < len(text) and (text[place].isalnum() or text[place] == "_"):
-        place += 1
-    return place
 
 
 def is_word(text):
@@ -151,13 +90,8 @@ class Source:
     """The tokens of a proved source, and the forms in it that plain Rust has not."""
 
     def __init__(self, package, crate, path):
-        self.package = package
-        self.crate = crate
-        self.name = (crate, path.stem)
-        text = path.read_text()
-        self.lines = text.split("\n")
-        self.absent = package.absent[crate]
-        self.tokens = scan(text)
+        self.package, self.crate, self.name = package, crate, (crate, path.stem)
+        self.absent, self.tokens = package.absent[crate], scan(path.read_text())
         jumps = zip(self.tokens, self.tokens[1:])
         self.named = {label for (word, _), (label, _) in jumps if word in ("break", "continue")}
 
@@ -174,9 +108,7 @@ class Source:
         """The place behind the bracket that closes this one, whatever stands between."""
         opening, depth = self.text(place), 0
         if opening not in CLOSING:
-            raise Different(
-                f"no bracket at line {self.tokens[min(place, len(self.tokens) - 1)][1]}"
-            )
+            raise Different(f"no bracket at {self.tokens[place:][:1] or 'the end'}")
         while place < len(self.tokens):
             depth += {opening: 1, CLOSING[opening]: -1}.get(self.text(place), 0)
             place += 1
@@ -185,44 +117,23 @@ class Source:
         raise Different(f"`{opening}` is not closed")
 
     def behind(self, place, text):
-        while place < len(self.tokens):
-            if self.text(place) == text:
-                return place + 1
-            place += 1
+        for at in range(place, len(self.tokens)):
+            if self.text(at) == text:
+                return at + 1
         raise Different(f"no `{text}` up to the end")
 
     @cache
     def form(self, place):
         """The name of the form that begins here and the place behind it, or None."""
-        for look in (
-            self.ghost,
-            self.clause,
-            self.attribute,
-            self.derived,
-            self.bound,
-            self.model,
-            self.module,
-            self.ghost_of_std,
-            self.use_of_crate,
-            self.label,
-            self.proof,
-            self.origin,
-        ):
-            found = look(place)
-            if found:
-                return found
-        return None
+        return next(filter(None, (look(self, place) for look in self.FORMS)), None)
 
     def ghost(self, place):
         if self.text(place) != "ghost":
             return None
         if self.text(place + 1) == "use":
             return "ghost uses", self.behind(place, ";")
-        if (
-            is_word(self.text(place + 1))
-            and self.text(place + 2) in (":", "=")
-            and self.text(place + 3) == "{"
-        ):
+        is_group = self.text(place + 2) in (":", "=") and self.text(place + 3) == "{"
+        if is_word(self.text(place + 1)) and is_group:
             end = self.closed(place + 3)
             if self.text(end) == ";":
                 return "ghost members", end + 1
@@ -263,24 +174,20 @@ class Source:
             return "hidings of modules", place + 7
         return None
 
-    def derived(self, place):
+    def derived(self, at):
         """A name in a `derive` that the package has not, or a `derive` of such names alone."""
-        if self.reads(place, "#", "[", "derive", "("):
-            end = self.closed(place + 1)
-            names = {self.text(now) for now in range(place + 4, end - 2)} - {","}
+        if self.reads(at, "#", "[", "derive", "("):
+            end = self.closed(at + 1)
+            names = {self.text(now) for now in range(at + 4, end - 2)} - {","}
             return ("derives", end) if names and names <= self.package.derives else None
-        behind = self.text(place + 1) in self.package.derives and self.text(place) == ","
-        if behind and self.text(place + 2) in (",", ")") and self.in_derive(place):
-            return "derives", place + 2
-        before = self.text(place) in self.package.derives and self.text(place + 1) == ","
-        if before and self.text(place - 1) == "(" and self.text(place - 2) == "derive":
-            return "derives", place + 2
-        return None
-
-    def in_derive(self, place):
-        while self.text(place) not in ("(", "", "{", ";"):
+        name, other, place = self.text(at), self.text(at + 1), at
+        is_first = name in self.package.derives and other == "," and self.text(at - 1) == "("
+        is_later = name == "," and other in self.package.derives and self.text(at + 2) in (",", ")")
+        if not is_first and not is_later:
+            return None
+        while self.text(place - 1) not in ("(", "", "{", ";"):
             place -= 1
-        return self.text(place - 1) == "derive"
+        return ("derives", at + 2) if self.text(place - 2) == "derive" else None
 
     def bound(self, place):
         if self.reads(place, "+", "Drop") and self.text(place + 2) in (">", ",", "+", "{", "="):
@@ -320,11 +227,8 @@ class Source:
         return None
 
     def use_of_crate(self, place):
-        if (
-            self.text(place) == "use"
-            and self.text(place + 1) in self.package.uses
-            and self.text(place + 2) == "::"
-        ):
+        crate = self.text(place + 1)
+        if crate in self.package.uses and self.reads(place, "use", crate, "::"):
             return "uses of crates", self.behind(place, ";")
         return None
 
@@ -340,25 +244,25 @@ class Source:
 
     def label(self, place):
         text = self.text(place)
-        if (
-            text[:1] == "'"
-            and self.text(place + 1) == ":"
-            and self.text(place + 2) in ("for", "while", "loop", "{")
-        ):
-            return None if text in self.named else ("labels", place + 2)
-        return None
+        is_label = text[:1] == "'" and self.text(place + 1) == ":" and text not in self.named
+        labelled = self.text(place + 2) in ("for", "while", "loop", "{")
+        return ("labels", place + 2) if is_label and labelled else None
 
     def origin(self, place):
         """The empty line of a doc comment, and the paragraph below it, where that says that the source is ours."""
-        is_origin = self.text(place) == "///" and self.text(place + 1).startswith(
-            "/// Source: ours"
-        )
-        if not is_origin or not self.package.hides_origins:
+        is_ours = self.text(place + 1).startswith("/// Source: ours")
+        if self.text(place) != "///" or not is_ours or not self.package.hides_origins:
             return None
         place += 1
         while self.text(place).startswith("/// "):
             place += 1
         return "notes that it is ours", place
+
+    # What may begin at a place, in the order in which it is looked for.
+    FORMS = (ghost, clause, attribute, derived, bound, model, module, ghost_of_std, use_of_crate)
+    FORMS += (label, proof, origin)
+    # Forms that stand on a line of their own or within one: a comment before is not on them.
+    ALONE = ("labels", "derives", "bounds of Drop", "hidings of modules")
 
     def past_comments(self, place):
         while self.text(place).startswith("//"):
@@ -369,20 +273,14 @@ class Source:
     def comments_on_form(self, place):
         """The place behind the comments that begin here and stand on a form, or between clauses."""
         end = self.past_comments(place)
-        if end == place or self.text(place).startswith("//!"):
+        found = self.form(end)
+        if end == place or self.text(place).startswith("//!") or not found:
+            return None
+        if found[0] in self.ALONE or found[0].endswith(" attributes"):
             return None
         # Comments stand on what follows if no line lies between.
-        lines = [self.tokens[now][1] for now in range(place, min(end + 1, len(self.tokens)))]
-        found = self.form(end)
-        alone = ("labels", "derives", "bounds of Drop", "hidings of modules")
-        if (
-            not found
-            or found[0] in alone
-            or found[0].endswith(" attributes")
-            or any(b - a != 1 for a, b in zip(lines, lines[1:]))
-        ):
-            return None
-        return end
+        lines = [line for _, line in self.tokens[place : end + 1]]
+        return end if all(b - a == 1 for a, b in zip(lines, lines[1:])) else None
 
     @cache
     def head(self, place):
@@ -408,11 +306,9 @@ class Source:
         head = self.head(place)
         if head:
             return "heads of paths", 1, head
-        text = self.text(place)
-        own = text
-        if text[0] in '/"':
-            for pattern, new in self.package.words:
-                own = re.sub(pattern, new, own)
+        own = text = self.text(place)
+        for pattern, new in self.package.words if text[0] in '/"' else ():
+            own = re.sub(pattern, new, own)
         return "words of its own" if own != text else None, 1, [own]
 
 
@@ -429,8 +325,7 @@ def walk(source, plain, counts):
         if end:
             counts["comments on those"] += end - left
             left = end
-        form = source.form(left)
-        if form:
+        if form := source.form(left):
             counts[form[0]] += 1
             left = form[1]
             continue
@@ -449,10 +344,8 @@ def expect(source, left, plain, right, expected):
     found = [token for token, _ in plain[right : right + len(expected)]]
     if found != list(expected):
         line = plain[right][1] if right < len(plain) else "the end"
-        raise Different(
-            f"`{' '.join(found)}` at line {line}, where the source has `{' '.join(expected)}`"
-            f" at line {source.tokens[left][1]}"
-        )
+        wanted = f"`{' '.join(expected)}` at line {source.tokens[left][1]}"
+        raise Different(f"`{' '.join(found)}` at line {line}, where the source has {wanted}")
 
 
 def pairs(package):
@@ -470,9 +363,8 @@ def plain_tokens(package, path, source):
     """The tokens of a file of plain Rust, behind its first line, which names its source."""
     first, _, rest = path.read_text().partition("\n")
     licence, _, rest = rest.partition("\n")
-    if not first.startswith(
-        f"// Made by {package.maker} from crates/{source.relative_to(CRATES)}."
-    ):
+    made = f"// Made by {package.maker} from crates/{source.relative_to(CRATES)}."
+    if not first.startswith(made):
         raise Different("the first line does not name its source")
     if licence != "// SPDX-License-Identifier: MIT OR Apache-2.0":
         raise Different("the second line does not name the licence")
@@ -509,11 +401,11 @@ def compare(package, counts):
             good.append((source, plain, plain_path))
         except (Different, OSError) as cause:
             wrong.append(f"{plain_path.relative_to(TOP)}: {cause}")
-    for crate in package.absent:
-        for path in sorted((package.plain / crate).rglob("*")):
-            if path.is_file() and path not in seen:
-                wrong.append(f"{path.relative_to(TOP)}: stands for no source")
-    return good, wrong
+    files = (
+        path for crate in package.absent for path in sorted((package.plain / crate).rglob("*"))
+    )
+    others = [path for path in files if path.is_file() and path not in seen]
+    return good, wrong + [f"{path.relative_to(TOP)}: stands for no source" for path in others]
 
 
 def damage(good, number, seed):

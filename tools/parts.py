@@ -16,94 +16,49 @@ Part = namedtuple("Part", "told test make compare", defaults=((), (), ()))
 # One that a run takes: its name, more words behind those that test it, and how it runs.
 Turn = namedtuple("Turn", "part words beside", defaults=((), False))
 
+PARTS = """
+sources: the tests in crates/, before any proof: tools/sources
+tools: the tools themselves, their format and their lints: tools/test: tools/test --format
+docs: the documents, held to the code: docs/test: docs/pictures/draw
+typed: the documents and worked examples, typed: docs/typed
+first: the first program in C: make -C firmware/c/sim run
+rust: the package in Rust: firmware/rust/test: cargo run --manifest-path strip/Cargo.toml -- firmware: firmware/rust/check
+c: the C library: firmware/c/test: firmware/c/to_c: firmware/c/to_c --compare
+lockstep: ee.c beside the package in Rust: firmware/c/c99/test
+shown: what firmware/README.md shows of the C library: firmware/shown
+cbmc: ee.c by a model checker: firmware/c/analysis/by_cbmc
+frama: ee.c by an analyser: firmware/c/analysis/by_frama
+peer: a store in plain C beside ee.c: firmware/peer/test
+machine: the ports as machine code, in Unicorn: firmware/machine
+microbit: the port for an nRF5 in QEMU, stopped in its steps: firmware/microbit
+openocd: offsets and bits of the ports beside OpenOCD's: firmware/openocd
+targets: code, stack and answers on other cores, in QEMU and simavr: firmware/targets: firmware/targets --write
+cli: the program in plain Rust, its completion and its page: cli/test: cli/shells: cli/check
+page: the sum of the sources of web/ee.html: web/build --current: web/build: web/build --compare
+web: web/ee.html in browsers: web/test: web/test pictures
+bench: the program against a plain one: bench/test: bench/tables --write
+steps: every short script, by the lists of steps alone: bench/steps
+lasting: how long a part lasts, by trying: bench/lasting
+"""
 PARTS = {
-    "sources": Part("the tests in crates/, before any proof", ["tools/sources"]),
-    "tools": Part(
-        "the tools themselves, their format and their lints",
-        ["tools/test"],
-        ["tools/test", "--format"],
-    ),
-    "docs": Part("the documents, held to the code", ["docs/test"], ["docs/pictures/draw"]),
-    "typed": Part("the documents and worked examples, typed", ["docs/typed"]),
-    "first": Part("the first program in C", ["make", "-C", "firmware/c/sim", "run"]),
-    "rust": Part(
-        "the package in Rust",
-        ["firmware/rust/test"],
-        ["cargo", "run", "--manifest-path", "strip/Cargo.toml", "--", "firmware"],
-        ["firmware/rust/check"],
-    ),
-    "c": Part(
-        "the C library", ["firmware/c/test"], ["firmware/c/to_c"], ["firmware/c/to_c", "--compare"]
-    ),
-    "lockstep": Part("ee.c beside the package in Rust", ["firmware/c/c99/test"]),
-    "shown": Part("what firmware/README.md shows of the C library", ["firmware/shown"]),
-    "cbmc": Part("ee.c by a model checker", ["firmware/c/analysis/by_cbmc"]),
-    "frama": Part("ee.c by an analyser", ["firmware/c/analysis/by_frama"]),
-    "peer": Part("a store in plain C beside ee.c", ["firmware/peer/test"]),
-    "machine": Part("the ports as machine code, in Unicorn", ["firmware/machine"]),
-    "microbit": Part("the port for an nRF5 in QEMU, stopped in its steps", ["firmware/microbit"]),
-    "openocd": Part("offsets and bits of the ports beside OpenOCD's", ["firmware/openocd"]),
-    "targets": Part(
-        "code, stack and answers on other cores, in QEMU and simavr",
-        ["firmware/targets"],
-        ["firmware/targets", "--write"],
-    ),
-    "cli": Part(
-        "the program in plain Rust, its completion and its page",
-        ["cli/test"],
-        ["cli/shells"],
-        ["cli/check"],
-    ),
-    "page": Part(
-        "the sum of the sources of web/ee.html",
-        ["web/build", "--current"],
-        ["web/build"],
-        ["web/build", "--compare"],
-    ),
-    "web": Part("web/ee.html in browsers", ["web/test"], ["web/test", "pictures"]),
-    "bench": Part("the program against a plain one", ["bench/test"], ["bench/tables", "--write"]),
-    "steps": Part("every short script, by the lists of steps alone", ["bench/steps"]),
-    "lasting": Part("how long a part lasts, by trying", ["bench/lasting"]),
+    name: Part(told, *map(str.split, does))
+    for name, told, *does in (line.split(": ") for line in PARTS.strip().splitlines())
 }
-FIRMWARE = [
-    Turn("rust"),
-    Turn("machine"),
-    Turn("microbit"),
-    Turn("openocd"),
-    Turn("cbmc"),
-    Turn("frama"),
-    Turn("shown"),
-    Turn("c"),
-    Turn("lockstep"),
-    Turn("peer"),
-]
+
+
+def turns(text):
+    """The turns of a run, one behind the other by commas. Those with a `&` run beside the others."""
+    rows = (row.split() for row in text.split(","))
+    return [Turn(row[0], [it for it in row[1:] if it != "&"], "&" in row) for row in rows]
+
+
+FIRMWARE = turns("rust, machine, microbit, openocd, cbmc, frama, shown, c, lockstep, peer")
 # What takes no proof, in some four minutes on four processors (./test), and what the gate runs
 # behind the proofs.
-QUICK = [
-    Turn("sources", beside=True),
-    Turn("rust", ["20000"], True),
-    Turn("c", beside=True),
-    Turn("first"),
-    Turn("tools"),
-    Turn("docs"),
-    Turn("typed"),
-    Turn("page"),
-    Turn("bench", ["--cases", "300"]),
-    Turn("steps", ["--lines", "2"]),
-    Turn("lasting", ["--cases", "200"]),
-    Turn("cli", ["100"]),
-]
-GATE = [
-    Turn("tools"),
-    Turn("docs"),
-    Turn("typed"),
-    *FIRMWARE,
-    Turn("cli"),
-    Turn("page", ["--compare"]),
-    Turn("bench"),
-    Turn("steps"),
-    Turn("lasting"),
-]
+QUICK = turns("sources &, rust 20000 &, c &, first, tools, docs, typed, page, bench --cases 300")
+QUICK += turns("steps --lines 2, lasting --cases 200, cli 100")
+GATE = turns("tools, docs, typed") + FIRMWARE
+GATE += turns("cli, page --compare, bench, steps, lasting")
 # The runs by the words that ask for them, each with whether a failure ends it.
 RUNS = {"": (QUICK, False), "--gate": (GATE, True), "firmware": (FIRMWARE, False)}
 # Parts that are skipped whole where something is missing: the programs that they take, and how to
@@ -128,14 +83,9 @@ class Begun:
     def __init__(self, turn):
         self.turn, self.name = turn, " ".join([turn.part, *turn.words])
         self.kept = tempfile.TemporaryFile("w+") if turn.beside else None
-        self.process = subprocess.Popen(
-            [*PARTS[turn.part].test, *turn.words],
-            cwd=TOP,
-            stdout=self.kept or subprocess.PIPE,
-            stderr=subprocess.STDOUT,
-            text=True,
-            start_new_session=True,
-        )
+        how = {"cwd": TOP, "stderr": subprocess.STDOUT, "text": True, "start_new_session": True}
+        words = [*PARTS[turn.part].test, *turn.words]
+        self.process = subprocess.Popen(words, stdout=self.kept or subprocess.PIPE, **how)
 
     def shown(self):
         """Shows what it prints, to its end, and gives the lines."""
@@ -165,15 +115,14 @@ class Run:
         """Begins a part, or skips it for what is missing. The program is sought, and built, behind
         the first one."""
         if self.begun and not self.is_sought:
-            found, self.is_sought = program(), True
-            if found:
-                os.environ["EE"] = found
+            os.environ |= {"EE": found} if (found := program()) else {}
+            self.is_sought = True
         wants = missing(turn.part)
         if wants:
             self.skipped.add(f"skipped: {turn.part}, all of it: {wants}")
             self.tally.skipped += 1
-            return
-        self.begun.append(Begun(turn))
+        else:
+            self.begun.append(Begun(turn))
 
     def finish(self, part):
         """Waits for a part, and adds up what it said."""

@@ -1,4 +1,5 @@
 """Where things lie, and which of the compilers and programs are here."""
+import argparse
 import os
 import re
 import shutil
@@ -71,14 +72,15 @@ def program(*how):
     return os.path.abspath(found) if found and os.access(found, os.X_OK) else None
 
 
-def with_program(parser):
-    """The words of a command, with the program `ee` in `--program`, which must be there."""
-    parser.add_argument(
-        "--program",
-        type=os.path.abspath,
-        default=os.environ.get("EE") or str(PROVED),
-        help="where ee is (EE, or crates/ee/out/ee)",
-    )
+def words_of(told, **numbers):
+    """The words of a command of which this is told: numbers by their names, each with its usual
+    value and what it is, and the program `ee` in `--program`, which must be there."""
+    parser = argparse.ArgumentParser(description=told.split("\n\n")[0])
+    for name, (usual, what) in numbers.items():
+        parser.add_argument(f"--{name}", type=int, default=usual, help=f"{what} ({usual})")
+    ee = os.environ.get("EE") or str(PROVED)
+    told = "where ee is (EE, or crates/ee/out/ee)"
+    parser.add_argument("--program", type=os.path.abspath, default=ee, help=told)
     words = parser.parse_args()
     if not os.access(words.program, os.X_OK):
         sys.exit(f"no {words.program}: ./prove makes crates/ee/out/ee")

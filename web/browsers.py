@@ -20,17 +20,11 @@ class WebSocket:
         self.link = socket.create_connection((host, int(port)), timeout=600)
         self.rest = b""
         key = base64.b64encode(os.urandom(16)).decode()
-        lines = [
-            f"GET {path} HTTP/1.1",
-            f"Host: {host}:{port}",
-            "Upgrade: websocket",
-            "Connection: Upgrade",
-            f"Sec-WebSocket-Key: {key}",
-            "Sec-WebSocket-Version: 13",
-            "",
-            "",
-        ]
-        self.link.sendall("\r\n".join(lines).encode())
+        head = (
+            f"GET {path} HTTP/1.1\nHost: {host}:{port}\nUpgrade: websocket\nConnection: Upgrade\n"
+        )
+        head += f"Sec-WebSocket-Key: {key}\nSec-WebSocket-Version: 13\n\n"
+        self.link.sendall(head.replace("\n", "\r\n").encode())
         while b"\r\n\r\n" not in self.rest:
             self.rest += self.link.recv(65536)
         head, self.rest = self.rest.split(b"\r\n\r\n", 1)
@@ -39,15 +33,11 @@ class WebSocket:
 
     def send(self, text):
         data = text.encode()
-        mask = os.urandom(4)
-        length = len(data)
-        if length < 126:
-            head = bytes([0x81, 0x80 | length])
-        elif length < 65536:
-            head = bytes([0x81, 0x80 | 126]) + length.to_bytes(2, "big")
-        else:
-            head = bytes([0x81, 0x80 | 127]) + length.to_bytes(8, "big")
-        self.link.sendall(head + mask + bytes(byte ^ mask[at % 4] for at, byte in enumerate(data)))
+        size = len(data)
+        told, width = (size, 0) if size < 126 else (126, 2) if size < 65536 else (127, 8)
+        length = size.to_bytes(width, "big") if width else b""
+        # A mask of zeros leaves what it masks.
+        self.link.sendall(bytes([0x81, 0x80 | told]) + length + bytes(4) + data)
 
     def take(self, count):
         while len(self.rest) < count:
@@ -78,14 +68,10 @@ class Browser:
 
     def __init__(self, program, arguments, says):
         self.folder = tempfile.mkdtemp(prefix="ee-page-")
-        words = [program, *[word.replace("FOLDER", self.folder) for word in arguments]]
-        self.process = subprocess.Popen(
-            words,
-            stdin=subprocess.DEVNULL,
-            stdout=subprocess.DEVNULL,
-            stderr=subprocess.PIPE,
-            env={**os.environ, "HOME": self.folder},
-        )
+        words = [program, *arguments.replace("FOLDER", self.folder).split()]
+        quiet = {"stdin": subprocess.DEVNULL, "stdout": subprocess.DEVNULL}
+        home = {**os.environ, "HOME": self.folder}
+        self.process = subprocess.Popen(words, stderr=subprocess.PIPE, env=home, **quiet)
         self.address = self.heard(says)
         self.number = 0
 
@@ -111,16 +97,14 @@ class Browser:
     def enter(self, field, text):
         """Types a text in place of what stands in a field."""
         self.evaluate(
-            f"document.getElementById('{field}').focus(); document.getElementById('{field}').select(); ''"
+            f"document.getElementById('{field}').focus(); document.activeElement.select(); ''"
         )
         self.type(text)
 
     def push(self, button):
         """Goes to a button, and presses it."""
-        at = self.evaluate(
-            f"document.getElementById('{button}').focus(); document.activeElement.id"
-        )
-        if at != button:
+        focus = f"document.getElementById('{button}').focus(); document.activeElement.id"
+        if self.evaluate(focus) != button:
             raise OSError(f"the button {button} can't be pressed")
         self.press(" ")
 
@@ -141,15 +125,8 @@ class Chromium(Browser):
     package = "chromium"
 
     def __init__(self, program):
-        arguments = [
-            "--headless=new",
-            "--no-sandbox",
-            "--disable-gpu",
-            "--hide-scrollbars",
-            "--remote-debugging-port=0",
-            "--user-data-dir=FOLDER",
-            "about:blank",
-        ]
+        arguments = "--headless=new --no-sandbox --disable-gpu --hide-scrollbars"
+        arguments += " --remote-debugging-port=0 --user-data-dir=FOLDER about:blank"
         super().__init__(program, arguments, r"DevTools listening on (ws://\S+)")
         port = re.search(r":(\d+)/", self.address)[1]
         with urllib.request.urlopen(f"http://127.0.0.1:{port}/json/list") as answer:
@@ -160,9 +137,8 @@ class Chromium(Browser):
         self.command("Page.navigate", url="file://" + path)
 
     def evaluate(self, expression):
-        said = self.command(
-            "Runtime.evaluate", expression=expression, awaitPromise=True, returnByValue=True
-        )
+        how = {"awaitPromise": True, "returnByValue": True}
+        said = self.command("Runtime.evaluate", expression=expression, **how)
         if "exceptionDetails" in said:
             raise OSError(said["exceptionDetails"])
         return said["result"].get("value")
@@ -177,27 +153,19 @@ class Chromium(Browser):
         text = {"Enter": "\r"}.get(key, key if len(key) == 1 else "")
         codes = {"Enter": 13, " ": 32, "Delete": 46, "ArrowRight": 39, "ArrowDown": 40}
         named = {"key": key, "code": key, "windowsVirtualKeyCode": codes.get(key, 0)}
-        self.command(
-            "Input.dispatchKeyEvent", type="keyDown", **named, **({"text": text} if text else {})
-        )
+        typed = {"text": text} if text else {}
+        self.command("Input.dispatchKeyEvent", type="keyDown", **named, **typed)
         self.command("Input.dispatchKeyEvent", type="keyUp", **named)
 
     def resize(self, width, height):
-        self.command(
-            "Emulation.setDeviceMetricsOverride",
-            width=width,
-            height=height,
-            deviceScaleFactor=1,
-            mobile=False,
-        )
+        size = {"width": width, "height": height, "deviceScaleFactor": 1, "mobile": False}
+        self.command("Emulation.setDeviceMetricsOverride", **size)
         self.settle()
 
     def picture(self, path, width, height, theme):
         """Writes what stands on the screen."""
-        self.command(
-            "Emulation.setEmulatedMedia",
-            features=[{"name": "prefers-color-scheme", "value": theme}],
-        )
+        scheme = {"name": "prefers-color-scheme", "value": theme}
+        self.command("Emulation.setEmulatedMedia", features=[scheme])
         self.resize(width, height)
         shot = self.command("Page.captureScreenshot", format="png")
         with open(path, "wb") as file:
@@ -210,42 +178,29 @@ class Firefox(Browser):
     KEYS = {"Enter": "\ue006", "Delete": "\ue017", "ArrowRight": "\ue014", "ArrowDown": "\ue015"}
 
     def __init__(self, program):
-        arguments = [
-            "--headless",
-            "--no-remote",
-            "--remote-debugging-port=0",
-            "--profile",
-            "FOLDER",
-            "about:blank",
-        ]
+        arguments = "--headless --no-remote --remote-debugging-port=0 --profile FOLDER about:blank"
         super().__init__(program, arguments, r"WebDriver BiDi listening on (ws://\S+)")
         self.socket = WebSocket(self.address + "/session")
         self.command("session.new", capabilities={})
         self.context = self.command("browsingContext.getTree")["contexts"][0]["context"]
 
     def open(self, path):
-        self.command(
-            "browsingContext.navigate", context=self.context, url="file://" + path, wait="complete"
-        )
+        at = {"context": self.context, "url": "file://" + path}
+        self.command("browsingContext.navigate", wait="complete", **at)
 
     def evaluate(self, expression):
-        said = self.command(
-            "script.evaluate",
-            expression=expression,
-            target={"context": self.context},
-            awaitPromise=True,
-        )
+        where = {"target": {"context": self.context}, "awaitPromise": True}
+        said = self.command("script.evaluate", expression=expression, **where)
         if said["type"] != "success":
             raise OSError(said)
         return said["result"].get("value")
 
     def type(self, text):
-        if (
-            len(text) > 60
-        ):  # a key takes some milliseconds: what is long comes at once, as by pasting
+        # A key takes some milliseconds: what is long comes at once, as by pasting.
+        if len(text) > 60:
             self.evaluate(f"document.execCommand('insertText', false, {json.dumps(text)}); ''")
-            return
-        self.strike(list(text.replace("\n", self.KEYS["Enter"])) or [self.KEYS["Delete"]])
+        else:
+            self.strike(list(text.replace("\n", self.KEYS["Enter"])) or [self.KEYS["Delete"]])
 
     def press(self, key):
         self.strike([self.KEYS.get(key, key)])
@@ -276,42 +231,25 @@ class Firefox(Browser):
         )
         return map(int, place.split())
 
-    def click(self, x, y):
-        actions = [
-            {"type": "pointerMove", "x": x, "y": y},
-            {"type": "pointerDown", "button": 0},
-            {"type": "pointerUp", "button": 0},
-        ]
-        self.command(
-            "input.performActions",
-            context=self.context,
-            actions=[
-                {
-                    "type": "pointer",
-                    "id": "mouse",
-                    "parameters": {"pointerType": "mouse"},
-                    "actions": actions,
-                }
-            ],
-        )
+    def perform(self, **actions):
+        self.command("input.performActions", context=self.context, actions=[actions])
 
-    def resize(self, width, height):
-        self.command(
-            "browsingContext.setViewport",
-            context=self.context,
-            viewport={"width": width, "height": height},
-        )
-        self.settle()
+    def click(self, x, y):
+        moves = [{"type": "pointerMove", "x": x, "y": y}]
+        moves += [{"type": kind, "button": 0} for kind in ("pointerDown", "pointerUp")]
+        parameters = {"pointerType": "mouse"}
+        self.perform(type="pointer", id="mouse", parameters=parameters, actions=moves)
 
     def strike(self, keys):
-        actions = [{"type": kind, "value": key} for key in keys for kind in ("keyDown", "keyUp")]
-        self.command(
-            "input.performActions",
-            context=self.context,
-            actions=[{"type": "key", "id": "keys", "actions": actions}],
-        )
+        strokes = [{"type": kind, "value": key} for key in keys for kind in ("keyDown", "keyUp")]
+        self.perform(type="key", id="keys", actions=strokes)
+
+    def resize(self, width, height):
+        size = {"width": width, "height": height}
+        self.command("browsingContext.setViewport", context=self.context, viewport=size)
+        self.settle()
 
 
 def found(kind):
     """The program of a kind of browser, if it is installed."""
-    return next((path for path in map(shutil.which, kind.programs) if path), None)
+    return next(filter(None, map(shutil.which, kind.programs)), None)

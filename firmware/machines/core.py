@@ -3,6 +3,7 @@ pushed, the vector table is followed, and the return is undone."""
 import struct
 import subprocess
 
+from tools.places import said_by
 from unicorn import UC_ARCH_ARM, UC_HOOK_CODE, UC_MODE_MCLASS, UC_MODE_THUMB, Uc, UcError
 from unicorn import arm_const as arm
 
@@ -17,14 +18,7 @@ MODELS = {
     "cortex-m33": arm.UC_CPU_ARM_CORTEX_M33,
 }
 # What is pushed where an exception is taken, but for the return address and the flags.
-FRAME = [
-    arm.UC_ARM_REG_R0,
-    arm.UC_ARM_REG_R1,
-    arm.UC_ARM_REG_R2,
-    arm.UC_ARM_REG_R3,
-    arm.UC_ARM_REG_R12,
-    arm.UC_ARM_REG_LR,
-]
+FRAME = [getattr(arm, f"UC_ARM_REG_{name}") for name in "R0 R1 R2 R3 R12 LR".split()]
 NMI, RETURN, WAS_ODD, SECONDS = 2, 0xFFFFFFF9, 1 << 9, 120
 
 
@@ -42,31 +36,14 @@ class Program:
     """A program as the linker made it."""
 
     def __init__(self, path, core):
-        self.core, whole = core, path.read_bytes()
-        at, size, count = (
-            struct.unpack_from(form, whole, place)[0]
-            for form, place in (("<I", 28), ("<H", 42), ("<H", 44))
-        )
-        headers = [struct.unpack_from("<8I", whole, at + i * size) for i in range(count)]
-        # Where each piece stands in flash, and its bytes.
-        self.pieces = [
-            (physical, whole[offset : offset + length])
-            for kind, offset, _, physical, length, *_ in headers
-            if kind == 1 and length
-        ]
-        self.base = min(place for place, _ in self.pieces)
-        said = subprocess.run(
-            ["arm-none-eabi-nm", path], capture_output=True, text=True, check=True
-        ).stdout
-        self.names = {
-            name: int(value, 16)
-            for value, _, name in (line.split() for line in said.splitlines() if line[0] != " ")
-        }
-        said = subprocess.run(
-            ["arm-none-eabi-objdump", "-d", path], capture_output=True, text=True, check=True
-        ).stdout
+        self.core, code = core, path.with_suffix(".bin")
+        subprocess.run(["arm-none-eabi-objcopy", "-O", "binary", path, code], check=True)
+        names = (line.split() for line in said_by("arm-none-eabi-nm", path).splitlines())
+        self.names = {it[2]: int(it[0], 16) for it in names if len(it) == 3}
+        # Where it stands in flash, which its vectors begin, and its bytes.
+        self.base, self.code = self.names["vectors"], code.read_bytes()
         self.barriers, self.conditional = [], set()
-        self.read(said.splitlines())
+        self.read(said_by("arm-none-eabi-objdump", "-d", path).splitlines())
 
     def read(self, lines):
         """Notes where barriers stand, and which instructions stand behind one that makes them conditional."""
@@ -93,8 +70,7 @@ class Core:
         self.uc = uc = Uc(UC_ARCH_ARM, UC_MODE_THUMB | UC_MODE_MCLASS)
         uc.ctl_set_cpu_model(MODELS[program.core])
         uc.mem_map(program.base & ~(PAGE - 1), 0x8000)
-        for place, piece in program.pieces:
-            uc.mem_write(place, piece)
+        uc.mem_write(program.base, program.code)
         uc.mem_map(RAM, RAM_SIZE)
         self.map(TESTER, PAGE, self.ask, self.tell)
         for base, size, read, write in part.regions():
@@ -103,40 +79,32 @@ class Core:
             uc.hook_add(UC_HOOK_CODE, self.at_barrier, begin=place, end=place)
         part.hook(self)
         if watcher:
-            uc.hook_add(UC_HOOK_CODE, self.at_each)
+            uc.hook_add(UC_HOOK_CODE, self.guarded(self.at_each))
 
     def map(self, base, size, read, write):
         """Puts registers at an address. What they object to ends the run."""
-
-        def guarded_read(uc, offset, width, _):
-            try:
-                return read(offset, width)
-            except Broken as fault:
-                self.end_by(fault)
-                return 0
-
-        def guarded_write(uc, offset, width, value, _):
-            try:
-                write(offset, width, value)
-            except Broken as fault:
-                self.end_by(fault)
-
-        self.uc.mmio_map(base, size, guarded_read, None, guarded_write, None)
+        read, write = self.guarded(read), self.guarded(write)
+        reads = lambda _, offset, width, __: read(offset, width)
+        writes = lambda _, offset, width, value, __: write(offset, width, value)
+        self.uc.mmio_map(base, size, reads, None, writes, None)
 
     def hook(self, place, call):
         """Has a call made where an instruction stands, before it is done."""
+        made = self.guarded(lambda *_: call(self))
+        self.uc.hook_add(UC_HOOK_CODE, made, begin=place, end=place)
 
-        def guarded(*_):
+    def guarded(self, call):
+        """A call that ends the run by what it objects to, and gives 0 then."""
+
+        def made(*given):
             try:
-                call(self)
+                return call(*given)
             except Broken as fault:
-                self.end_by(fault)
+                self.fault = self.fault or fault
+                self.uc.emu_stop()
+                return 0
 
-        self.uc.hook_add(UC_HOOK_CODE, guarded, begin=place, end=place)
-
-    def end_by(self, fault):
-        self.fault = self.fault or fault
-        self.uc.emu_stop()
+        return made
 
     def ask(self, offset, _):
         """The program asks what to do."""
@@ -154,10 +122,8 @@ class Core:
         elif offset == STATUS:
             self.told = value, self.answer
         else:
-            check(
-                self.asked[0] == LOOK and self.part.is_of_others(),
-                f"an NMI that is not the port's, in call {self.asked[0]}",
-            )
+            is_of_others = self.asked[0] == LOOK and self.part.is_of_others()
+            check(is_of_others, f"an NMI that is not the port's, in call {self.asked[0]}")
 
     def at_barrier(self, *_):
         self.part.barrier()
@@ -166,32 +132,18 @@ class Core:
             self.uc.emu_stop()
 
     def at_each(self, _, place, *__):
-        try:
-            if (
-                self.part.is_raised
-                and self.frame is None
-                and place not in self.program.conditional
-                and self.watcher.is_taken()
-            ):
-                self.is_taken = True
-                self.uc.emu_stop()
-            else:
-                self.watcher.step(place)
-        except Broken as fault:
-            self.end_by(fault)
+        may_take = self.part.is_raised and self.frame is None
+        if may_take and place not in self.program.conditional and self.watcher.is_taken():
+            self.is_taken = True
+            self.uc.emu_stop()
+        else:
+            self.watcher.step(place)
 
     def run(self, plan, ram):
         """Starts the program with its memory as given, which does what the plan asks for. The plan is a generator: it gives a
         call with its address and value, and gets what the program tells of it."""
-        self.plan, self.told, self.answer, self.asked, self.fault, self.frame = (
-            plan,
-            None,
-            0,
-            None,
-            None,
-            None,
-        )
-        self.is_over = False
+        self.plan, self.told, self.answer, self.asked = plan, None, 0, None
+        self.fault, self.frame, self.is_over = None, None, False
         self.uc.mem_write(RAM, ram)
         vectors = self.program.names["vectors"]
         stack, place = struct.unpack("<2I", self.uc.mem_read(vectors, 8))
@@ -217,10 +169,8 @@ class Core:
         if self.fault:
             raise self.fault
         place = self.uc.reg_read(arm.UC_ARM_REG_PC)
-        check(
-            place == done or place >= 0xFFFFFF00 or self.is_taken,
-            f"no end after {SECONDS} s, at {place:#x}",
-        )
+        is_well = place == done or place >= 0xFFFFFF00 or self.is_taken
+        check(is_well, f"no end after {SECONDS} s, at {place:#x}")
         return place
 
     def enter(self, place, vectors):
@@ -228,10 +178,8 @@ class Core:
         uc, stack = self.uc, self.uc.reg_read(arm.UC_ARM_REG_SP)
         flags, is_odd = uc.reg_read(arm.UC_ARM_REG_XPSR), stack & 4
         stack = (stack & ~7) - 32
-        words = [uc.reg_read(it) for it in FRAME] + [
-            place,
-            (flags & ~WAS_ODD) | (WAS_ODD if is_odd else 0),
-        ]
+        flags = (flags & ~WAS_ODD) | (WAS_ODD if is_odd else 0)
+        words = [*map(uc.reg_read, FRAME), place, flags]
         uc.mem_write(stack, struct.pack("<8I", *words))
         uc.reg_write(arm.UC_ARM_REG_SP, stack)
         uc.reg_write(arm.UC_ARM_REG_LR, RETURN)

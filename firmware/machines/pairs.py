@@ -3,7 +3,7 @@ page first."""
 from unicorn import arm_const as arm
 
 from core import check
-from parts import ONES, Part, Stm32, part_of
+from parts import ONES, Cache, Part, Stm32, part_of
 
 
 class OneWay(Stm32):
@@ -40,17 +40,9 @@ class Stm32f1(OneWay):
     LOCK, STRT, BSY, ERROR, AR = 1 << 7, 1 << 6, 1, 1 << 2, 20
     AFTER_RESET = {OneWay.ACR: 0x30, AR: 0}
 
-    def regions(self):
-        return [
-            (self.BASE, 0x1000, self.read_register, self.write_register),
-            (self.FLASH, self.SIZE, self.read_flash, self.write_flash),
-        ]
-
     def set(self, offset, value):
-        check(
-            offset == self.AR and self.cr == self.ERASE and not self.busy,
-            "another register is written",
-        )
+        is_page = offset == self.AR and self.cr == self.ERASE and not self.busy
+        check(is_page, "another register is written")
         self.others[offset] = value
 
     def read_flash(self, offset, width):
@@ -59,9 +51,7 @@ class Stm32f1(OneWay):
 
     def write_flash(self, offset, width, value):
         half = offset // 2
-        check(
-            width == 2 and not self.busy, "a write that is not of a half word, or of a busy flash"
-        )
+        check(width == 2 and not self.busy, "a write of no half word, or of a busy flash")
         self.is_queued = self.is_touched = True
         check(self.cr == self.PG, "a write of the flash that nothing asked for")
         if self.cells[half] != 0xFFFF:
@@ -71,10 +61,8 @@ class Stm32f1(OneWay):
 
     def erased(self, value):
         page, rest = divmod(self.others[self.AR] - self.FLASH, 1024)
-        check(
-            value == self.STRT | self.ERASE and 0 <= page < self.PAGES and rest == 0,
-            "an erase of another page",
-        )
+        is_own = value == self.STRT | self.ERASE and 0 <= page < self.PAGES and rest == 0
+        check(is_own, "an erase of another page")
         return [(half, 0xFFFF) for half in range(page * 512, (page + 1) * 512)]
 
     def is_at_rest(self):
@@ -89,17 +77,12 @@ class Stm32f4(OneWay):
     """The first 2 KB of two sectors, and the data cache: eight lines of 16 bytes."""
 
     BASE, PLACE, FLASH, BITS, COUNT, SECTOR = 0x40023000, 0xC00, 0x08008000, 32, 1024, 0x4000
+    SIZE = 2 * SECTOR
     ERROR, BY_32, DCEN, DCRST, LINES, LINE = 1 << 7, 2 << 8, 1 << 10, 1 << 12, 8, 4
     AFTER_RESET = {OneWay.ACR: 0x705}
 
-    def regions(self):
-        return [
-            (self.BASE, 0x1000, self.read_register, self.write_register),
-            (self.FLASH, 2 * self.SECTOR, self.read_flash, self.write_flash),
-        ]
-
     def reset(self):
-        self.lines = {}
+        self.cache = Cache(self.LINE, self.LINES)
         # A program writes what was asked for into the data cache too; else it leaves an old line there.
         self.updates = self.dice.random() < 0.5
         super().reset()
@@ -111,16 +94,7 @@ class Stm32f4(OneWay):
         self.is_settled = was_settled and offset - self.PLACE != self.ACR
 
     def set(self, offset, value):
-        check(
-            offset == self.ACR and not (value ^ self.others[offset]) & ~(self.DCEN | self.DCRST),
-            "another bit is written",
-        )
-        if value & self.DCRST:
-            check(
-                not (value | self.others[offset]) & self.DCEN, "the cache is emptied while it is on"
-            )
-            self.lines = {}
-        self.others[offset] = value
+        self.control_cache(offset, value, self.DCEN, self.DCRST)
 
     def any_place(self):
         return self.dice.randrange(2) * self.SECTOR + self.dice.randrange(0, 2048, 4)
@@ -137,12 +111,8 @@ class Stm32f4(OneWay):
         half = self.at(offset)
         if not self.others[self.ACR] & self.DCEN:
             return part_of(self.cells[half], offset, width)
-        line = half // self.LINE
-        if line not in self.lines:
-            if len(self.lines) == self.LINES:
-                del self.lines[next(iter(self.lines))]
-            self.lines[line] = self.cells[line * self.LINE : (line + 1) * self.LINE]
-        return part_of(self.lines[line][half % self.LINE], offset, width)
+        fetch = lambda half: self.cells[half : half + self.LINE]
+        return part_of(self.cache.read(half, fetch)[0], offset, width)
 
     def write_flash(self, offset, width, value):
         half = self.at(offset)
@@ -150,18 +120,15 @@ class Stm32f4(OneWay):
         self.is_queued = self.is_touched = True
         check(self.cr == self.BY_32 | self.PG, "a write of the flash that nothing asked for")
         self.begin([(half, self.cells[half] & value)], 9)
-        if self.updates and half // self.LINE in self.lines:
-            self.lines[half // self.LINE][half % self.LINE] = value
+        if self.updates:
+            self.cache.write(half, [value])
 
     def erased(self, value):
         sector = (value >> 3 & 0x1F) - 2
-        check(
-            value & ~(0x1F << 3) == self.STRT | self.BY_32 | self.ERASE and sector in (0, 1),
-            "an erase of another sector",
-        )
-        return [
-            (half, ONES) for half in range(sector * self.COUNT // 2, (sector + 1) * self.COUNT // 2)
-        ]
+        is_erase = value & ~(0x1F << 3) == self.STRT | self.BY_32 | self.ERASE
+        check(is_erase and sector in (0, 1), "an erase of another sector")
+        halves = range(sector * self.COUNT // 2, (sector + 1) * self.COUNT // 2)
+        return [(half, ONES) for half in halves]
 
     def expected(self, offset):
         return self.cells[self.at(offset)]
@@ -188,9 +155,8 @@ class Rp2040(Part):
     def hook(self, core):
         """The ROM: a look-up, and functions that wait a while and return."""
         rom = bytearray(0x1000)
-        rom[0x14:0x16], rom[0x18:0x1A] = self.TABLE.to_bytes(2, "little"), (
-            self.LOOKUP | 1
-        ).to_bytes(2, "little")
+        rom[0x14:0x16] = self.TABLE.to_bytes(2, "little")
+        rom[0x18:0x1A] = (self.LOOKUP | 1).to_bytes(2, "little")
         rom[self.LOOKUP : self.LOOKUP + 2] = bytes.fromhex("7047")  # bx lr
         core.hook(self.LOOKUP, self.look_up)
         for i, (name, turns) in enumerate(self.NAMES.values()):
@@ -210,31 +176,23 @@ class Rp2040(Part):
         ]
 
     def reset(self):
-        self.state, self.step, self.is_erase, self.lines = "reads", None, False, {}
+        self.state, self.step, self.is_erase, self.cache = "reads", None, False, Cache(8)
         # The chip may be busy with a step from before the reset.
-        self.busy, self.select, self.asked, self.given = (
-            self.dice.choice((0, self.dice.randrange(20))),
-            5,
-            0,
-            False,
-        )
+        self.busy = self.dice.choice((0, self.dice.randrange(20)))
+        self.select, self.asked, self.given = 5, 0, False
 
     def read_select(self, offset, _):
         check(offset == 12, "another pin")
         return self.select
 
     def write_select(self, offset, _, value):
-        check(
-            offset == 12 and not (value ^ self.select) & ~0x300 and self.state == "commands",
-            "another bit of the pin is written",
-        )
+        is_known = offset == 12 and not (value ^ self.select) & ~0x300
+        check(is_known and self.state == "commands", "another bit of the pin is written")
         self.select, self.asked = value, 0
 
     def write_chip(self, offset, _, value):
-        check(
-            offset == 0x60 and self.state == "commands" and self.select >> 8 & 3 == 2,
-            "a byte to a chip that is not selected",
-        )
+        is_ours = offset == 0x60 and self.state == "commands" and self.select >> 8 & 3 == 2
+        check(is_ours, "a byte to a chip that is not selected")
         check(self.asked == 1 or (self.asked == 0 and value == 5), "another command")
         self.asked, self.given = self.asked + 1, True
 
@@ -250,29 +208,26 @@ class Rp2040(Part):
         return int(self.busy > 0)
 
     def look_up(self, core):
-        table, code = (core.uc.reg_read(it) for it in (arm.UC_ARM_REG_R0, arm.UC_ARM_REG_R1))
+        table, code = self.registers(core, 2)
         name = chr(code & 0xFF) + chr(code >> 8)
-        check(
-            table == self.TABLE and name in self.NAMES, "another function of the ROM is looked up"
-        )
-        core.uc.reg_write(
-            arm.UC_ARM_REG_R0, (self.FUNCTIONS + 16 * list(self.NAMES).index(name)) | 1
-        )
+        is_known = table == self.TABLE and name in self.NAMES
+        check(is_known, "another function of the ROM is looked up")
+        place = self.FUNCTIONS + 16 * list(self.NAMES).index(name)
+        core.uc.reg_write(arm.UC_ARM_REG_R0, place | 1)
+
+    def registers(self, core, count):
+        """What a function of the ROM is given."""
+        return map(core.uc.reg_read, (getattr(arm, f"UC_ARM_REG_R{it}") for it in range(count)))
 
     def goes(self, core, state, *before):
         """The ROM is called in one of some states, while interrupts are off and the program stands in RAM."""
         caller = core.uc.reg_read(arm.UC_ARM_REG_LR)
-        check(
-            self.state in before,
-            f"the ROM's function for {state} is called while flash {self.state}",
-        )
-        check(
-            core.uc.reg_read(arm.UC_ARM_REG_PRIMASK) == 1,
-            "interrupts are on while flash is written",
-        )
-        check(
-            0x20000000 <= caller < 0x20004000, "the program stands in flash while flash is written"
-        )
+        told = f"the ROM's function for {state} is called while flash {self.state}"
+        check(self.state in before, told)
+        is_quiet = core.uc.reg_read(arm.UC_ARM_REG_PRIMASK) == 1
+        check(is_quiet, "interrupts are on while flash is written")
+        is_in_ram = 0x20000000 <= caller < 0x20004000
+        check(is_in_ram, "the program stands in flash while flash is written")
         self.state, self.is_touched = state, True
 
     def connect(self, core):
@@ -283,7 +238,7 @@ class Rp2040(Part):
 
     def flush(self, core):
         self.goes(core, "flushed", "commands")
-        self.lines, self.select = {}, self.select & ~0x300
+        self.cache, self.select = Cache(8), self.select & ~0x300
 
     def enter_xip(self, core):
         self.goes(core, "reads", "commands", "flushed")
@@ -291,28 +246,19 @@ class Rp2040(Part):
 
     def erase(self, core):
         self.goes(core, "commands", "commands")
-        offset, count, size, command = (
-            core.uc.reg_read(it)
-            for it in (arm.UC_ARM_REG_R0, arm.UC_ARM_REG_R1, arm.UC_ARM_REG_R2, arm.UC_ARM_REG_R3)
-        )
-        at = offset - self.OFFSET
-        check(
-            at in (0, 4096) and (count, size, command) == (4096, 65536, 0xD8),
-            "an erase of other sectors",
-        )
+        offset, *how = self.registers(core, 4)
+        at, count = offset - self.OFFSET, 4096
+        check(at in (0, 4096) and how == [count, 65536, 0xD8], "an erase of other sectors")
         self.step, self.is_erase = [(i, 0xFF) for i in range(at, at + count)], True
 
     def program(self, core):
         self.goes(core, "commands", "commands")
-        offset, source, count = (
-            core.uc.reg_read(it) for it in (arm.UC_ARM_REG_R0, arm.UC_ARM_REG_R1, arm.UC_ARM_REG_R2)
-        )
+        offset, source, count = self.registers(core, 3)
         at = offset - self.OFFSET
         check(0 <= at < self.SIZE and at % 256 == 0 and count == 256, "a program of another place")
         given = core.uc.mem_read(source, count)
-        self.step, self.is_erase = [
-            (at + i, self.cells[at + i] & given[i]) for i in range(count)
-        ], False
+        self.step = [(at + i, self.cells[at + i] & given[i]) for i in range(count)]
+        self.is_erase = False
 
     def end(self, _):
         """A function of the ROM returns."""
@@ -336,11 +282,8 @@ class Rp2040(Part):
 
     def read_flash(self, offset, width):
         check(self.state == "reads" and not self.busy, "flash is read while it is written")
-        line, rest = divmod(offset, 8)
-        found = self.lines.get(line)
-        if found is None:
-            found = self.lines[line] = bytes(self.cells[8 * line : 8 * line + 8])
-        return int.from_bytes(found[rest : rest + width], "little")
+        found = self.cache.read(offset, lambda at: bytes(self.cells[at : at + 8]))
+        return int.from_bytes(found[:width], "little")
 
     def no_write(self, *_):
         check(False, "flash is written as memory is")

@@ -10,6 +10,29 @@ def part_of(word, offset, width):
     return word >> 8 * (offset % 4) & (1 << 8 * width) - 1
 
 
+class Cache:
+    """Lines of a cache, of which the oldest makes room for one more."""
+
+    def __init__(self, size, most=1 << 16):
+        self.size, self.most, self.lines = size, most, {}
+
+    def read(self, at, fetch):
+        """What stands in a line from a place on. `fetch` reads one that isn't here."""
+        line, rest = divmod(at, self.size)
+        if line not in self.lines:
+            found = fetch(line * self.size)
+            if len(self.lines) == self.most:
+                del self.lines[next(iter(self.lines))]
+            self.lines[line] = found
+        return self.lines[line][rest:]
+
+    def write(self, at, values):
+        """Puts values into a line that is here."""
+        line, rest = divmod(at, self.size)
+        if line in self.lines:
+            self.lines[line][rest : rest + len(values)] = values
+
+
 class Part:
     """A part with its flash as `cells`. The model of a family says what its registers do, and what a cut leaves."""
 
@@ -62,14 +85,8 @@ class Stm32(Part):
     ERASE, ERROR = 2, 1 << 3  # what asks for an erase; a program over what stands
 
     def reset(self):
-        self.cr, self.keys, self.busy, self.step, self.is_queued, self.is_settled = (
-            self.LOCK,
-            0,
-            0,
-            None,
-            False,
-            False,
-        )
+        self.cr, self.keys, self.busy, self.step = self.LOCK, 0, 0, None
+        self.is_queued = self.is_settled = False
         # An error of before stands.
         self.sr = self.dice.choice((0, self.ERROR))
         self.others = dict(self.AFTER_RESET)
@@ -77,6 +94,12 @@ class Stm32(Part):
 
     def barrier(self):
         self.is_settled, self.is_queued = True, False
+
+    def regions(self):
+        return [
+            (self.BASE, 0x1000, self.read_register, self.write_register),
+            (self.FLASH, self.SIZE, self.read_flash, self.write_flash),
+        ]
 
     def read_register(self, offset, width):
         check(width == 4, "a register that is not read whole")
@@ -123,6 +146,15 @@ class Stm32(Part):
         if value & self.STRT:
             check(value & self.ERASE, "what is started is no erase")
             self.begin(self.erased(value), 40)
+
+    def control_cache(self, offset, value, on, empty):
+        """The cache of data is turned on or off, or emptied."""
+        before = self.others[self.ACR]
+        check(offset == self.ACR and not (value ^ before) & ~(on | empty), "another bit is written")
+        if value & empty:
+            check(not (value | before) & on, "the cache is emptied while it is on")
+            self.cache.lines.clear()
+        self.others[offset] = value
 
     def begin(self, step, most):
         """A step begins, which is busy for a few looks at the status."""

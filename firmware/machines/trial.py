@@ -1,49 +1,16 @@
 """Changes of a store on a part, with power cut behind any instruction of them."""
 import random
 
-from core import (
-    CLEAN,
-    ERASE,
-    FORGET,
-    FREE,
-    LOOK,
-    PROGRAM,
-    RAM_SIZE,
-    READ,
-    START,
-    WORD,
-    WRITE,
-    WRITE_ALL,
-    Broken,
-    Core,
-    Program,
-    check,
-)
+from core import CLEAN, ERASE, FORGET, FREE, LOOK, PROGRAM, RAM_SIZE, READ, START, WORD, WRITE
+from core import WRITE_ALL, Broken, Core, Program, check
 from parts import ONES
 
 ADDRESSES = range(1, 6)
 OK, NOTHING = 0, 1
 # What is tried, one after the other. `fill` takes all slots that are free, so that the next write moves; `restart` is the start
 # behind a cut of the change before, which is cut too.
-CHANGES = [
-    "start",
-    "restart",
-    "write",
-    "write",
-    "forget",
-    "list",
-    "restart",
-    "fill",
-    "write",
-    "restart",
-    "clean",
-    "list",
-    "fill",
-    "list",
-    "restart",
-    "write",
-    "restart",
-]
+CHANGES = "start restart write write forget list restart fill write restart clean list fill list"
+CHANGES = f"{CHANGES} restart write restart".split()
 # How many instructions behind a write of a register or of the flash are cut more often than others.
 NEAR = 8
 # How many cuts a change has at most in each third.
@@ -71,9 +38,8 @@ class Watcher:
 
     def is_taken(self):
         """Whether an NMI that is raised is taken now: some instructions later, and at a barrier at the latest, unless it is late."""
-        self.delay = (
-            self.delay - 1 if self.delay else self.dice.randrange(60 if self.part.is_late else 6)
-        )
+        most = 60 if self.part.is_late else 6
+        self.delay = self.delay - 1 if self.delay else self.dice.randrange(most)
         return self.delay == 0
 
     def step(self, place):
@@ -109,9 +75,8 @@ class Trial:
         self.part, self.next_part = model(self.dice), model(self.dice)
         self.part.stalls = self.next_part.stalls = stalls
         self.watcher = Watcher(self.part, self.dice)
-        self.core, self.next_core = Core(program, self.part, self.watcher), Core(
-            program, self.next_part
-        )
+        self.core = Core(program, self.part, self.watcher)
+        self.next_core = Core(program, self.next_part)
         # Some starts behind a cut are watched too, so that an NMI may be late in them.
         self.late_core = Core(program, self.next_part, Watcher(self.next_part, self.dice))
         self.passed = self.failed = self.cuts = self.under_way = self.before = self.after = 0
@@ -166,11 +131,8 @@ class Trial:
         if kind == "write":
             return (WRITE, address, value), {**before, address: value}
         if kind == "list":
-            return (WRITE_ALL, address | other << 16, value), {
-                **before,
-                address: value,
-                other: value ^ ONES,
-            }
+            both = {address: value, other: value ^ ONES}
+            return (WRITE_ALL, address | other << 16, value), {**before, **both}
         if kind == "forget" and before:
             address = self.dice.choice(list(before))
             return (FORGET, address, 0), {it: before[it] for it in before if it != address}
@@ -186,9 +148,8 @@ class Trial:
         self.watcher.start()
         status, _ = yield asked
         self.watcher.stop()
-        check(
-            status == OK or (status, asked[0]) == (NOTHING, CLEAN), f"the change answers {status}"
-        )
+        is_idle = (status, asked[0]) == (NOTHING, CLEAN)
+        check(status == OK or is_idle, f"the change answers {status}")
         check(self.part.is_at_rest(), "the change leaves the part in another state")
         yield from self.looks()
         check((yield from self.values()) == after, "the change left another map")
@@ -203,10 +164,8 @@ class Trial:
         for place, is_under_way, cut in self.watcher.cuts():
             try:
                 found, opened = self.next_start(cut)
-                check(
-                    found in (before, after),
-                    f"the next start has {found}, which is neither {before} nor {after}",
-                )
+                told = f"the next start has {found}, which is neither {before} nor {after}"
+                check(found in (before, after), told)
             except Broken as fault:
                 raise Broken(f"{kind} cut at {place:#x}: {fault}") from None
             self.cuts += 1
@@ -241,9 +200,7 @@ class Trial:
             check((yield PROGRAM, 3, 0x12345678)[0] == OK, "a program")
             check((yield WORD, 3, 0) == (OK, 0x12345678), "what was programmed")
             check((yield PROGRAM, 3, 0x87654321)[0] != OK, "a second program is refused")
-            check(
-                self.part.is_at_rest(), "a program that is refused leaves the part in another state"
-            )
+            check(self.part.is_at_rest(), "a refused program leaves the part in another state")
             check((yield ERASE, 0, 0)[0] == OK, "an erase")
             check((yield WORD, 3, 0) == (OK, ONES), "what was erased")
             check((yield PROGRAM, 1 << 16 | 5, 5)[0] == OK, "a program in the second page")

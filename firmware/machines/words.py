@@ -1,6 +1,6 @@
 """Models of parts with error correction over units of two or four times 32 bits: STM32G0, L4, G4 and U5."""
 from core import check
-from parts import ONES, Stm32
+from parts import ONES, Cache, Stm32
 
 FINE, CORRECTED, TORN = range(3)
 
@@ -43,11 +43,10 @@ class EccFlash(Stm32):
         # The address of an error may be any other one.
         self.is_lying, self.has_lied = self.dice.random() < 0.5, False
 
-    def told_regions(self):
-        return [
-            (base, 0x1000, self.told_by(words), self.take_clock(words))
-            for base, words in self.TOLD.items()
-        ]
+    def regions(self):
+        told = self.TOLD.items()
+        others = [(base, 0x1000, self.told_by(it), self.take_clock(it)) for base, it in told]
+        return super().regions() + others
 
     def told_by(self, words):
         return lambda offset, _: words.get(offset, 0)
@@ -56,10 +55,8 @@ class EccFlash(Stm32):
         """Clocks that are turned on and off again: what stands behind them reads as well without."""
 
         def write(offset, _, value):
-            check(
-                offset in words and not (value ^ words[offset]) & ~self.CLOCK,
-                "another register is written",
-            )
+            is_clock = offset in words and not (value ^ words[offset]) & ~self.CLOCK
+            check(is_clock, "another register is written")
 
         return write
 
@@ -72,15 +69,9 @@ class EccFlash(Stm32):
         kind = self.dice.randrange(7)
         if kind == 0:
             return
-        self.leave(
-            cells,
-            at,
-            values
-            if kind < 3
-            else [ONES for _ in values]
-            if kind == 3
-            else [self.any_bits() for _ in values],
-        )
+        if kind >= 3:
+            values = [ONES if kind == 3 else self.any_bits() for _ in values]
+        self.leave(cells, at, values)
         cells.states[at] = FINE if kind == 1 else CORRECTED if kind < 4 else TORN
 
     def tell(self, unit, flag):
@@ -100,23 +91,17 @@ class EccFlash(Stm32):
         if self.buffer == unit:
             return
         self.buffer = unit
-        if self.cells.states[unit]:
-            self.tell(
-                unit, self.CORRECTION if self.cells.states[unit] == CORRECTED else self.DETECTION
-            )
+        state = self.cells.states[unit]
+        if state != FINE:
+            self.tell(unit, self.CORRECTION if state == CORRECTED else self.DETECTION)
 
     def write_flash(self, offset, width, value):
         at, i = divmod(offset // 4, self.PARTS)
         check(width == 4, "a write of the flash that is not of 32 bits")
-        check(
-            not self.busy and not self.is_cached(),
-            "a write of the flash while it is busy or cached",
-        )
+        check(not self.busy and not self.is_cached(), "a write while the flash is busy or cached")
         self.is_queued = self.is_touched = True
-        check(
-            self.cr == self.PG and i == len(self.filled),
-            "a write of the flash that nothing asked for, or in another order",
-        )
+        is_asked = self.cr == self.PG and i == len(self.filled)
+        check(is_asked, "a write of the flash that nothing asked for, or in another order")
         self.filled.append(value)
         if len(self.filled) < self.PARTS:
             return
@@ -129,10 +114,8 @@ class EccFlash(Stm32):
 
     def erased(self, value):
         page = (value >> 3 & self.PAGES_MASK) - self.FIRST_PAGE
-        check(
-            value >> self.BANK_SHIFT & 1 == self.BANK and 0 <= page < self.PAGES,
-            "an erase of another page",
-        )
+        is_own = value >> self.BANK_SHIFT & 1 == self.BANK and 0 <= page < self.PAGES
+        check(is_own, "an erase of another page")
         check(not self.is_cached(), "an erase while the cache is on")
         units = self.COUNT // self.PAGES
         return [(at, [ONES] * self.PARTS) for at in range(page * units, (page + 1) * units)]
@@ -144,6 +127,24 @@ class EccFlash(Stm32):
     def set_eccr(self, value):
         flags = self.others[self.ECCR] & ~(value & self.FLAGS) & ~self.ECCIE
         self.others[self.ECCR] = flags | (value & self.ECCIE)
+
+    def is_by_cache(self):
+        return self.is_cached()
+
+    def read_flash(self, offset, width):
+        check(width == 4 and self.is_settled, "a read before the cache is on or off as it was told")
+        self.settle()
+        at = offset // 4
+        if self.is_by_cache():
+            return self.cache.read(at, self.fetch)[0]
+        self.sense(at // self.PARTS)
+        return self.cells.values[at]
+
+    def fetch(self, at):
+        """A line for the cache."""
+        for unit in range(at // self.PARTS, (at + self.LINE) // self.PARTS):
+            self.sense(unit)
+        return self.cells.values[at : at + self.LINE]
 
     def is_of_others(self):
         """So it is beside a corrected one, which may have been first: the address may be that of either. So it is where the address
@@ -170,15 +171,8 @@ class DoubleWords(EccFlash):
 
     SIZE, PARTS, PAGES, COUNT, LINES, LINE = 0x1000, 2, 2, 512, 8, 8
 
-    def regions(self):
-        return [
-            (self.BASE, 0x1000, self.read_register, self.write_register),
-            (self.FLASH, self.SIZE, self.read_flash, self.write_flash),
-            *self.told_regions(),
-        ]
-
     def reset(self):
-        self.lines = {}
+        self.cache = Cache(self.LINE, self.LINES)
         # A program writes what was asked for into the data cache too; else it leaves an old line there.
         self.updates = self.dice.random() < 0.5
         super().reset()
@@ -186,46 +180,16 @@ class DoubleWords(EccFlash):
     def is_cached(self):
         return self.others[self.ACR] & self.ON
 
-    def read_flash(self, offset, width):
-        check(width == 4 and self.is_settled, "a read before the cache is on or off as it was told")
-        self.settle()
-        half = offset // 4
-        if not self.others[self.ACR] & self.ON:
-            self.sense(half // 2)
-            return self.cells.values[half]
-        line = half // self.LINE
-        if line not in self.lines:
-            for unit in range(line * self.LINE // 2, (line + 1) * self.LINE // 2):
-                self.sense(unit)
-            if len(self.lines) == self.LINES:
-                del self.lines[next(iter(self.lines))]
-            self.lines[line] = self.cells.values[line * self.LINE : (line + 1) * self.LINE]
-        return self.lines[line][half % self.LINE]
-
     def leave(self, cells, at, values):
         super().leave(cells, at, values)
-        line = (
-            self.lines.get(2 * at // self.LINE)
-            if self.updates and cells is self.cells and values != [ONES, ONES]
-            else None
-        )
-        if line:
-            line[2 * at % self.LINE : 2 * at % self.LINE + 2] = values
+        if self.updates and cells is self.cells and values != [ONES, ONES]:
+            self.cache.write(2 * at, values)
 
     def set(self, offset, value):
         if offset == self.ECCR:
             self.set_eccr(value)
-            return
-        check(
-            offset == self.ACR and not (value ^ self.others[offset]) & ~(self.ON | self.EMPTY),
-            "another bit is written",
-        )
-        if value & self.EMPTY:
-            check(
-                not (value | self.others[offset]) & self.ON, "the cache is emptied while it is on"
-            )
-            self.lines = {}
-        self.others[offset] = value
+        else:
+            self.control_cache(offset, value, self.ON, self.EMPTY)
 
 
 class Stm32g4(DoubleWords):
@@ -235,12 +199,8 @@ class Stm32g4(DoubleWords):
     FIRST_UNIT = FIRST_PAGE * 256
     ACR, ECCR, OPTR, ON, EMPTY = 0, 24, 32, 1 << 10, 1 << 12
     AFTER_RESET = {ACR: 0x40600, ECCR: EccFlash.ECCIE, OPTR: 0xFFEFF8AA}
-    TOLD = {
-        0xE0042000: {0: 0x20010469},
-        0x1FFF7000: {0x5E0: 512},
-        0x40021000: {0x60: 0},
-        0x40010000: {0: 1 << 8},
-    }
+    TOLD = {0xE0042000: {0: 0x20010469}, 0x1FFF7000: {0x5E0: 512}}
+    TOLD |= {0x40021000: {0x60: 0}, 0x40010000: {0: 1 << 8}}
     CLOCK = 1
 
 
@@ -263,12 +223,8 @@ class Stm32l4(DoubleWords):
     FIRST_UNIT, BESIDE = FIRST_PAGE * 256, 1 << 19
     ACR, ECCR, OPTR, ON, EMPTY = 0, 24, 32, 1 << 10, 1 << 12
     AFTER_RESET = {ACR: 0x600, ECCR: EccFlash.ECCIE, OPTR: 0xFFEFF8AA}
-    TOLD = {
-        0xE0042000: {0: 0x10000415},
-        0x1FFF7000: {0x5E0: 1024},
-        0x40021000: {0x60: 0},
-        0x40010000: {0: 0},
-    }
+    TOLD = {0xE0042000: {0: 0x10000415}, 0x1FFF7000: {0x5E0: 1024}}
+    TOLD |= {0x40021000: {0x60: 0}, 0x40010000: {0: 0}}
     CLOCK = 1
 
 
@@ -276,16 +232,8 @@ class Stm32u5(EccFlash):
     """The last two pages of 8 KB of the first bank, which is read at the address of the second, and ICACHE: a line for each unit
     of 16 bytes."""
 
-    FLASH, SIZE, PARTS, PAGES, COUNT, FIRST_PAGE, BANK, PAGES_MASK = (
-        0x081FC000,
-        0x4000,
-        4,
-        2,
-        1024,
-        126,
-        0,
-        0xFF,
-    )
+    FLASH, SIZE, PARTS, LINE, PAGES, COUNT = 0x081FC000, 0x4000, 4, 4, 2, 1024
+    FIRST_PAGE, BANK, PAGES_MASK = 126, 0, 0xFF
     FIRST_UNIT, UNIT, BESIDE = FIRST_PAGE * 512, 16, 0
     SR, CR, ECCR, OPTR = 32, 40, 48, 64
     CACHE, CACHE_CR, CACHE_SR, CACHE_FCR = 0x40030000, 0x400, 0x404, 0x40C
@@ -294,21 +242,19 @@ class Stm32u5(EccFlash):
     WAITS = 1 << 17
 
     def regions(self):
-        return [
-            (self.BASE, 0x1000, self.read_register, self.write_register),
-            (self.CACHE, 0x1000, self.read_cache, self.write_cache),
-            (self.FLASH, self.SIZE, self.read_flash, self.write_flash),
-            *self.told_regions(),
-        ]
+        return [*super().regions(), (self.CACHE, 0x1000, self.read_cache, self.write_cache)]
 
     def reset(self):
-        self.lines, self.cache_busy, self.is_ended = {}, 0, False
+        self.cache, self.cache_busy, self.is_ended = Cache(self.LINE), 0, False
         # The cache is emptied as it is turned off.
         self.empties = self.dice.random() < 0.5
         super().reset()
 
     def is_cached(self):
         return self.others[self.CACHE_CR] & 1
+
+    def is_by_cache(self):
+        return self.is_cached() and not self.cache_busy
 
     def set(self, offset, value):
         check(offset == self.ECCR, "another register is written")
@@ -331,32 +277,15 @@ class Stm32u5(EccFlash):
             self.is_ended &= not value & 2
             return
         self.is_settled, before = False, self.others[self.CACHE_CR]
-        check(
-            offset == self.CACHE_CR and not (value ^ before) & ~3,
-            "another bit of the cache is written",
-        )
-        check(
-            not value & ~before & 1 or not self.cache_busy,
-            "the cache is turned on before it is empty",
-        )
+        is_known = offset == self.CACHE_CR and not (value ^ before) & ~3
+        check(is_known, "another bit of the cache is written")
+        is_early = value & ~before & 1 and self.cache_busy
+        check(not is_early, "the cache is turned on before it is empty")
         self.others[self.CACHE_CR] = value & ~2
         if self.cache_busy:
             return
         if value & 2 or (self.empties and before & ~value & 1):
-            self.lines, self.cache_busy = {}, 9
-
-    def read_flash(self, offset, width):
-        check(width == 4 and self.is_settled, "a read before the cache is on or off as it was told")
-        self.settle()
-        unit, i = divmod(offset // 4, 4)
-        if not self.others[self.CACHE_CR] & 1 or self.cache_busy:
-            self.sense(unit)
-            return self.cells.values[offset // 4]
-        line = self.lines.get(unit)
-        if line is None:
-            self.sense(unit)
-            line = self.lines[unit] = self.cells.values[4 * unit : 4 * unit + 4]
-        return line[i]
+            self.cache, self.cache_busy = Cache(self.LINE), 9
 
     def is_at_rest(self):
         return super().is_at_rest() and not self.is_ended

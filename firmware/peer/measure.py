@@ -1,19 +1,10 @@
-#!/usr/bin/env python3
-"""Measures the peer as firmware/targets measures the store: code, and the instructions of four calls, in QEMU.
-
-    python3 firmware/peer/measure.py
+"""Measures the peer as firmware/targets measures the store, which calls this: code, and the instructions of four calls, in QEMU.
 
 Each row is a target, what the flash has, how it is read, how a move finds what it copies, bytes of code and constants, and the
-instructions of calls.c: a write into a free slot, a read through all slots, an opening, and a move. The last line is
-`N passed, M failed, K skipped`. firmware/targets has the same rows, and the store's over them."""
-import importlib.machinery
-import importlib.util
+instructions of calls.c: a write into a free slot, a read through all slots, an opening, and a move."""
 import itertools
-import sys
-import tempfile
 from pathlib import Path
 
-sys.dont_write_bytecode = True
 HERE = Path(__file__).resolve().parent
 CORES = {"cortex-m4": "Cortex-M4", "cortex-m0plus": "Cortex-M0+"}
 KINDS, READ_BY, MOVES = (
@@ -33,20 +24,13 @@ def four_calls(tally, targets, what, core, flags):
     """The instructions of the four calls on a core, None where they fail."""
     board, tick, for_linker = targets.BOARDS[core]
     program = tally.folder / "peer.elf"
-    words = [
-        "arm-none-eabi-gcc",
-        *flags,
-        "-nostdlib",
-        *for_linker,
-        "-Tcortex-m/link.ld",
-        "-Wl,--gc-sections,-z,noexecstack",
-    ]
-    sources = [HERE / "calls.c", HERE / "peer.c", "cortex-m/memory.c"]
-    if tally.run(f"the program for {what}", *words, *sources, "-lgcc", "-o", program) is None:
+    linked = [*for_linker, "-nostdlib", "-Tcortex-m/link.ld", "-Wl,--gc-sections,-z,noexecstack"]
+    sources = [HERE / "calls.c", HERE / "peer.c", "cortex-m/memory.c", "-lgcc", "-o", program]
+    built = ["arm-none-eabi-gcc", *flags, *linked, *sources]
+    if tally.run(f"the program for {what}", *built) is None:
         return None
-    ticks = tally.run(
-        what, "qemu-system-arm", "-M", *board, *targets.COUNTED, *targets.QEMU, program
-    )
+    words = ["qemu-system-arm", "-M", *board, *targets.COUNTED, *targets.QEMU, program]
+    ticks = tally.run(what, *words)
     return ticks and [round(int(it) * tick / targets.INSTRUCTION) for it in ticks.split()]
 
 
@@ -54,26 +38,15 @@ def figures(tally, targets, core, choice):
     """Bytes of code and the four calls of one of the peers, None where it fails."""
     pairs, mapped, scans = choice
     what = f"the peer on {CORES[core]}, {KINDS[pairs]}, {READ_BY[mapped]}, {MOVES[scans]}"
-    flags = [
-        *targets.STRICT,
-        "-std=c99",
-        "-Os",
-        "-ffreestanding",
-        "-mthumb",
-        f"-mcpu={core}",
-        f"-DPEER_PAIRS={pairs}",
-        f"-DPEER_MAPPED={mapped}",
-        f"-DPEER_SCANS={scans}",
-    ] + [f"-DPEER_ADDRESSES={VARIABLES}"] * scans
+    flags = [*targets.STRICT, *"-std=c99 -Os -ffreestanding -mthumb".split(), f"-mcpu={core}"]
+    flags += [f"-DPEER_{it}={value}" for it, value in zip(("PAIRS", "MAPPED", "SCANS"), choice)]
+    flags += [f"-DPEER_ADDRESSES={VARIABLES}"] * scans
     compiled = tally.folder / "peer.o"
     words = [
-        "arm-none-eabi-gcc",
-        *flags,
-        "-ffunction-sections",
-        "-c",
-        HERE / "peer.c",
-        "-o",
+        *"arm-none-eabi-gcc -ffunction-sections -c -o".split(),
         compiled,
+        HERE / "peer.c",
+        *flags,
     ]
     if tally.run(f"the object for {what}", *words) is None:
         return None
@@ -110,27 +83,3 @@ def ratios(peers, rows):
                 over = [f"{its / mine:.2f}" for its, mine in zip(row.calls, peer[1:])]
                 cells.append([*row[:4], read_by, *over])
     return cells
-
-
-def loaded_targets():
-    """firmware/targets as a module."""
-    sys.path.insert(0, str(HERE.parent))
-    loader = importlib.machinery.SourceFileLoader("targets", str(HERE.parent / "targets"))
-    module = importlib.util.module_from_spec(importlib.util.spec_from_loader("targets", loader))
-    loader.exec_module(module)
-    return module
-
-
-def main():
-    targets = loaded_targets()
-    with tempfile.TemporaryDirectory() as folder:
-        tally = targets.Tally(folder, "firmware/peer")
-        if tally.lacks("Cortex-M", ["arm-none-eabi-gcc", "qemu-system-arm"], ".ci/install"):
-            return tally.close()
-        for cells in [COLUMNS, *lines(measured(tally, targets))]:
-            print(targets.line_of(*cells))
-    return tally.close()
-
-
-if __name__ == "__main__":
-    sys.exit(main())
