@@ -1,37 +1,12 @@
 // Made by strip from crates/ee_core/src/changing.rt. Change that file.
 // SPDX-License-Identifier: MIT OR Apache-2.0
-//! The making of changes that nothing refuses: one in a free slot, or several with a transfer.
+//! The making of changes that nothing refuses with a transfer.
 
-use crate::ee_core::change::{Change, Put};
+use crate::ee_core::change::Put;
 use crate::ee_core::live_cursor::LiveCursor;
-use crate::ee_core::moving::{transfer, transfer_by_slots, transfer_nothing};
-use crate::ee_core::writing::append;
+use crate::ee_core::moving::{transfer, transfer_nothing};
 use crate::ee_flash::{Cut, Flash};
 use crate::ee_pages::Layout;
-
-/// Makes a change to which no refusal applies in the first free slot. The layout follows.
-#[inline(always)]
-pub fn append_change<F: Flash>(
-    flash: &mut F,
-    layout: &mut Layout,
-    change: Change,
-) -> Result<(), Cut> {
-    append(flash, layout, change)?;
-    Ok(())
-}
-
-/// Makes changes to which no refusal applies with a transfer that they need, as
-/// `move_changes` does, in a store without an index: it looks for the live addresses in the
-/// slots. The layout follows.
-pub(crate) fn move_unindexed<F: Flash>(
-    flash: &mut F,
-    layout: &mut Layout,
-    puts: &[Put],
-    forgets: bool,
-) -> Result<(), Cut> {
-    transfer_by_slots(flash, layout, puts, forgets)?;
-    Ok(())
-}
 
 /// Makes changes to which no refusal applies with a transfer that they need: values that are put,
 /// or the forgettings of their addresses. The cursor, which is before the first, goes over the live

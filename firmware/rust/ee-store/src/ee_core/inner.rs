@@ -5,7 +5,7 @@
 //! that a store keeps; and openings in place, for `ee_replay` and the C library.
 
 pub use crate::ee_core::change::Change;
-pub use crate::ee_core::changing::{append_change, move_changes};
+pub use crate::ee_core::changing::move_changes;
 pub use crate::ee_core::cleaning::clean;
 pub use crate::ee_core::copying::Cursor;
 pub use crate::ee_core::first_start::start_on;
@@ -18,6 +18,7 @@ pub use crate::ee_core::opening::open_on;
 pub use crate::ee_core::puts::{first_twice, values_put};
 pub use crate::ee_core::store::GREATEST_GENERATION;
 use crate::ee_core::store::Store;
+pub use crate::ee_core::writing::append_change;
 use crate::ee_flash::Flash;
 
 /// The device of a store, as it is, and what is known of it.

@@ -4,8 +4,10 @@
 //! look-up of its own.
 
 use crate::ee_core::change::{Change, Put};
-use crate::ee_core::changing::{append_change, move_unindexed};
+use crate::ee_core::changing::move_changes;
+use crate::ee_core::copying::Cursor;
 use crate::ee_core::puts::live_with;
+use crate::ee_core::writing::append_change;
 use crate::ee_codec::Address;
 use crate::ee_flash::{Cut, Flash};
 use crate::ee_pages::{Layout, LiveBatch, latest, live_count, next_batch, next_live};
@@ -163,6 +165,7 @@ impl Lookup for Slots {
         puts: &[Put],
         forgets: bool,
     ) -> Result<(), Cut> {
-        move_unindexed(flash, layout, puts, forgets)
+        let mut cursor = Cursor::new(flash, layout);
+        move_changes(flash, layout, puts, forgets, &mut cursor)
     }
 }

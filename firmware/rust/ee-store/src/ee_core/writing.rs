@@ -7,10 +7,10 @@ use crate::ee_core::marking::mark_live;
 use crate::ee_flash::{Cut, Flash, HEADER_WORDS};
 use crate::ee_pages::{Layout, Mark, first_page};
 
-/// Writes a change into the first free slot of the live set. If that slot is the first of a further
-/// page, the page before it is marked valid and that one active first. The layout follows.
+/// Makes a change to which no refusal applies in the first free slot. If that slot is the first of a
+/// further page, the page before it is marked valid and that one active first. The layout follows.
 #[inline(always)]
-pub(crate) fn append<F: Flash>(
+pub fn append_change<F: Flash>(
     flash: &mut F,
     layout: &mut Layout,
     change: Change,
