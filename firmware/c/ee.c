@@ -1014,6 +1014,8 @@ static Step transfer(Device *flash, Layout *layout, const Put *puts_items, uint3
 static Step transfer_lent_cursor(Device *flash, Layout *layout, const Put *puts_items,
         uint32_t puts_len, bool forgets, LentCursor *cursor);
 #endif
+static Step transfer_by_slots(Device *flash, Layout *layout, const Put *puts_items,
+        uint32_t puts_len, bool forgets);
 static Step move_map(Device *flash, const Layout *layout, const Put *puts_items, uint32_t puts_len,
         bool forgets, Cursor *cursor, CopyingPlace *made);
 #ifdef EE_INDEX
@@ -1030,8 +1032,8 @@ EE_IN_PLACE IndexPair free_slot(const Device *flash, const Layout *layout);
 EE_IN_PLACE Step open_page(Device *flash, const Layout *layout, uint32_t page);
 EE_IN_PLACE Step push(Device *flash, const Layout *layout, uint32_t page, uint32_t at,
         Change change);
-static Step move_changes(Device *flash, Layout *layout, const Put *puts_items, uint32_t puts_len,
-        bool forgets, Cursor *cursor);
+static Step move_unindexed(Device *flash, Layout *layout, const Put *puts_items, uint32_t puts_len,
+        bool forgets);
 #ifdef EE_INDEX
 static Step move_changes_lent_cursor(Device *flash, Layout *layout, const Put *puts_items,
         uint32_t puts_len, bool forgets, LentCursor *cursor);
@@ -3264,6 +3266,18 @@ static Step transfer_lent_cursor(Device *flash, Layout *layout, const Put *puts_
 }
 #endif
 
+/* Moves the map as `transfer` does. It looks for the live addresses in the slots. */
+static Step transfer_by_slots(Device *flash, Layout *layout, const Put *puts_items,
+        uint32_t puts_len, bool forgets) {
+    const ListOfPut puts = { .items = puts_items, .len = puts_len };
+    Cursor cursor;
+    cursor_new(flash, layout, &cursor);
+    if (transfer(flash, layout, puts.items, puts.len, forgets, &cursor) == CUT) {
+        return CUT;
+    }
+    return DONE;
+}
+
 /* Moves the map, with what it is to carry, to the other set, and makes that one live. Gives how
  * far that fills it. */
 static Step move_map(Device *flash, const Layout *layout, const Put *puts_items, uint32_t puts_len,
@@ -3428,13 +3442,13 @@ EE_IN_PLACE Step push(Device *flash, const Layout *layout, uint32_t page, uint32
 
 /* ---- ee_core/changing.rs: The making of changes that nothing refuses with a transfer. */
 
-/* Makes changes to which no refusal applies with a transfer that they need: values that are put,
- * or the forgettings of their addresses. The cursor, which is before the first, goes over the live
- * addresses. The layout follows. */
-static Step move_changes(Device *flash, Layout *layout, const Put *puts_items, uint32_t puts_len,
-        bool forgets, Cursor *cursor) {
+/* Makes changes to which no refusal applies with a transfer that they need, as
+ * `move_changes` does, in a store without an index: it looks for the live addresses in the
+ * slots. The layout follows. */
+static Step move_unindexed(Device *flash, Layout *layout, const Put *puts_items, uint32_t puts_len,
+        bool forgets) {
     const ListOfPut puts = { .items = puts_items, .len = puts_len };
-    if (transfer(flash, layout, puts.items, puts.len, forgets, cursor) == CUT) {
+    if (transfer_by_slots(flash, layout, puts.items, puts.len, forgets) == CUT) {
         return CUT;
     }
     return DONE;
@@ -3524,9 +3538,7 @@ EE_IN_PLACE Step slots_append(Device *flash, Layout *layout, Change change) {
 EE_IN_PLACE Step slots_transfer(Device *flash, Layout *layout, const Put *puts_items,
         uint32_t puts_len, bool forgets) {
     const ListOfPut puts = { .items = puts_items, .len = puts_len };
-    Cursor cursor;
-    cursor_new(flash, layout, &cursor);
-    return move_changes(flash, layout, puts.items, puts.len, forgets, &cursor);
+    return move_unindexed(flash, layout, puts.items, puts.len, forgets);
 }
 
 /* ---- ee_core/known.rs: What a store keeps in memory beside its device, and the calls that
@@ -3961,9 +3973,7 @@ static OpenFault start_anew(Device *flash, Layout *made) {
  * smaller than the one that the set is committed with. Gives the layout there. */
 static Step rescue_set(Device *flash, Side side, uint32_t generation, Layout *made) {
     *made = (Layout){ .side = side, .generation = generation, .fill = 0u, .current = 0u };
-    Cursor cursor;
-    cursor_new(flash, made, &cursor);
-    if (transfer(flash, made, NULL, 0u, false, &cursor) == CUT) {
+    if (transfer_by_slots(flash, made, NULL, 0u, false) == CUT) {
         return CUT;
     }
     return DONE;

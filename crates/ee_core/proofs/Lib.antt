@@ -37,6 +37,7 @@ mod Listed
 mod Several
 mod OtherSteps
 mod Making
+mod MadeMoves
 mod Emptying
 mod Effects
 mod Running

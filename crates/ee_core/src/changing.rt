@@ -18,9 +18,34 @@ ghost use Rattle.ee_core.specs.Transfers.{SetMoved};
 
 use crate::change::Put;
 use crate::live_cursor::LiveCursor;
-use crate::moving::{transfer, transfer_nothing};
+use crate::moving::{transfer, transfer_by_slots, transfer_nothing};
 use ee_flash::{Cut, Flash};
 use ee_pages::Layout;
+
+/// Makes changes to which no refusal applies with a transfer that they need, as
+/// `move_changes` does, in a store without an index: it looks for the live addresses in the
+/// slots. The layout follows.
+pub(crate) fn move_unindexed<F: Flash>(
+    flash: &mut F,
+    layout: &mut Layout,
+    puts: &[Put],
+    forgets: bool,
+) -> Result<(), Cut>
+    requires layout { IsLayout (F.device flash.old) layout.old }
+    requires apart { AreApart (changes_of_puts puts.now forgets) }
+    requires proceeds { Proceeds (F.device flash.old) (changes_of_puts puts.now forgets) }
+    requires needed { NeedsTransfer (capacity (F.device flash.old)) (state_of (F.device flash.old))
+        (changes_of_puts puts.now forgets) }
+    ensures moved { OnOk result
+        (Moves (F.device flash.old) (changes_of_puts puts.now forgets) (F.device flash.new)) }
+    ensures cut { OnErr result
+        (IsCutMaking (F.device flash.old) (changes_of_puts puts.now forgets) (F.device flash.new)) }
+    ensures store { IsStore (F.device flash.new) }
+    ensures layout { IsOn (F.device flash.new) → IsLayout (F.device flash.new) layout.new }
+{
+    transfer_by_slots(flash, layout, puts, forgets)?;
+    Ok(())
+}
 
 /// Makes changes to which no refusal applies with a transfer that they need: values that are put,
 /// or the forgettings of their addresses. The cursor, which is before the first, goes over the live

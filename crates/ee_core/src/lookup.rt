@@ -17,8 +17,7 @@ ghost use Rattle.ee_core.specs.Puts.{AreApart, HasNew, changes_of_puts, puts_of}
 ghost use Rattle.ee_core.specs.State.{capacity, state_of};
 
 use crate::change::{Change, Put};
-use crate::changing::move_changes;
-use crate::copying::Cursor;
+use crate::changing::move_unindexed;
 use crate::puts::live_with;
 use crate::writing::append_change;
 use ee_codec::Address;
@@ -301,7 +300,6 @@ impl Lookup for Slots {
         puts: &[Put],
         forgets: bool,
     ) -> Result<(), Cut> {
-        let mut cursor = Cursor::new(flash, layout);
-        move_changes(flash, layout, puts, forgets, &mut cursor)
+        move_unindexed(flash, layout, puts, forgets)
     }
 }

@@ -16,7 +16,7 @@ ghost use Rattle.ee_core.specs.Transfers.{ClearsOther, CommitsOther, MovesMap, M
 
 use crate::change::Put;
 use crate::cleaning::erase_other;
-use crate::copying::{Place, fill_set};
+use crate::copying::{Cursor, Place, fill_set};
 use crate::live_cursor::LiveCursor;
 use crate::marking::finish;
 use ee_flash::{Cut, Flash};
@@ -59,6 +59,34 @@ pub(crate) fn transfer<F: Flash, C: LiveCursor>(
         current: filled.page,
     };
     finish(flash, layout)?;
+    Ok(())
+}
+
+/// Moves the map as `transfer` does. It looks for the live addresses in the slots.
+pub(crate) fn transfer_by_slots<F: Flash>(
+    flash: &mut F,
+    layout: &mut Layout,
+    puts: &[Put],
+    forgets: bool,
+) -> Result<(), Cut>
+    requires older { IsOlder (F.device flash.old) layout.old.side (layout.old.generation + 1) }
+    requires generation { IsGeneration (layout.old.generation + 1) }
+    requires apart { AreApart (changes_of_puts puts.now forgets) }
+    requires fits { live_in (changed_by (changes_of_puts puts.now forgets)
+        (map_in layout.old.side (F.device flash.old))) ≤ slot_count (F.device flash.old).size }
+    // At an error power was cut: the map has moved, or the set is live as before.
+    ensures moves { MovesSet result (λ done. layout.new) (F.device flash.old) (F.device flash.new)
+        layout.old (changes_of_puts puts.now forgets)
+        (moved_words (changes_of_puts puts.now forgets)
+        (map_in layout.old.side (F.device flash.old))) }
+    ensures steps { Takes result
+        (steps_to_move (F.device flash.old) layout.old.side layout.old.generation
+        (moved_words (changes_of_puts puts.now forgets)
+        (map_in layout.old.side (F.device flash.old))))
+        (F.device flash.old) (F.device flash.new) }
+{
+    let mut cursor = Cursor::new(flash, layout);
+    transfer(flash, layout, puts, forgets, &mut cursor)?;
     Ok(())
 }
 

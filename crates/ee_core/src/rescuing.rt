@@ -10,8 +10,7 @@ ghost use Rattle.ee_core.specs.StepLists.{steps_to_move};
 ghost use Rattle.ee_flash.specs.Taking.{Takes};
 ghost use Rattle.ee_core.specs.Transfers.{MovesSet};
 
-use crate::copying::Cursor;
-use crate::moving::transfer;
+use crate::moving::transfer_by_slots;
 use crate::store::{GREATEST_GENERATION, Store};
 use ee_flash::{Cut, Flash};
 use ee_pages::{Layout, Side, bad_words, named_generation, rescued_side};
@@ -114,7 +113,6 @@ fn rescue_set<F: Flash>(flash: &mut F, side: Side, generation: u32) -> Result<La
         fill: 0,
         current: 0,
     };
-    let mut cursor = Cursor::new(flash, &layout);
-    transfer(flash, &mut layout, &[], false, &mut cursor)?;
+    transfer_by_slots(flash, &mut layout, &[], false)?;
     Ok(layout)
 }

@@ -4,8 +4,8 @@ use Rattle.ee_pages.specs.Sets.{set_of, slots_of}
 use Rattle.ee_core.proofs.Making.{few_within}
 use Rattle.ee_core.proofs.rescuing.rescue_set.Goals as goal
 
-pub transfer-requires-clause-fits : goal.transfer-requires-clause-fits
-transfer-requires-clause-fits g c =
+pub transfer_by_slots-requires-clause-fits : goal.transfer_by_slots-requires-clause-fits
+transfer_by_slots-requires-clause-fits g c =
     let device = g.F.Flash.device c.args.flash.now in
     omega (
       arith,

@@ -4,9 +4,22 @@
 
 use crate::ee_core::change::Put;
 use crate::ee_core::live_cursor::LiveCursor;
-use crate::ee_core::moving::{transfer, transfer_nothing};
+use crate::ee_core::moving::{transfer, transfer_by_slots, transfer_nothing};
 use crate::ee_flash::{Cut, Flash};
 use crate::ee_pages::Layout;
+
+/// Makes changes to which no refusal applies with a transfer that they need, as
+/// `move_changes` does, in a store without an index: it looks for the live addresses in the
+/// slots. The layout follows.
+pub(crate) fn move_unindexed<F: Flash>(
+    flash: &mut F,
+    layout: &mut Layout,
+    puts: &[Put],
+    forgets: bool,
+) -> Result<(), Cut> {
+    transfer_by_slots(flash, layout, puts, forgets)?;
+    Ok(())
+}
 
 /// Makes changes to which no refusal applies with a transfer that they need: values that are put,
 /// or the forgettings of their addresses. The cursor, which is before the first, goes over the live

@@ -4,8 +4,7 @@
 //! look-up of its own.
 
 use crate::ee_core::change::{Change, Put};
-use crate::ee_core::changing::move_changes;
-use crate::ee_core::copying::Cursor;
+use crate::ee_core::changing::move_unindexed;
 use crate::ee_core::puts::live_with;
 use crate::ee_core::writing::append_change;
 use crate::ee_codec::Address;
@@ -165,7 +164,6 @@ impl Lookup for Slots {
         puts: &[Put],
         forgets: bool,
     ) -> Result<(), Cut> {
-        let mut cursor = Cursor::new(flash, layout);
-        move_changes(flash, layout, puts, forgets, &mut cursor)
+        move_unindexed(flash, layout, puts, forgets)
     }
 }

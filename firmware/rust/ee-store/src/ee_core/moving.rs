@@ -4,7 +4,7 @@
 
 use crate::ee_core::change::Put;
 use crate::ee_core::cleaning::erase_other;
-use crate::ee_core::copying::{Place, fill_set};
+use crate::ee_core::copying::{Cursor, Place, fill_set};
 use crate::ee_core::live_cursor::LiveCursor;
 use crate::ee_core::marking::finish;
 use crate::ee_flash::{Cut, Flash};
@@ -29,6 +29,18 @@ pub(crate) fn transfer<F: Flash, C: LiveCursor>(
         current: filled.page,
     };
     finish(flash, layout)?;
+    Ok(())
+}
+
+/// Moves the map as `transfer` does. It looks for the live addresses in the slots.
+pub(crate) fn transfer_by_slots<F: Flash>(
+    flash: &mut F,
+    layout: &mut Layout,
+    puts: &[Put],
+    forgets: bool,
+) -> Result<(), Cut> {
+    let mut cursor = Cursor::new(flash, layout);
+    transfer(flash, layout, puts, forgets, &mut cursor)?;
     Ok(())
 }
 

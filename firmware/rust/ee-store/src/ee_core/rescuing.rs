@@ -2,8 +2,7 @@
 // SPDX-License-Identifier: MIT OR Apache-2.0
 //! A rescue: the map that a set says is moved to the other set, whatever stands in either.
 
-use crate::ee_core::copying::Cursor;
-use crate::ee_core::moving::transfer;
+use crate::ee_core::moving::transfer_by_slots;
 use crate::ee_core::store::{GREATEST_GENERATION, Store};
 use crate::ee_flash::{Cut, Flash};
 use crate::ee_pages::{Layout, Side, bad_words, named_generation, rescued_side};
@@ -76,7 +75,6 @@ fn rescue_set<F: Flash>(flash: &mut F, side: Side, generation: u32) -> Result<La
         fill: 0,
         current: 0,
     };
-    let mut cursor = Cursor::new(flash, &layout);
-    transfer(flash, &mut layout, &[], false, &mut cursor)?;
+    transfer_by_slots(flash, &mut layout, &[], false)?;
     Ok(layout)
 }
