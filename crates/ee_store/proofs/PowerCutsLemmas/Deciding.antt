@@ -25,7 +25,7 @@ use Rattle.ee_core.specs.declared.variables.WriteFault.TheVariants as write
 use Rattle.ee_store.proofs.PowerCutsLemmas.KeptChanges.{does_turn}
 use Rattle.ee_store.proofs.PowerCutsLemmas.FirstStores.{first}
 use Rattle.ee_store.proofs.PowerCutsLemmas.Refusals.{all_tested, emptied_tested, none_tested, same_test, value_tested}
-use Rattle.ee_store.specs.PowerCuts.Deciding.{ByFuse, answer_at_once, answer_behind, answer_cut, answer_given, answer_in, answer_met, answer_of, answers_of, device_in, device_left, device_met, found_by, found_of, has_all, has_value, kept_of, point_after, point_behind, steps_of_event, with_found}
+use Rattle.ee_store.specs.PowerCuts.Deciding.{ByFuse, event_at_once, answer_when_done, answer_when_cut, answer_by_power, answer_served, answer_met, event_answer, event_answers, device_served, left_by_steps, device_met, found_by, found_of, has_all, has_value, kept_of, point_after_event, point_behind_events, steps_of_event, noted_with}
 use Rattle.ee_store.specs.PowerCuts.Events.{AreTold, AreTurns, Happens, IsCalled, IsLookedFor, IsTurn, Turn, call_of_event, serves_after}
 use Rattle.ee_store.specs.declared.power_cuts.event.Answer.{Answer}
 use Rattle.ee_store.specs.declared.power_cuts.event.Answer.TheVariants.{NotCleared, NotForgotten, NotWritten, Off, Refused}
@@ -49,24 +49,24 @@ module _ (once : Option Answer) (steps : List Step) (whole cut : Answer) (old : 
   met_burnt burnt (WasCut none says among) = absurd (cut_burnt steps old new burnt among)
 
   abbrev left : Device
-  left = device_left once steps old
+  left = left_by_steps once steps old
 
   given : (now : Bool) → once ≡ None → new ≡ after_steps steps old → new.on ≡ now
       → answer ≡ cond now whole cut
-      → (answer ≡ answer_given once whole cut left) × (new ≡ left)
+      → (answer ≡ answer_by_power once whole cut left) × (new ≡ left)
   given now none same on says =
-      let is : new ≡ left = same ∙ sym (ap (λ one. device_left one steps old) none) in (
+      let is : new ≡ left = same ∙ sym (ap (λ one. left_by_steps one steps old) none) in (
         says
             ∙ ap (λ b. cond b whole cut) (sym on ∙ ap (λ (device : Device). device.on) is)
-            ∙ sym (ap (λ one. answer_given one whole cut left) none),
+            ∙ sym (ap (λ one. answer_by_power one whole cut left) none),
         is,
       )
 
   met_decided : IsOn old → HasFuse old → HasFuse new → Meets once steps whole cut old answer new
-      → (answer ≡ answer_given once whole cut left) × (new ≡ left)
+      → (answer ≡ answer_by_power once whole cut left) × (new ≡ left)
   met_decided on had has (AtOnce is same) = (
-    sym (ap (λ one. answer_given one whole cut left) is),
-    same ∙ sym (ap (λ one. device_left one steps old) is),
+    sym (ap (λ one. answer_by_power one whole cut left) is),
+    same ∙ sym (ap (λ one. left_by_steps one steps old) is),
   )
   met_decided on had has (Whole none says taken) =
       let by = completed_by_fuse steps old new had has on taken in
@@ -78,11 +78,11 @@ module _ (once : Option Answer) (steps : List Step) (whole cut : Answer) (old : 
 
 -- it does nothing, or its event is met on a device that is on
 data Turns (serving : Bool) (event : Event) (answer : Answer) (old new : Device) : Type 0 where
-  Idle : answer ≡ answer_in serving event old → new ≡ device_in serving event old → new ≡ old
-      → Turns serving event answer old new
+  Idle : answer ≡ answer_served serving event old → new ≡ device_served serving event old
+      → new ≡ old → Turns serving event answer old new
   Met : (begun : Device) → begun.fuse ≡ old.fuse → begun.cuts_left ≡ old.cuts_left → IsOn begun
-      → answer_in serving event old ≡ answer_met event begun
-      → device_in serving event old ≡ device_met event begun → IsMet event begun answer new
+      → answer_served serving event old ≡ answer_met event begun
+      → device_served serving event old ≡ device_met event begun → IsMet event begun answer new
       → Turns serving event answer old new
 
 stands_on : (device : Device) → IsGood device
@@ -143,24 +143,24 @@ module _ (serving : Bool) (event : Event) (answer : Answer) (old new : Device) w
   turn_known : HasFuse old → Turns serving event answer old new → IsKnown new
   turn_known has (Idle says leaves same) = inl (subst HasFuse (sym same) has)
   turn_known has (Met begun fuse cuts on says leaves met) =
-      met_known (answer_at_once event begun) (steps_of_event event begun)
-      (answer_behind event begun) (answer_cut event) begun answer new
+      met_known (event_at_once event begun) (steps_of_event event begun)
+      (answer_when_done event begun) (answer_when_cut event) begun answer new
       (inl (has_as old begun fuse cuts has)) met
 
   turn_burnt : IsBurnt old → Turns serving event answer old new → IsBurnt new
   turn_burnt burnt (Idle says leaves same) = subst IsBurnt (sym same) burnt
   turn_burnt burnt (Met begun fuse cuts on says leaves met) =
-      met_burnt (answer_at_once event begun) (steps_of_event event begun)
-      (answer_behind event begun) (answer_cut event) begun answer new
+      met_burnt (event_at_once event begun) (steps_of_event event begun)
+      (answer_when_done event begun) (answer_when_cut event) begun answer new
       (burnt_as old begun fuse cuts burnt) met
 
   turn_decided : HasFuse old → HasFuse new → Turns serving event answer old new
-      → (answer ≡ answer_in serving event old) × (new ≡ device_in serving event old)
+      → (answer ≡ answer_served serving event old) × (new ≡ device_served serving event old)
   turn_decided had has (Idle says leaves same) = (says, leaves)
   turn_decided had has (Met begun fuse cuts on says leaves met) =
       let is =
-      met_decided (answer_at_once event begun) (steps_of_event event begun)
-      (answer_behind event begun) (answer_cut event) begun answer new on
+      met_decided (event_at_once event begun) (steps_of_event event begun)
+      (answer_when_done event begun) (answer_when_cut event) begun answer new on
       (has_as old begun fuse cuts had) has met in
       (is.0 ∙ sym says, is.1 ∙ sym leaves)
 
@@ -244,14 +244,14 @@ abbrev events_in : List Turn → List Event
 events_in turns = map (λ turn. turn.event) turns
 
 record AreDecided (turns : List Turn) (old new : Point) : Type 0 where
-  log : map (λ turn. turn.answer) turns ≡ answers_of (events_in turns) old
+  log : map (λ turn. turn.answer) turns ≡ event_answers (events_in turns) old
   kept : filter_map (λ turn. turn.found) turns ≡ kept_of (events_in turns) old
-  end : new ≡ point_behind (events_in turns) old
+  end : new ≡ point_behind_events (events_in turns) old
 
 noted : (event : Event) (answer : Answer) (found : Option Bool) (turns : List Turn)
     → filter_map (λ (one : Turn). one.found)
     (record { event = event; answer = answer; found = found } ∷ turns)
-    ≡ with_found found (filter_map (λ (one : Turn). one.found) turns)
+    ≡ noted_with found (filter_map (λ (one : Turn). one.found) turns)
 noted event answer None turns = refl
 noted event answer (Some found) turns = refl
 
@@ -276,26 +276,26 @@ turns_decided (turn ∷ turns) old new stands had has run =
           absurd (not_burnt new.device has (burnt_end turns mid new next burnt run.2))
     ] in
     let one = turn_decided old.serving event turn.answer old.device mid.device had has_mid so in
-    let after = point_after event old in
+    let after = point_after_event event old in
     let left : mid ≡ after =
     point_is mid after.serving after.device
     (run.1.serving_is ∙ ap (serves_after old.serving) one.0) one.1 in
     let found : turn.found ≡ found_of event old =
     found_is event turn.answer turn.found mid.device run.1.looked
     ∙ ap (λ (answer : Answer). found_by event answer (state_of mid.device).map) one.0
-    ∙ ap (λ (device : Device). found_by event (answer_of event old) (state_of device).map)
+    ∙ ap (λ (device : Device). found_by event (event_answer event old) (state_of device).map)
     one.1 in
     let rest = turns_decided turns mid new next has_mid has run.2 in
     record {
       log = ap (λ (answer : Answer). answer ∷ map (λ turn. turn.answer) turns) one.0
-          ∙ ap (λ (more : List Answer). answer_of event old ∷ more)
-          (rest.log ∙ ap (answers_of (events_in turns)) left);
+          ∙ ap (λ (more : List Answer). event_answer event old ∷ more)
+          (rest.log ∙ ap (event_answers (events_in turns)) left);
       kept = noted event turn.answer turn.found turns
-          ∙ ap (λ (one : Option Bool). with_found one (filter_map (λ turn. turn.found) turns))
+          ∙ ap (λ (one : Option Bool). noted_with one (filter_map (λ turn. turn.found) turns))
           found
-          ∙ ap (with_found (found_of event old))
+          ∙ ap (noted_with (found_of event old))
           (rest.kept ∙ ap (kept_of (events_in turns)) left);
-      end = rest.end ∙ ap (point_behind (events_in turns)) left;
+      end = rest.end ∙ ap (point_behind_events (events_in turns)) left;
     }
 
 stands_closed : (device : Device) → IsGood device
@@ -313,10 +313,10 @@ decided turns old new events log kept end told run same had has stands =
     (subst HasFuse same has) run in
     record {
       log_is = sym told.log_is ∙ is.log
-          ∙ ap (λ (list : List Event). answers_of list (closed_point old)) told.events_are;
+          ∙ ap (λ (list : List Event). event_answers list (closed_point old)) told.events_are;
       kept_is = sym told.kept_is ∙ is.kept
           ∙ ap (λ (list : List Event). kept_of list (closed_point old)) told.events_are;
       device_is = same ∙ ap (λ (point : Point). point.device) is.end
-          ∙ ap (λ (list : List Event). (point_behind list (closed_point old)).device)
+          ∙ ap (λ (list : List Event). (point_behind_events list (closed_point old)).device)
           told.events_are;
     }

@@ -35,7 +35,7 @@ use Rattle.ee_core.specs.declared.variables.WriteFault.TheVariants as write
 use Rattle.ee_core.specs.declared.variables.Written.TheVariants.{Appended, Moved}
 use Rattle.ee_store.proofs.PowerCutsLemmas.FirstStores.{first}
 use Rattle.ee_store.proofs.PowerCutsLemmas.Refusals.{both_true, first_found, first_none, not_refused, refused_place, refused_spent, twice_within}
-use Rattle.ee_store.specs.PowerCuts.Deciding.{answer_at_once, answer_behind, answer_cut, fault_of, first_of, list_at_once, refusal_of, steps_of_event, written_by}
+use Rattle.ee_store.specs.PowerCuts.Deciding.{event_at_once, answer_when_done, answer_when_cut, fault_of, first_of, list_at_once, refusal_of, steps_of_event, written_by}
 use Rattle.ee_store.specs.PowerCuts.Events.{IsCalled, Reopens, StartsUp, call_of_event}
 use Rattle.ee_store.specs.declared.power_cuts.event.Answer.{Answer}
 use Rattle.ee_store.specs.declared.power_cuts.event.Answer.TheVariants.{Cleaned, Cleared, Done, NotCleared, NotForgotten, NotOpened, NotWritten, Opened, Refused, Value}
@@ -55,8 +55,8 @@ pub data Meets (once : Option Answer) (steps : List Step) (whole cut : Answer) (
 
 abbrev pub IsMet : Event → Device → Answer → Device → Type 0
 IsMet event old answer new =
-    Meets (answer_at_once event old) (steps_of_event event old) (answer_behind event old)
-    (answer_cut event) old answer new
+    Meets (event_at_once event old) (steps_of_event event old) (answer_when_done event old)
+    (answer_when_cut event) old answer new
 
 module _ (old : Device) where
   abbrev slots : ℕ
@@ -162,8 +162,8 @@ module _ (old : Device) where
         is_spent (NotForgotten forget.Absent) (NotForgotten forget.Spent) (NotForgotten forget.Cut)
         (meaning.Forget address ∷ []) called.1.1 called.1.2 called.1.3
     forget_met address (NotForgotten forget.Cut) called =
-        cut_making (NotForgotten forget.Absent) (NotForgotten forget.Spent) (NotForgotten forget.Cut)
-        (meaning.Forget address ∷ []) called.1
+        cut_making (NotForgotten forget.Absent) (NotForgotten forget.Spent)
+        (NotForgotten forget.Cut) (meaning.Forget address ∷ []) called.1
     forget_met address answer called = absurd called
 
     -- ---- a list
@@ -247,7 +247,7 @@ module _ (old : Device) where
     abbrev is_last : Bool
     is_last = state.generation == greatest_generation
 
-    clear_goes : MayClear old → answer_at_once Clear old ≡ None
+    clear_goes : MayClear old → event_at_once Clear old ≡ None
     clear_goes may =
         ap (λ b. cleared_by b is_last)
         (ne_eqb state.fill 0 (λ none. let some = may.used in omega (arith, some, none)))
@@ -268,7 +268,7 @@ module _ (old : Device) where
     clear_met (NotCleared clear.Cut) called = WasCut (clear_goes called.1.may) refl called.1.steps
     clear_met answer called = absurd called
 
-    clean_goes : 0 < state.pending → answer_at_once Clean old ≡ None
+    clean_goes : 0 < state.pending → event_at_once Clean old ≡ None
     clean_goes some =
         ap (λ b. cond b (Some (Cleaned false)) None)
         (ne_eqb state.pending 0 (λ none. omega (arith, some, none)))

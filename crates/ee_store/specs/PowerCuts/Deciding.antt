@@ -35,6 +35,7 @@ use Rattle.ee_store.specs.declared.power_cuts.event.Event.TheVariants.{Clean, Cl
 
 -- ---- refusals
 
+-- there is no slot for the address of a put, or no value to forget
 abbrev pub has_no_place : ℕ → State → Change → Bool
 has_no_place slots state (meaning.Put address value) =
     not (is_some (state.map address)) && (live_in state.map == slots)
@@ -78,26 +79,26 @@ abbrev pub fault_of : Device → ScanFault
 fault_of device = if list_all is_blank device.image then Unformatted else NoLiveSet
 
 -- the answer that takes no step
-abbrev pub answer_at_once : Event → Device → Option Answer
-answer_at_once (Put address value) device =
+abbrev pub event_at_once : Event → Device → Option Answer
+event_at_once (Put address value) device =
     refusal_of (Refused write.Full) (Refused write.Spent) (meaning.Put address value ∷ [])
     (capacity device) (state_of device)
-answer_at_once (PutAll puts) device =
+event_at_once (PutAll puts) device =
     list_at_once (first_of (is_twice puts.now) 0 (length puts.now)) (puts_of puts.now)
     (capacity device) (state_of device)
-answer_at_once (Forget address) device =
+event_at_once (Forget address) device =
     refusal_of (NotForgotten forget.Absent) (NotForgotten forget.Spent)
     (meaning.Forget address ∷ []) (capacity device) (state_of device)
-answer_at_once (Get address) device = Some (Value ((state_of device).map address))
-answer_at_once Clear device =
+event_at_once (Get address) device = Some (Value ((state_of device).map address))
+event_at_once Clear device =
     if (state_of device).fill == 0 then Some (Cleared false)
     else (if (state_of device).generation == greatest_generation then
     Some (NotCleared clear.Spent)
     else None)
-answer_at_once Clean device = if (state_of device).pending == 0 then Some (Cleaned false) else None
-answer_at_once Reopen device =
+event_at_once Clean device = if (state_of device).pending == 0 then Some (Cleaned false) else None
+event_at_once Reopen device =
     if is_some (live_of device) then None else Some (NotOpened (opening.Scan (fault_of device)))
-answer_at_once Start device = None
+event_at_once Start device = None
 
 -- else the steps that are taken
 abbrev pub steps_of_event : Event → Device → List Step
@@ -119,68 +120,70 @@ written_by (change ∷ []) device =
 written_by changes device = Moved
 
 -- the answer behind all of them
-abbrev pub answer_behind : Event → Device → Answer
-answer_behind (Put address value) device =
+abbrev pub answer_when_done : Event → Device → Answer
+answer_when_done (Put address value) device =
     Done (written_by (meaning.Put address value ∷ []) device)
-answer_behind (PutAll puts) device = Done (written_by (puts_of puts.now) device)
-answer_behind (Forget address) device = Done (written_by (meaning.Forget address ∷ []) device)
-answer_behind (Get address) device = Off
-answer_behind Clear device = Cleared true
-answer_behind Clean device = Cleaned true
-answer_behind Reopen device = Opened
-answer_behind Start device = Opened
+answer_when_done (PutAll puts) device = Done (written_by (puts_of puts.now) device)
+answer_when_done (Forget address) device = Done (written_by (meaning.Forget address ∷ []) device)
+answer_when_done (Get address) device = Off
+answer_when_done Clear device = Cleared true
+answer_when_done Clean device = Cleaned true
+answer_when_done Reopen device = Opened
+answer_when_done Start device = Opened
 
 -- and behind a cut
-abbrev pub answer_cut : Event → Answer
-answer_cut (PutAll puts) = NotWritten all.Cut
-answer_cut (Forget address) = NotForgotten forget.Cut
-answer_cut Clear = NotCleared clear.Cut
-answer_cut Reopen = NotOpened opening.Cut
-answer_cut Start = NotOpened opening.Cut
-answer_cut event = Refused write.Cut
+abbrev pub answer_when_cut : Event → Answer
+answer_when_cut (PutAll puts) = NotWritten all.Cut
+answer_when_cut (Forget address) = NotForgotten forget.Cut
+answer_when_cut Clear = NotCleared clear.Cut
+answer_when_cut Reopen = NotOpened opening.Cut
+answer_when_cut Start = NotOpened opening.Cut
+answer_when_cut event = Refused write.Cut
 
 -- ---- an event
 
-abbrev pub device_left : Option Answer → List Step → Device → Device
-device_left (Some answer) steps device = device
-device_left None steps device = after_steps steps device
+-- what is answered at once leaves the device as it is
+abbrev pub left_by_steps : Option Answer → List Step → Device → Device
+left_by_steps (Some answer) steps device = device
+left_by_steps None steps device = after_steps steps device
 
-abbrev pub answer_given : Option Answer → Answer → Answer → Device → Answer
-answer_given (Some answer) whole cut new = answer
-answer_given None whole cut new = if new.on then whole else cut
+-- where the steps leave it off, power was cut in one
+abbrev pub answer_by_power : Option Answer → Answer → Answer → Device → Answer
+answer_by_power (Some answer) whole cut new = answer
+answer_by_power None whole cut new = if new.on then whole else cut
 
 -- on a device that is on
 abbrev pub device_met : Event → Device → Device
 device_met event device =
-    device_left (answer_at_once event device) (steps_of_event event device) device
+    left_by_steps (event_at_once event device) (steps_of_event event device) device
 
 abbrev pub answer_met : Event → Device → Answer
 answer_met event device =
-    answer_given (answer_at_once event device) (answer_behind event device) (answer_cut event)
-    (device_met event device)
+    answer_by_power (event_at_once event device) (answer_when_done event device)
+    (answer_when_cut event) (device_met event device)
 
 -- where no store is open, an event but an opening does nothing
-abbrev pub device_in : Bool → Event → Device → Device
-device_in serving Reopen device = device_met Reopen (with_power_on device)
-device_in serving Start device = device_met Start (with_power_on device)
-device_in true event device = device_met event device
-device_in false event device = device
+abbrev pub device_served : Bool → Event → Device → Device
+device_served serving Reopen device = device_met Reopen (with_power_on device)
+device_served serving Start device = device_met Start (with_power_on device)
+device_served true event device = device_met event device
+device_served false event device = device
 
-abbrev pub answer_in : Bool → Event → Device → Answer
-answer_in serving Reopen device = answer_met Reopen (with_power_on device)
-answer_in serving Start device = answer_met Start (with_power_on device)
-answer_in true event device = answer_met event device
-answer_in false event device = Off
+abbrev pub answer_served : Bool → Event → Device → Answer
+answer_served serving Reopen device = answer_met Reopen (with_power_on device)
+answer_served serving Start device = answer_met Start (with_power_on device)
+answer_served true event device = answer_met event device
+answer_served false event device = Off
 
 -- what an event is answered
-abbrev pub answer_of : Event → Point → Answer
-answer_of event old = answer_in old.serving event old.device
+abbrev pub event_answer : Event → Point → Answer
+event_answer event old = answer_served old.serving event old.device
 
 -- and what it leaves
-abbrev pub point_after : Event → Point → Point
-point_after event old = record {
-  serving = serves_after old.serving (answer_of event old);
-  device = device_in old.serving event old.device;
+abbrev pub point_after_event : Event → Point → Point
+point_after_event event old = record {
+  serving = serves_after old.serving (event_answer event old);
+  device = device_served old.serving event old.device;
 }
 
 -- ---- what is looked for
@@ -203,33 +206,34 @@ found_by event answer map = None
 
 abbrev pub found_of : Event → Point → Option Bool
 found_of event old =
-    found_by event (answer_of event old) (state_of (point_after event old).device).map
+    found_by event (event_answer event old) (state_of (point_after_event event old).device).map
 
 -- ---- events, one after another
 
-abbrev pub answers_of : List Event → Point → List Answer
-answers_of [] old = []
-answers_of (event ∷ events) old = answer_of event old ∷ answers_of events (point_after event old)
+abbrev pub event_answers : List Event → Point → List Answer
+event_answers [] old = []
+event_answers (event ∷ events) old =
+    event_answer event old ∷ event_answers events (point_after_event event old)
 
-abbrev pub with_found : Option Bool → List Bool → List Bool
-with_found None kept = kept
-with_found (Some found) kept = found ∷ kept
+abbrev pub noted_with : Option Bool → List Bool → List Bool
+noted_with None kept = kept
+noted_with (Some found) kept = found ∷ kept
 
 abbrev pub kept_of : List Event → Point → List Bool
 kept_of [] old = []
 kept_of (event ∷ events) old =
-    with_found (found_of event old) (kept_of events (point_after event old))
+    noted_with (found_of event old) (kept_of events (point_after_event event old))
 
-abbrev pub point_behind : List Event → Point → Point
-point_behind [] old = old
-point_behind (event ∷ events) old = point_behind events (point_after event old)
+abbrev pub point_behind_events : List Event → Point → Point
+point_behind_events [] old = old
+point_behind_events (event ∷ events) old = point_behind_events events (point_after_event event old)
 
 -- the answers, what was found and the device are those of the functions
 pub record IsDecided (old : Device) (events : List Event) (log : List Answer) (kept : List Bool)
     (new : Device) : Type 0 where
-  pub log_is : log ≡ answers_of events (closed_point old)
+  pub log_is : log ≡ event_answers events (closed_point old)
   pub kept_is : kept ≡ kept_of events (closed_point old)
-  pub device_is : new ≡ (point_behind events (closed_point old)).device
+  pub device_is : new ≡ (point_behind_events events (closed_point old)).device
 
 -- So it is of a device whose fuse is known, before and behind the events, as that of one in memory
 -- is, from a legal image and from one on which no value was ever stored.
