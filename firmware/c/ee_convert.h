@@ -16,7 +16,7 @@ extern "C" {
  * commits that set is the last word: until it stands the store is one of words, and from then on a coded one, of generation 1. Else
  * it is what ee_start does. Then each page of the old set is erased, so none waits. No rescue is needed behind a cut: call it again.
  *
- * Three calls follow one another on the flash, so its driver is asked for words of both kinds. It takes 200 bytes of stack beside
+ * Three calls follow one another on the flash, so its driver is asked for words of both kinds. It takes 220 bytes of stack beside
  * those of ee_write. Only an older firmware can't open what it left.
  *
  * EE_OK; what ee_start answers; what ee_open answers for the words, but for EE_UNFORMATTED and EE_NO_LIVE_SET; EE_WRONG_SHAPE also for
