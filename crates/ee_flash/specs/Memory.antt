@@ -1,5 +1,5 @@
 -- A device in memory, with its fuse.
-use Rattle.std.specs.Prelude.{◌≡◌, ℕ, Option, Some, None, is_some, if◌then◌else◌}
+use Rattle.std.specs.Prelude.{◌≡◌, ℕ, Some, None, is_some, if◌then◌else◌}
 use Rattle.ee_flash.specs.Device.{Device, IsOn}
 use Rattle.ee_flash.specs.Step.{Step, device_by_fuse, one_more, with_fuse_burnt, with_power_cut}
 use Rattle.ee_flash.specs.Fuse.{cuts_left_of, known_tear}

@@ -1,8 +1,7 @@
 -- Why the number of a word shows as it is what a reading has to show.
-use Rattle.std.specs.Prelude.{◌≡◌, ◌⊎◌, ◌<◌, ◌%◌, ◌^◌, ℕ}
-use Rattle.std.proofs.Common.{ap, arith, inl, inr, refl, sym, ◌∙◌}
+use Rattle.std.specs.Prelude.{◌≡◌, ◌%◌, ◌^◌, ℕ}
+use Rattle.std.proofs.Common.{ap, arith, refl, sym, ◌∙◌}
 use Rattle.ee_flash.specs.Device.{IsBelowAllOnes, all_ones}
-use Rattle.ee_flash.specs.Numbers.{IsSlotNumber}
 use Rattle.ee_flash.specs.Runs.{IsOwnReading, IsShownBy, number_of}
 use Rattle.ee_flash.specs.declared.word.Word.{Word}
 use Rattle.ee_flash.specs.declared.word.Word.TheVariants.{Erased, Held, Torn}

@@ -1,5 +1,5 @@
 -- Words of a page one behind another, as numbers, and as what they read as.
-use Rattle.std.specs.Prelude.{◌≡◌, ◌<◌, ◌⊎◌, ℕ, ◌%◌, ◌^◌, ◌==◌, ◌&&◌, if◌then◌else◌, Bool, true, false, List, [], ◌∷◌, length, map, take, drop, slice_index, slice_index_or}
+use Rattle.std.specs.Prelude.{◌≡◌, ◌<◌, ◌⊎◌, ℕ, ◌%◌, ◌^◌, ◌==◌, ◌&&◌, if◌then◌else◌, Bool, true, false, List, [], ◌∷◌, length, take, drop, slice_index, slice_index_or}
 use Rattle.ee_flash.specs.Device.{Device, IsBelowAllOnes, all_ones, page_at}
 use Rattle.ee_flash.specs.Numbers.{IsSlotNumber}
 use Rattle.ee_flash.specs.declared.word.Word.{Word}

@@ -65,8 +65,8 @@ pub trait Flash {
     fn number(&self, reading: u64) -> u64
         ensures { (word : Word) → reads self.now word reading → result ≡ number_of word };
 
-    /// What a reading says of a slot with no check: its number, which a torn word may seem to hold.
-    /// One that ends in 65535 may be that of any word.
+    /// What stands in a reading with no check. Of a word that holds a slot's number it is that
+    /// number; where it is one that ends in less than 65535, the word holds it or is torn.
     fn in_clear(&self, reading: u64) -> u64
         ensures { (word : Word) → reads self.now word reading → IsInClear word result };
 

@@ -1,16 +1,14 @@
 -- The numbers of words one behind another.
-use Rattle.std.proofs.Common.{◌≡◌, ℕ, ◌+◌, ◌-◌, ◌*◌, ◌<◌, ◌≤◌, List, [], length, get_or, map, take, drop, sym, ap, ◌∙◌, arith}
-use Rattle.std.proofs.lemmas.List.{get_or-drop, get_or-map, get_or-take, length-map, length-take, length-drop}
+use Rattle.std.proofs.Common.{◌≡◌, ℕ, ◌+◌, ◌-◌, ◌*◌, ◌<◌, ◌≤◌, List, length, get_or, take, drop, sym, ap, ◌∙◌, arith}
+use Rattle.std.proofs.lemmas.List.{get_or-drop, get_or-take}
 use Rattle.std.proofs.lemmas.List.FromFn.{get_or-map-range_with_len, length-map-range_with_len}
 use Rattle.std.proofs.lemmas.Grind.{same_number_lists}
-use Rattle.ee_flash.specs.Device.{all_ones, page_at}
+use Rattle.ee_flash.specs.Device.{all_ones}
 use Rattle.ee_flash.specs.Runs.{AreReadings, IsOwnReading, number_of, words_from}
 use Rattle.ee_flash.proofs.Public.{read_by_place}
 use Rattle.ee_flash.specs.Size.{page_count}
-use Rattle.ee_flash.specs.declared.word.Word.{Word}
-use Rattle.ee_flash.specs.declared.word.Word.TheVariants.{Erased}
 use Rattle.ee_nor.specs.Nor.{IsNorFormed, NorDevice, number_in, numbers_at}
-use Rattle.ee_nor.specs.Pairs.{AreHigh, run_of_pairs, pair_in, pair_words, paired_device}
+use Rattle.ee_nor.specs.Pairs.{AreHigh, run_of_pairs, pair_in, paired_device}
 use Rattle.ee_nor.specs.Formed.{pairs_are_formed}
 use Rattle.ee_nor.proofs.Steps.{word_there}
 

@@ -1,16 +1,16 @@
 -- Runs of the slots of a set: the words of a page, by their readings.
-use Rattle.std.proofs.Common.{◌≡◌, ℕ, ◌+◌, ◌-◌, ◌*◌, ◌<◌, ◌≤◌, ◌/◌, ◌%◌, ◌^◌, Option, None, Some, List, [], ◌∷◌, ◌++◌, length, map, take, drop, get_or, refl, sym, subst, ap, ◌∙◌, arith}
+use Rattle.std.proofs.Common.{◌≡◌, ℕ, ◌+◌, ◌-◌, ◌*◌, ◌<◌, ◌≤◌, ◌%◌, ◌^◌, None, List, [], ◌++◌, length, take, drop, get_or, sym, subst, ap, ◌∙◌, arith}
 use Rattle.std.proofs.Math.Seq.{take-add}
 use Rattle.std.proofs.lemmas.List.{ext_get_or, get_or-drop, get_or-take, length-drop, length-take-le}
 use Rattle.std.specs.Prelude.{◌≢◌}
 use Rattle.ee_flash.specs.Device.{Device, IsFormed, page_at, word_at}
-use Rattle.ee_flash.specs.Runs.{AreReadings, IsShownBy, number_of, words_from}
+use Rattle.ee_flash.specs.Runs.{AreReadings, IsShownBy, words_from}
 use Rattle.ee_flash.specs.Size.{page_count}
 use Rattle.ee_flash.specs.declared.word.Word.{Word}
-use Rattle.ee_flash.specs.declared.word.Word.TheVariants.{Erased, Held, Torn}
+use Rattle.ee_flash.specs.declared.word.Word.TheVariants.{Erased}
 use Rattle.ee_flash.proofs.Public.{length-page_at}
-use Rattle.ee_pages.specs.Meaning.{later_of, latest_in, says}
-use Rattle.ee_pages.specs.Nearest.{Named, noted_above, slot_names, with_each_named}
+use Rattle.ee_pages.specs.Meaning.{latest_in, says}
+use Rattle.ee_pages.specs.Nearest.{Named, with_each_named}
 use Rattle.ee_pages.specs.Sets.{first_page, set_of, slots_of}
 use Rattle.ee_pages.specs.declared.side.Side.{Side}
 use Rattle.ee_pages.specs.declared.side.Side.TheVariants.{First, Second}

@@ -1,11 +1,11 @@
 -- What slots say of the addresses of a span, the newest first.
-use Rattle.std.proofs.Common.{◌≡◌, ℕ, ◌+◌, ◌-◌, ◌*◌, ◌<◌, ◌≤◌, Option, Some, None, true, List, [], ◌∷◌, length, map, take, drop, get_or, is_some, refl, sym, subst, ap, ◌∙◌, arith, suc, zero}
-use Rattle.std.proofs.lemmas.List.{drop-drop, drop-take, get_or-map, length-map, take-take}
+use Rattle.std.proofs.Common.{◌≡◌, ℕ, ◌+◌, ◌-◌, ◌*◌, ◌<◌, ◌≤◌, Option, Some, None, true, List, [], ◌∷◌, length, take, drop, get_or, is_some, refl, sym, subst, ap, ◌∙◌, arith, suc, zero}
+use Rattle.std.proofs.lemmas.List.{drop-drop, drop-take, take-take}
 use Rattle.std.proofs.lemmas.Simd.{chunk-drop}
-use Rattle.ee_flash.specs.Device.{Device, IsFormed, page_at}
+use Rattle.ee_flash.specs.Device.{Device, IsFormed}
 use Rattle.ee_flash.specs.Runs.{words_from}
 use Rattle.ee_flash.specs.declared.word.Word.{Word}
-use Rattle.ee_flash.specs.declared.word.Word.TheVariants.{Erased, Held}
+use Rattle.ee_flash.specs.declared.word.Word.TheVariants.{Erased}
 use Rattle.ee_pages.specs.Meaning.{later_of, latest_in, meaning, says, value_said}
 use Rattle.ee_pages.specs.Sets.{first_page, set_of, slots_of}
 use Rattle.ee_pages.specs.Spans.{AreSaidTo, IsSpan, Span, TellsBefore, span_says}

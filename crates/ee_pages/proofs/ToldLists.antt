@@ -1,11 +1,11 @@
 -- What slots say of a list of addresses, part after part.
 use Rattle.std.proofs.Common.{◌≡◌, ℕ, ◌+◌, ◌-◌, ◌*◌, ◌<◌, ◌≤◌, Option, Some, None, true, false, List, [], ◌∷◌, ◌++◌, length, map, take, drop, get_or, set, is_some, refl, sym, ap, ◌∙◌, arith, suc, zero}
-use Rattle.std.proofs.lemmas.List.{drop-drop, get_or-map, get_or_default, length-map, set-get_or}
+use Rattle.std.proofs.lemmas.List.{drop-drop, get_or_default, set-get_or}
 use Rattle.std.proofs.Math.Seq.{take-add}
-use Rattle.ee_flash.specs.Device.{Device, IsFormed, page_at}
+use Rattle.ee_flash.specs.Device.{Device, IsFormed}
 use Rattle.ee_flash.specs.Runs.{words_from}
 use Rattle.ee_flash.specs.declared.word.Word.{Word}
-use Rattle.ee_flash.specs.declared.word.Word.TheVariants.{Erased, Held}
+use Rattle.ee_flash.specs.declared.word.Word.TheVariants.{Erased}
 use Rattle.ee_pages.specs.Loading.{loaded, told, value_over}
 use Rattle.ee_pages.specs.Layout.{IsLayout}
 use Rattle.ee_pages.specs.Meaning.{later_of, latest_in, meaning, says, value_said}
@@ -13,7 +13,7 @@ use Rattle.ee_pages.specs.Sets.{first_page, set_of, slots_of}
 use Rattle.ee_pages.specs.declared.find.Layout.{Layout}
 use Rattle.ee_pages.specs.declared.side.Side.{Side}
 use Rattle.ee_pages.specs.declared.loading.Wanted.{Wanted}
-use Rattle.ee_pages.proofs.LastSaid.{latest_in-append, latest_in-drop, latest_in-row, latest_in-step, silent_behind}
+use Rattle.ee_pages.proofs.LastSaid.{latest_in-append, latest_in-drop, latest_in-row, silent_behind}
 use Rattle.ee_pages.proofs.RunSlots.{words_here}
 use Rattle.ee_pages.proofs.SpanTells.{one_before}
 

@@ -1,16 +1,13 @@
 -- What the numbers of a page read as, one behind another.
-use Rattle.std.proofs.Common.{◌≡◌, ℕ, ◌+◌, ◌<◌, ◌≤◌, Option, None, Some, List, [], length, get_or, map, take, drop, refl, sym, ap, ◌∙◌, arith}
+use Rattle.std.proofs.Common.{◌≡◌, ℕ, ◌+◌, ◌<◌, ◌≤◌, Option, None, Some, List, length, get_or, refl, sym, ap, ◌∙◌, arith}
 use Rattle.std.specs.Prelude.{unwrap_or}
-use Rattle.std.proofs.lemmas.List.{get_or-drop, get_or-map, get_or-take, length-map, length-take, length-drop}
 use Rattle.std.proofs.lemmas.List.FromFn.{get_or-map-range_with_len, length-map-range_with_len}
 use Rattle.std.proofs.lemmas.Grind.{same_number_lists}
-use Rattle.ee_flash.specs.Device.{all_ones, page_at}
 use Rattle.ee_flash.specs.Runs.{AreReadings, words_from}
 use Rattle.ee_flash.specs.Size.{Size, page_count}
-use Rattle.ee_flash.specs.declared.word.Word.{Word}
-use Rattle.ee_flash.specs.declared.word.Word.TheVariants.{Erased, Torn}
+use Rattle.ee_flash.specs.declared.word.Word.TheVariants.{Torn}
 use Rattle.ee_nor.specs.Coded.Code.{codeword, mixed_bits, parity_bits, weight_row}
-use Rattle.ee_nor.specs.Coded.Coded.{ReadsCoded, coded_device, coded_word, readings_from, word_of_ecc, word_read}
+use Rattle.ee_nor.specs.Coded.Coded.{ReadsCoded, coded_device, coded_word, readings_from, word_read}
 use Rattle.ee_nor.specs.Coded.EccNor.{EccDevice, EccNumber, IsEccFormed, ecc_at, ecc_in, ecc_page}
 use Rattle.ee_nor.specs.Coded.Formed.{coded_is_formed}
 use Rattle.ee_nor.proofs.CodedLemmas.Steps.{word_there}

@@ -8,7 +8,7 @@ use Rattle.ee_flash.specs.Device.{all_ones}
 use Rattle.ee_flash.specs.Size.{page_count}
 use Rattle.ee_nor.specs.Coded.Coded.{AllOverCoded}
 use Rattle.ee_nor.specs.Coded.EccNor.{EccDevice, EccNumber, EraseEcc, IsEccCutIn, IsEccFormed, IsEccNumber, IsEccUntouched, ecc_in, ecc_page, whole_number, with_ecc_erased}
-use Rattle.ee_nor.specs.Coded.Wiping.{IsEccWipeCut, MayBeNew, ecc_wiped_below, is_ecc_blank, is_ecc_written, is_other_read, with_all_ecc_wiped, with_ecc_wiped}
+use Rattle.ee_nor.specs.Coded.Wiping.{IsEccWipeCut, ecc_wiped_below, is_ecc_blank, is_ecc_written, is_other_read, with_all_ecc_wiped, with_ecc_wiped}
 use Rattle.ee_nor.proofs.CodedLemmas.Steps.{blank_number, number_formed}
 
 -- a page of which each number reads as erased is blank, and the other way round

@@ -1,4 +1,4 @@
-use Rattle.std.proofs.Common.{◌≡◌, ◌≤◌, ◌<◌, ◌%◌, ◌^◌, ◌-◌, ◌∙◌, arith, get_or, length, subst, sym}
+use Rattle.std.proofs.Common.{◌≡◌, ◌≤◌, ◌%◌, ◌^◌, ◌-◌, ◌∙◌, arith, get_or, length, subst, sym}
 use Rattle.ee_codec.specs.Words.{IsAddress}
 use Rattle.ee_flash.specs.declared.word.Word.TheVariants.{Erased}
 use Rattle.ee_pages.proofs.Readings.{said_of, silent_by}
