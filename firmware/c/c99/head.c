@@ -38,7 +38,7 @@
 #elif defined(EE_NO_CODED)
 #define EE_IS_OF_PAIRS(flash) ((flash)->kind != EE_WORDS)
 #else
-#define EE_IS_OF_PAIRS(flash) ((flash)->kind - EE_PAIRS <= EE_PAIRS_CLEARING - EE_PAIRS)
+#define EE_IS_OF_PAIRS(flash) ((flash)->kind == EE_PAIRS || (flash)->kind == EE_PAIRS_CLEARING)
 #endif
 #ifdef EE_NO_CODED
 #define EE_IS_CODED(flash) ((void)(flash), false)

@@ -69,7 +69,7 @@ void refused_flash(void) {
     case 5: flash.pages = Frama_C_unsigned_int_interval(65, UINT32_MAX); is_refused(&flash); break;
     case 6: flash.page_words = Frama_C_unsigned_int_interval(0, 4); is_refused(&flash); break;
     case 7: flash.page_words = Frama_C_unsigned_int_interval(513, UINT32_MAX); is_refused(&flash); break;
-    default: flash.kind = Frama_C_unsigned_int_interval(3, UINT32_MAX); is_refused(&flash); break;
+    default: flash.kind = Frama_C_unsigned_int_interval(4, UINT32_MAX); is_refused(&flash); break;
     }
 }
 
@@ -105,7 +105,7 @@ void stores_that_are_off(void) {
         .word = not_called_word,
         .program = not_called_program,
         .erase = not_called_erase,
-        .kind = Frama_C_unsigned_int_interval(0, 2),
+        .kind = Frama_C_unsigned_int_interval(0, 3),
         .words = any ? not_called_words : NULL,
     };
     ee_store store, copy, zeros = {0};

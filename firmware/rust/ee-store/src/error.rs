@@ -226,7 +226,7 @@ impl<E: fmt::Debug> fmt::Display for OpenError<E> {
                 write!(f, "word {at} of page {page} is not the store's")
             }
             OpenError::OtherShape { pages, words } => {
-                write!(f, "{}: {pages} pages of {words} words", self.text())
+                write!(f, "{}: pages {pages}, words {words}", self.text())
             }
             OpenError::Driver(error) => fmt::Display::fmt(error, f),
             _ => f.write_str(self.text()),

@@ -85,7 +85,7 @@ impl<E: Format> Format for OpenError<E> {
             OpenError::OtherShape { pages, words } => {
                 defmt::write!(
                     f,
-                    "{=str}: {=usize} pages of {=usize} words",
+                    "{=str}: pages {=usize}, words {=usize}",
                     self.text(),
                     *pages,
                     *words

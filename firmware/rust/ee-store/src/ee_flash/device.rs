@@ -38,8 +38,8 @@ pub trait Flash {
     /// tells a torn word from one that holds 0.
     fn number(&self, reading: u64) -> u64;
 
-    /// What a reading says of a slot with no check: its number, which a torn word may seem to hold.
-    /// One that ends in 65535 may be that of any word.
+    /// What stands in a reading with no check. Of a word that holds a slot's number it is that
+    /// number; where it is one that ends in less than 65535, the word holds it or is torn.
     fn in_clear(&self, reading: u64) -> u64;
 
     /// Programs an erased word with a number below `u64::MAX`, one of those that a store writes.
