@@ -43,10 +43,10 @@ module _ (old new : Device) (layout : Layout) (changes : List Change) (found : I
       where
     pub cut_by_move : IsCutMaking old changes new
     cut_by_move =
-        let is_cut = cut_taken (among_on proceeds.on steps) in
+        let stopped = cut_taken (among_on proceeds.on steps) in
         let few = few_pending new (other layout.side) formed in
-        cut_in_move old new layout.side layout.generation found.live is_cut
-        (omega (arith, few, ap (λ size. size.pages) is_cut.same_size))
+        cut_in_move old new layout.side layout.generation found.live stopped
+        (omega (arith, few, ap (λ size. size.pages) stopped.same_size))
         changes proceeds needed
         (live_or_moved old new layout.side layout.generation changes found.live cut.cut)
         (shows_cut_move old new layout.side layout.generation found.live changes
