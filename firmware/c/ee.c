@@ -4911,8 +4911,8 @@ static uint64_t coded_number(const EccNumbers *self, uint64_t reading) {
     return word_number(word_of_reading((*self).shape, maybe_u64_some(reading)));
 }
 
-/* What a reading says of a slot with no check: its number, which a torn word may seem to hold.
- * One that ends in 65535 may be that of any word. */
+/* What stands in a reading with no check. Of a word that holds a slot's number it is that
+ * number; where it is one that ends in less than 65535, the word holds it or is torn. */
 static uint64_t coded_in_clear(const EccNumbers *self, uint64_t reading) {
     (void)self;
     return without_check(reading);

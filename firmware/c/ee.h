@@ -60,7 +60,8 @@
  *
  * ee.c leaves calls out where these are defined, for a program that makes none of them: EE_NO_LISTS ee_write_all, EE_NO_FORGET
  * ee_forget and ee_forget_all, EE_NO_RESCUE ee_rescue, ee_bad_words, ee_foreign_word, ee_word_of and ee_other_shape, EE_NO_OPEN
- * ee_open and ee_format. With EE_NO_PAIRS it takes no pairs, with EE_NO_CODED no coded words. With EE_INDEX it takes an index (ee_index).
+ * ee_open and ee_format. With EE_NO_PAIRS it takes no pairs, with EE_NO_CODED no coded words. With EE_INDEX it takes an index
+ * (ee_index).
  *
  * The stack that a call takes, beside what the three functions take, is in README.md and ../RESULTS.md.
  */

@@ -53,8 +53,8 @@ typedef struct sim_ecc {
 /* A new part: all erased, and on. */
 void sim_ecc_new(sim_ecc *part, uint32_t pages, uint32_t page_words, uint64_t seed);
 
-/* What the store reaches the part by: words, EE_WORDS. Its driver says EE_TORN of an error that the code tells, and of all ones that
- * needed a correction. */
+/* What the store reaches the part by: words, EE_WORDS; a test may set `kind` to EE_CODED. Its driver says EE_TORN of an error that
+ * the code tells, and of all ones that needed a correction. */
 ee_flash sim_ecc_flash(sim_ecc *part);
 
 /* Cuts power in a further step, the next is 1, in place of a cut that was to come; 0: in none. */
