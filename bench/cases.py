@@ -36,12 +36,6 @@ LIMITS = [
 LIMITS += [10**19, 10**20, 10**40]
 
 
-def image_text(pages, words, rows=()):
-    """An image of these pages, each its wear and its words, with blank ones behind them."""
-    blank = ["0" + " -" * words] * (2 * pages - len(rows))
-    return "\n".join([f"ee {pages} {words}", *map(" ".join, rows), *blank, ""]).encode()
-
-
 def script_text(*lines):
     return "".join(line + "\n" for line in lines).encode()
 
@@ -184,7 +178,7 @@ def random_image(dice, pages, words, addresses):
         row = dice.choice(rows)
         written = [at for at, word in enumerate(row) if word != "-"]
         row[dice.choice(written or range(words))] = odd_word(dice)
-    return image_text(pages, words, [[str(random_wear(dice)), *row] for row in rows])
+    return worked.image_of(pages, words, [[str(random_wear(dice)), *row] for row in rows])
 
 
 def random_command(dice, kind, addresses):

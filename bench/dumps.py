@@ -9,8 +9,7 @@ import time
 from collections import namedtuple
 from itertools import product
 
-import cases
-from tools import trying
+from tools import trying, worked
 
 # The sizes that are tried: the least, one page of 2 KiB, and the greatest.
 PAGES, WORDS = 64, 512
@@ -68,7 +67,7 @@ def paired(dump):
 def image_text(texts, pages, words):
     """The image of words with these texts, whose pages were never erased."""
     rows = [["0", *texts[at : at + words]] for at in range(0, 2 * pages * words, words)]
-    return cases.image_text(pages, words, rows)
+    return worked.image_of(pages, words, rows)
 
 
 def image_of(dump, pages, words):

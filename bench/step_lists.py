@@ -3,6 +3,8 @@ code of the store, and what scripts make of a device by these lists alone, cuts 
 from collections import namedtuple
 from functools import lru_cache
 
+from tools.worked import image_of
+
 MARK, HEADER, LAST_GENERATION, MOST_WEAR = "a" * 16, 4, 4294967294, 2**64 - 1
 # Which word of a header is which mark.
 RECEIVE, ACTIVE, VALID, ERASING = range(HEADER)
@@ -21,9 +23,8 @@ def device_of(text):
 
 
 def text_of(device):
-    rows = [" ".join([str(wear), *page]) for page, wear in zip(*device)]
-    head = f"ee {len(rows) // 2} {len(device.pages[0])}"
-    return "\n".join([head, *rows, ""]).encode()
+    rows = [[str(wear), *page] for page, wear in zip(*device)]
+    return image_of(len(rows) // 2, len(device.pages[0]), rows)
 
 
 def generation_of(word):

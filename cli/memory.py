@@ -57,7 +57,7 @@ def files_of():
         "script": script,
         "settings": settings,
         "values": "".join(f"n{at} = 3\n" for at in range(2000)),
-        "full": cases.image_text(pages, words, full),
+        "full": cases.worked.image_of(pages, words, full),
         "short": "w 1 1\n",
     }
 

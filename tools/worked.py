@@ -43,11 +43,16 @@ def examples():
     return [example(name) for name in sorted(os.listdir(DATA))]
 
 
+def image_of(pages, words, rows=()):
+    """An image of these pages, each its wear and its words, with blank ones behind them."""
+    blank = ["0" + " -" * words] * (2 * pages - len(rows))
+    return "\n".join([f"ee {pages} {words}", *map(" ".join, rows), *blank, ""]).encode()
+
+
 def formatted(pages, words):
     """The text of a formatted device."""
-    first = f"0 aaaaaaaa00000001 {'a' * 16}" + " -" * (words - 2)
-    blank = "0" + " -" * words
-    return "\n".join([f"ee {pages} {words}", first] + [blank] * (2 * pages - 1) + [""]).encode()
+    first = ["0", "aaaaaaaa00000001", "a" * 16, *["-"] * (words - 2)]
+    return image_of(pages, words, [first])
 
 
 def text_of(start):
