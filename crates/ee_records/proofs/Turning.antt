@@ -6,7 +6,7 @@ use Rattle.std.proofs.lemmas.Bool.{cases_eq}
 use Rattle.std.proofs.lemmas.Nat.{one_shl, or_of_16, pow_below}
 use Rattle.std.proofs.lemmas.Nat.Bits.{bit_at_ones, bit_at_or, bit_at_set_other, bit_at_set_same}
 use Rattle.ee_pages.specs.Meaning.{Map}
-use Rattle.ee_records.proofs.RecordLaws.{some_same}
+use Rattle.ee_records.proofs.Held.{some_same}
 use Rattle.ee_records.specs.Calls.{AreChanged, AreChangedIn, IsInPlace}
 use Rattle.ee_records.specs.Record.{place, record_word, word_turn}
 use Rattle.ee_records.specs.Steps.{AreUnchanged}
@@ -35,7 +35,7 @@ one_not_zero : (t : ℕ) → t ≡ 1 → t ≡ 0 → ⊥
 one_not_zero t h1 h2 = absurd (omega arith)
 
 -- each of the sixteen turns is set
-pub all_turn : (word : ℕ) → word_turn 65535 word ≡ 1
+all_turn : (word : ℕ) → word_turn 65535 word ≡ 1
 all_turn word = bit_at_ones 16 (word % 16) (omega arith)
 
 module _ (map : Map) (base turns : ℕ) (bytes : List ℕ) (words : ℕ) where
@@ -43,9 +43,8 @@ module _ (map : Map) (base turns : ℕ) (bytes : List ℕ) (words : ℕ) where
   pub more_unchanged : (turned : ℕ) → AreUnchanged words map base bytes turns turned
       → IsInPlace map base bytes turns words → AreUnchanged (words + 1) map base bytes turns turned
   more_unchanged turned before here = λ word low e.
-      let P : ℕ → Type 0 = λ w. IsInPlace map base bytes turns w in
       elim (cases_eq word words) [
-        | inl same ↦ subst P (sym same) here
+        | inl same ↦ rw same here
         | inr ne ↦ before word (omega (arith, low, ne)) e
       ]
 

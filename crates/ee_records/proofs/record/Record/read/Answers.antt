@@ -2,7 +2,7 @@ use Rattle.std.proofs.Common.{◌≡◌, ◌∙◌, ◌<◌, ◌≤◌, ◌%◌,
 use Rattle.std.specs.Prelude.{◌≢◌}
 use Rattle.ee_pages.specs.Meaning.{Map}
 use Rattle.ee_core.specs.State.{state_of}
-use Rattle.ee_records.proofs.RecordLaws.{some_same}
+use Rattle.ee_records.proofs.Held.{some_same}
 use Rattle.ee_records.proofs.Rooms.{missing_word, other_check, read_more}
 use Rattle.ee_records.specs.Check.{words_for}
 use Rattle.ee_records.proofs.record.Record.read.Goals as goal
