@@ -1,10 +1,10 @@
 -- What keeps a record, and what makes it.
-use Rattle.std.proofs.Common.{◌≡◌, ◌≢◌, ◌∙◌, ◌<◌, ◌≤◌, ◌+◌, ◌*◌, ◌-◌, ◌/◌, ◌%◌, ℕ, Option, Some, List, inl, inr, refl, sym, subst, arith, length, slice_index}
+use Rattle.std.proofs.Common.{◌≡◌, ◌≢◌, ◌∙◌, ◌<◌, ◌≤◌, ◌+◌, ◌*◌, ◌-◌, ◌/◌, ◌%◌, ℕ, Option, Some, List, inl, inr, sym, subst, arith, length}
 use Rattle.std.specs.Prelude.{bit_xor}
 use Rattle.ee_pages.specs.Meaning.{Map}
 use Rattle.ee_records.proofs.WordBytes.{AreBytes, has_byte}
 use Rattle.ee_records.proofs.Places.{below_two, counts_here, not_base, of_record, turn_lt, turns_or_not, word_within, words_within}
-use Rattle.ee_records.specs.Record.{HasByte, HoldsBytes, IsOf, IsSameRecord, head_of, place, place_by, record_word, word_turn, words_with}
+use Rattle.ee_records.specs.Record.{HoldsBytes, IsOf, IsSameRecord, head_of, place, place_by, record_word, word_turn, words_with}
 use Rattle.ee_records.specs.Steps.{AreUnchanged, HaveWords, KeepsCounted}
 
 -- a record stays where its head and the words that count stay
@@ -81,14 +81,11 @@ module _ (old mid new : Map) (base room turns turned : ℕ) (bytes : List ℕ)
     (have : HaveWords (words_with (length bytes)) mid base bytes turns turned)
     (others : (address : ℕ) → IsOf base room address → address ≢ base → new address ≡ mid address)
   where
-    in_record : (word t : ℕ) → word < words_with (length bytes) → t < 2 → IsOf base room (place base word t)
-    in_record word t low below =
-        of_record base room word t (omega (arith, low, words_within (length bytes) room few)) below
-
     same_word : (word t : ℕ) → word < words_with (length bytes) → t < 2
         → new (place base word t) ≡ mid (place base word t)
     same_word word t low below =
-        others (place base word t) (in_record word t low below)
+        others (place base word t)
+        (of_record base room word t (omega (arith, low, words_within (length bytes) room few)) below)
         (λ e. not_base base word t (sym e))
 
     pub turned_words : (word : ℕ) → word < words_with (length bytes)

@@ -1,6 +1,6 @@
 -- Where the words of a record stand: the two addresses of each word, and of different words, are
 -- apart.
-use Rattle.std.proofs.Common.{◌≡◌, ◌<◌, ◌≤◌, ◌⊎◌, ◌+◌, ◌-◌, ◌*◌, ◌/◌, ◌%◌, ℕ, zero, suc, inl, inr, refl, sym, ap, subst, arith}
+use Rattle.std.proofs.Common.{◌≡◌, ◌<◌, ◌≤◌, ◌⊎◌, ◌+◌, ◌-◌, ◌*◌, ◌/◌, ◌%◌, ℕ, zero, suc, inl, inr, refl, ap, arith}
 use Rattle.std.specs.Prelude.{bit_xor}
 use Rattle.std.proofs.lemmas.Nat.Bits.{bit_at-lt, bit_at_xor}
 use Rattle.ee_records.specs.Record.{IsOf, place, word_turn, words_with}

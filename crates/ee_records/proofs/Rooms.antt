@@ -58,11 +58,11 @@ has_words map base room bytes held (suc word) low none =
     rw there at (held.each (4 * word) (omega (arith, low)))
 
 -- a word has no value
-missing : (map : Map) (base room head word address turn : ℕ)
+pub missing_word : (map : Map) (base room head word address turn : ℕ)
     → room < 16384 → map base ≡ Some head → word < words_with (head % 65536)
     → turn ≡ word_turn (head / 65536) word → address ≡ place base word turn
     → map address ≡ None → IsHurt map base room
-missing map base room head word address turn fits is low e2 e3 none = record {
+missing_word map base room head word address turn fits is low e2 e3 none = record {
   head = head;
   there = is;
   no_bytes = λ bytes held.
@@ -71,13 +71,6 @@ missing map base room head word address turn fits is low e2 e3 none = record {
       (ap (λ t. map (place_by base t word)) (sym heads.0)
       ∙ (ap map (sym (e3 ∙ ap (place base word) e2)) ∙ none));
 }
-
-pub missing_word : (map : Map) (base room head word address turn : ℕ)
-    → room < 16384 → map base ≡ Some head → word < words_for (head % 65536)
-    → turn ≡ word_turn (head / 65536) (word + 1) → address ≡ place base (word + 1) turn
-    → map address ≡ None → IsHurt map base room
-missing_word map base room head word address turn fits is low e2 e3 none =
-    missing map base room head (word + 1) address turn fits is (omega (arith, low)) e2 e3 none
 
 -- the bytes that are there have another check
 pub other_check : (map : Map) (base room head words address turn check : ℕ) (space : List ℕ)

@@ -1,5 +1,5 @@
 -- What forgetting a record, or the words that it doesn't need, leaves.
-use Rattle.std.proofs.Common.{◌≡◌, ◌≢◌, ◌∙◌, ◌<◌, ◌⊎◌, ◌+◌, ◌*◌, ◌/◌, ◌%◌, ℕ, Option, Some, None, List, Ok, Err, inl, inr, refl, sym, ap, subst, arith, length}
+use Rattle.std.proofs.Common.{◌≡◌, ◌≢◌, ◌∙◌, ◌<◌, ◌⊎◌, ◌+◌, ◌*◌, ◌/◌, ◌%◌, ℕ, Option, Some, None, Ok, Err, inl, inr, refl, sym, ap, arith}
 use Rattle.std.proofs.lemmas.Bool.{cases_eq}
 use Rattle.ee_flash.specs.Device.{Device, IsOn}
 use Rattle.ee_flash.specs.Power.{GoesOn}
@@ -31,8 +31,7 @@ may_keep old new address other (inr e) ne =
 forgot_others : (old new : Device) (base room : ℕ)
     → MayForget base (state_of old).map (state_of new).map → KeepsBeside base room old new
 forgot_others old new base room may = λ address no.
-    may_keep (state_of old).map (state_of new).map base address may
-    (λ e. no (rw e (base_of base room)))
+    may_keep _ _ base address may (λ e. no (rw e (base_of base room)))
 
 same_or_none : (old new : Device) (base room : ℕ)
     → MayForget base (state_of old).map (state_of new).map
@@ -100,9 +99,7 @@ counts : (base room h word : ℕ) (head : Option ℕ) → head ≡ Some h → wo
 counts base room h word head is low un =
     let turn : ℕ = word_turn (h / 65536) word in
     let at = at_of base word turn un.at (turn_lt (h / 65536) word) un.is in
-    let P : Option ℕ → ℕ → ℕ → Type 0 = λ o w t. IsNeeded o w t in
-    un.unneeded (subst (λ o. P o (un.at / 2) (un.at % 2)) (sym is)
-    (subst (λ w. P (Some h) w (un.at % 2)) (sym at.0) (low, sym at.1)))
+    un.unneeded (rw (is, at.0) (low, sym at.1))
 
 head_kept : (base room : ℕ) (head : Option ℕ) → IsUnneeded base room head base → ⊥
 head_kept base room head un = absurd (omega (arith, un.is))

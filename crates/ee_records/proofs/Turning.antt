@@ -38,6 +38,11 @@ one_not_zero t h1 h2 = absurd (omega arith)
 all_turn : (word : ℕ) → word_turn 65535 word ≡ 1
 all_turn word = bit_at_ones 16 (word % 16) (omega arith)
 
+pub changed_within : (map : Map) (base turns turned few words : ℕ) (bytes : List ℕ) → few ≤ words
+    → AreChanged few map base bytes turns turned → AreChanged words map base bytes turns turned
+changed_within map base turns turned few words bytes le changed = λ word e.
+    let other = changed word e in (other.0, omega (arith, other.1, le), other.2, other.3)
+
 module _ (map : Map) (base turns : ℕ) (bytes : List ℕ) (words : ℕ) where
   -- one word more that is in place
   pub more_unchanged : (turned : ℕ) → AreUnchanged words map base bytes turns turned
@@ -48,19 +53,12 @@ module _ (map : Map) (base turns : ℕ) (bytes : List ℕ) (words : ℕ) where
         | inr ne ↦ before word (omega (arith, low, ne)) e
       ]
 
-  pub more_in_place : (turned : ℕ) → AreChanged words map base bytes turns turned
-      → AreChanged (words + 1) map base bytes turns turned
-  more_in_place turned before = λ word e.
-      let other = before word e in (other.0, omega (arith, other.1), other.2, other.3)
-
   -- one word more that turns
   pub more_turned : (turned : ℕ) → AreUnchanged words map base bytes turns turned
       → AreUnchanged (words + 1) map base bytes turns (bit_or turned (turn_bit words))
   more_turned turned before = λ word low e.
       elim (cases_eq word words) [
-        | inl same ↦ absurd (one_not_zero (word_turn (bit_or turned (turn_bit words)) words)
-            (turned_at turned words)
-            (sym (ap (word_turn (bit_or turned (turn_bit words))) same) ∙ e))
+        | inl same ↦ absurd (one_not_zero _ (turned_at turned words) (rw same at e))
         | inr ne ↦ before word (omega (arith, low, ne)) (still_unturned turned (turn_bit words) word e)
       ]
 
@@ -74,11 +72,6 @@ module _ (map : Map) (base turns : ℕ) (bytes : List ℕ) (words : ℕ) where
             let other = before word (unset turned words word ne e) in
             (other.0, omega (arith, other.1), other.2, other.3)
       ]
-
-pub changed_within : (map : Map) (base turns turned few words : ℕ) (bytes : List ℕ) → few ≤ words
-    → AreChanged few map base bytes turns turned → AreChanged words map base bytes turns turned
-changed_within map base turns turned few words bytes le changed = λ word e.
-    let other = changed word e in (other.0, omega (arith, other.1, le), other.2, other.3)
 
 pub none_unchanged : (map : Map) (base turns words : ℕ) (bytes : List ℕ)
     → AreUnchanged words map base bytes turns 65535

@@ -6,9 +6,7 @@ use Rattle.ee_records.proofs.record.Record.turn_words.Goals as goal
 pub returns-in_err-put_words : goal.returns-in_err-put_words
 returns-in_err-put_words g c =
     let kept =
-    keeps_all (g.V.Variables.device c.args.store.now) (g.V.Variables.device c.put_words.new.store)
-    c.args.self.now.base c.args.self.now.words c.args.turns c.args.self.now.fits c.requires.head
-    c.in_err-put_words.ensures.kept in
+    keeps_all _ _ _ _ _ c.args.self.now.fits c.requires.head c.in_err-put_words.ensures.kept in
     let p = err_from_is_err_and c.from_residual.result c.from_residual.ensures.1 in
     rw (p.1, p.2)
     (refused ℕ _ _ _ _ _ c.args.bytes.now c.requires.on kept c.in_err-put_words.ensures.ends)
