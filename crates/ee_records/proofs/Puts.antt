@@ -27,20 +27,16 @@ wrote_cut T old new address value h = (h.cut, cut_map old new (Put address value
 
 forgot_map : (old new : Device) (address : ℕ) (written : Written)
     → Forgets old address (Ok written) new
-    → (state_of new).map ≡ map_after (Forget address) (state_of old).map
+    → GoesOn old new × ((state_of new).map ≡ map_after (Forget address) (state_of old).map)
 forgot_map old new address written h = search rules
-
-forgot_goes_on : (old new : Device) (address : ℕ) (written : Written)
-    → Forgets old address (Ok written) new → GoesOn old new
-forgot_goes_on old new address written h = search rules
 
 pub forgot : {T : Type 0} (done : T) (old new : Device) (address : ℕ) (written : Written)
     → Forgets old address (Ok written) new → ForgetsOne {T = T} old address (Ok done) new
 forgot done old new address written h =
     let e = forgot_map old new address written h in (
-      forgot_goes_on old new address written h,
-      ap (λ (map : Map). map address) e ∙ forget-at (state_of old).map address address refl,
-      inr e,
+      e.0,
+      ap (λ (map : Map). map address) e.1 ∙ forget-at (state_of old).map address address refl,
+      inr e.1,
     )
 
 pub forgot_cut : (T : Type 0) (old new : Device) (address : ℕ)

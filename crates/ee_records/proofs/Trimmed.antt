@@ -15,7 +15,7 @@ use Rattle.ee_records.proofs.Held.{same_record}
 use Rattle.ee_records.proofs.Places.{base_of, turn_lt}
 use Rattle.ee_records.proofs.Puts.{cut_later, forgot, keeps_more}
 use Rattle.ee_records.specs.Calls.{AreTrimmed, ForgetsRecord, IsNeeded, KeepsMeaning, TrimsRecord}
-use Rattle.ee_records.specs.Record.{HasNoRecord, IsOf, KeepsBeside, KeepsRecord, place, place_by, word_turn, words_with}
+use Rattle.ee_records.specs.Record.{HasNoRecord, KeepsBeside, KeepsRecord, place, place_by, word_turn, words_with}
 use Rattle.ee_records.specs.Steps.{ForgetsOne, IsUnneeded, KeepsNeeded, MayForget}
 use Rattle.ee_records.specs.declared.fault.TrimFault.{TrimFault}
 use Rattle.ee_records.specs.declared.fault.TrimFault.TheVariants as trim
@@ -67,16 +67,13 @@ forget_refused T store_forget.Cut old new base room h =
 at_place : (base at : ℕ) → place base (at / 2) (at % 2) ≡ base + 1 + at
 at_place base at = omega arith
 
-next_at : (base k at : ℕ) → k ≢ at → base + 1 + k ≡ base + 1 + at → ⊥
-next_at base k at ne e = ne (omega arith)
-
 trimmed_more : (base at : ℕ) (head : Option ℕ) (mid new : Map)
     → AreTrimmed at mid base head → MayForget (base + 1 + at) mid new
     → new (base + 1 + at) ≡ None → AreTrimmed (at + 1) new base head
 trimmed_more base at head mid new before may none = λ k low unneeded.
     elim (cases_eq k at) [
       | inl same ↦ rw same none
-      | inr ne ↦ may_keep mid new (base + 1 + at) (base + 1 + k) may (next_at base k at ne)
+      | inr ne ↦ may_keep mid new (base + 1 + at) (base + 1 + k) may (λ e. ne (omega (arith, e)))
           ∙ before k (omega (arith, low, ne)) unneeded
     ]
 
@@ -101,14 +98,6 @@ counts base room h word head is low un =
     let at = at_of base word turn un.at (turn_lt (h / 65536) word) un.is in
     un.unneeded (rw (is, at.0) (low, sym at.1))
 
-head_kept : (base room : ℕ) (head : Option ℕ) → IsUnneeded base room head base → ⊥
-head_kept base room head un = absurd (omega (arith, un.is))
-
-in_record : (base room : ℕ) (head : Option ℕ) (address : ℕ) → IsUnneeded base room head address
-    → IsOf base room address
-in_record base room head address un =
-    record { from = omega (arith, un.is); to = omega (arith, un.is, un.within) }
-
 pub trim_keeps : (old new : Device) (base room : ℕ) (head : Option ℕ) → room < 16384
     → (state_of old).map base ≡ head
     → KeepsNeeded base room head (state_of old).map (state_of new).map
@@ -116,10 +105,11 @@ pub trim_keeps : (old new : Device) (base room : ℕ) (head : Option ℕ) → ro
 trim_keeps old new base room head fits is keeps = record {
   record_kept =
       same_record base room fits (state_of old).map (state_of new).map
-      (keeps base (head_kept base room head))
+      (keeps base (λ un. absurd (omega (arith, un.is))))
       (λ h word e low. keeps (place_by base (h / 65536) word)
       (counts base room h word head (sym is ∙ e) low));
-  others = λ address no. keeps address (λ un. no (in_record base room head address un));
+  others = λ address no. keeps address (λ un.
+      no (record { from = omega (arith, un.is); to = omega (arith, un.is, un.within) }));
 }
 
 -- ---- one more, and how it ends

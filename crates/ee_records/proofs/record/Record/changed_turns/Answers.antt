@@ -17,7 +17,8 @@ words-preserved g c =
     elim c.if-not-has_value.branch [
       | then-not-has_value w ↦
           let other =
-          not_in_place_here map base turns bytes word _ _ _ c.word_turn.ensures.turn c.place-address.ensures c.record_word.ensures
+          not_in_place_here map base turns bytes word _ _ _ c.word_turn.ensures.turn
+          c.place-address.ensures c.record_word.ensures
           (c.has_value.ensures.no w.if-not-has_value.true) in
           rw w.turned-is (record {
             few = turned_fits c.words.turned word before.few;
@@ -26,7 +27,8 @@ words-preserved g c =
           })
       | else-not-has_value w ↦
           let here =
-          in_place_here map base turns bytes word _ _ _ c.word_turn.ensures.turn c.place-address.ensures c.record_word.ensures
+          in_place_here map base turns bytes word _ _ _ c.word_turn.ensures.turn
+          c.place-address.ensures c.record_word.ensures
           (c.has_value.ensures.yes w.if-not-has_value.false) in
           rw w.turned-is (record {
             few = before.few;

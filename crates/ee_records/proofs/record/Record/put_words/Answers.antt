@@ -52,7 +52,8 @@ words-preserved g c =
             goes = before.goes;
             kept = before.kept;
             there = have_skipped base c.args.turns c.args.turned word _ bytes
-                (state_of (g.V.Variables.device c.words.store)).map before.there c.word_turn.ensures.turn w.if-word_turn-eq1.false;
+                (state_of (g.V.Variables.device c.words.store)).map before.there
+                c.word_turn.ensures.turn w.if-word_turn-eq1.false;
             paid = no_write c.args.turned word _ _
                 (λ e. w.if-word_turn-eq1.false (c.word_turn.ensures.turn ∙ e)) before.paid;
           })

@@ -50,6 +50,7 @@ returns-then-check-check_of g c =
     let all : words_for (c.in-Some.head % 65536) ≤ c.words.word =
     omega (arith, c.words-test.false, c.words_for-word-end.ensures) in (
       c.in-Ok.ensures.0,
-      other_check _ _ _ _ _ _ _ _ _ c.args.self.now.fits is fits all c.words.invariant.read c.word_turn.ensures.turn
+      other_check _ _ _ _ _ _ _ _ _ c.args.self.now.fits is fits all c.words.invariant.read
+          c.word_turn.ensures.turn
           c.place-first.ensures c.check_of.ensures other,
     )

@@ -1,4 +1,5 @@
 use Rattle.std.proofs.Common.{ℕ, arith}
+use Rattle.std.proofs.lemmas.Nat.{xor_of_16}
 use Rattle.std.proofs.lemmas.Result.{err_from_is_err_and}
 use Rattle.ee_records.proofs.Prepared.{head_completes, keeps_all, paid_for, refused}
 use Rattle.ee_records.proofs.record.Record.turn_words.Goals as goal
@@ -29,3 +30,13 @@ returns g c =
       paid_for old mid base c.args.turned c.args.bytes.now c.requires.changed
           c.in_ok-put_words.ensures.paid,
     )
+
+pub overflow_mul-result : goal.overflow_mul-result
+overflow_mul-result g c =
+    omega (arith, xor_of_16 c.args.turns c.args.turned c.requires.turns_fit c.requires.turned_fit)
+
+pub overflow_add-result : goal.overflow_add-result
+overflow_add-result g c =
+    let turns =
+    xor_of_16 c.args.turns c.args.turned c.requires.turns_fit c.requires.turned_fit in
+    omega (arith, turns, c.requires.fits, c.args.self.now.fits)
