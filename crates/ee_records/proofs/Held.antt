@@ -1,11 +1,11 @@
 -- What keeps a record, and what makes it.
-use Rattle.std.proofs.Common.{◌≡◌, ◌≢◌, ◌∙◌, ◌<◌, ◌≤◌, ◌+◌, ◌*◌, ◌-◌, ◌/◌, ◌%◌, ℕ, Option, Some, List, inl, inr, refl, sym, subst, arith, length, slice_index}
+use Rattle.std.proofs.Common.{◌≡◌, ◌≢◌, ◌∙◌, ◌<◌, ◌≤◌, ◌+◌, ◌*◌, ◌-◌, ◌/◌, ◌%◌, ℕ, Option, Some, List, inl, inr, sym, subst, arith, length}
 use Rattle.std.specs.Prelude.{bit_xor}
 use Rattle.ee_pages.specs.Meaning.{Map}
 use Rattle.ee_records.proofs.WordBytes.{AreBytes, has_byte}
-use Rattle.ee_records.proofs.Places.{below_two, counts_here, head_counts, not_base, of_record, turn_lt, turns_or_not, word_within, words_within}
-use Rattle.ee_records.specs.Record.{HasByte, HoldsBytes, IsOf, IsSameRecord, head_of, place, record_word, word_turn, words_with}
-use Rattle.ee_records.specs.Steps.{AreTurnsIn, AreUnchanged, HaveWords, KeepsCounted}
+use Rattle.ee_records.proofs.Places.{below_two, counts_here, not_base, of_record, turn_lt, turns_or_not, word_within, words_within}
+use Rattle.ee_records.specs.Record.{HoldsBytes, IsOf, IsSameRecord, head_of, place, place_by, record_word, word_turn, words_with}
+use Rattle.ee_records.specs.Steps.{AreUnchanged, HaveWords, KeepsCounted}
 
 -- a record stays where its head and the words that count stay
 pub holds_along : (old new : Map) (base room : ℕ) (bytes : List ℕ) → (held : HoldsBytes old base room bytes)
@@ -18,49 +18,46 @@ holds_along old new base room bytes held head words = record {
   head = head ∙ held.head;
   few = held.few;
   check = words 0 (omega arith) ∙ held.check;
-  each = λ at low.
-      let P : Option ℕ → Type 0 = λ v. HasByte v (at % 4) (slice_index bytes at) in
-      subst P (sym (words (at / 4 + 1) (word_within at (length bytes) low))) (held.each at low);
+  each = λ at low. rw (words (at / 4 + 1) (word_within at (length bytes) low)) (held.each at low);
 }
 
-turns_of : (turns count head : ℕ) → count < 65536 → head ≡ head_of turns count → head / 65536 ≡ turns
-turns_of turns count head h e = omega arith
+pub some_same : (x y : ℕ) → ◌≡◌ {A = Option ℕ} (Some x) (Some y) → x ≡ y
+some_same x y e = cc
 
--- a map that differs where no word counts has the record still
-pub still_holds : (old new : Map) (base room turns : ℕ) (bytes : List ℕ) → room < 16384
-    → AreTurnsIn old base turns → KeepsCounted base room turns old new → HoldsBytes old base room bytes
-    → HoldsBytes new base room bytes
-still_holds old new base room turns bytes fits are keeps held =
-    let e : turns ≡ held.turns =
-    are (head_of held.turns (length bytes)) held.head
-    ∙ turns_of held.turns (length bytes) (head_of held.turns (length bytes)) (omega (arith, held.few)) refl in
-    let P : ℕ → Type 0 = λ t. KeepsCounted base room t old new in
-    let kept = subst P e keeps in
-    holds_along old new base room bytes held (kept base (head_counts base room held.turns))
-    (λ word low. kept (place base word (word_turn held.turns word)) (counts_here base room held.turns word))
+-- what a head says of the bytes that are held
+pub heads_of : (map : Map) (base room head : ℕ) (bytes : List ℕ) → room < 16384 → map base ≡ Some head
+    → (held : HoldsBytes map base room bytes)
+    → (head / 65536 ≡ held.turns) × (head % 65536 ≡ length bytes)
+heads_of map base room head bytes fits is held =
+    let heads : head ≡ head_of held.turns (length bytes) =
+    some_same head (head_of held.turns (length bytes)) (sym is ∙ held.head) in
+    (omega (arith, heads, held.few, fits), omega (arith, heads, held.few, fits))
 
-pub same_here : (map : Map) (base room : ℕ) → IsSameRecord base room map map
-same_here map base room = record { head = refl; bytes = λ bytes. (λ held. held, λ held. held) }
+-- the words that count by the head of a map, if it has one, stay
+abbrev pub KeepsWords : ℕ → Map → Map → Type 0
+KeepsWords base old new = (head word : ℕ) → old base ≡ Some head → word < words_with (head % 65536)
+    → new (place_by base (head / 65536) word) ≡ old (place_by base (head / 65536) word)
 
-pub keeps_back : (old new : Map) (base room turns : ℕ) → KeepsCounted base room turns old new
-    → KeepsCounted base room turns new old
-keeps_back old new base room turns keeps = λ address no. sym (keeps address no)
+module _ (base room : ℕ) (fits : room < 16384) where
+  still_holds : (old new : Map) (bytes : List ℕ) → new base ≡ old base → KeepsWords base old new
+      → HoldsBytes old base room bytes → HoldsBytes new base room bytes
+  still_holds old new bytes e keeps held =
+      let h : ℕ = head_of held.turns (length bytes) in
+      let heads = heads_of old base room h bytes fits held.head held in
+      holds_along old new base room bytes held e (λ word low.
+      subst (λ t. new (place_by base t word) ≡ old (place_by base t word)) heads.0
+      (keeps h word held.head (omega (arith, low, heads.1))))
 
-turns_kept : (old new : Map) (base turns : ℕ) → new base ≡ old base → AreTurnsIn old base turns
-    → AreTurnsIn new base turns
-turns_kept old new base turns e are = λ head is. are head (sym e ∙ is)
-
-pub same_record : (old new : Map) (base room turns : ℕ) → room < 16384 → AreTurnsIn old base turns
-    → KeepsCounted base room turns old new → IsSameRecord base room old new
-same_record old new base room turns fits are keeps = record {
-  head = keeps base (head_counts base room turns);
-  bytes = λ bytes. (
-    λ held. still_holds old new base room turns bytes fits are keeps held,
-    λ held. still_holds new old base room turns bytes fits
-        (turns_kept old new base turns (keeps base (head_counts base room turns)) are)
-        (keeps_back old new base room turns keeps) held,
-  );
-}
+  pub same_record : (old new : Map) → new base ≡ old base → KeepsWords base old new
+      → IsSameRecord base room old new
+  same_record old new e keeps = record {
+    head = e;
+    bytes = λ bytes. (
+      still_holds old new bytes e keeps,
+      still_holds new old bytes (sym e)
+          (λ head word is low. sym (keeps head word (sym e ∙ is) low)),
+    );
+  }
 
 -- a map with each word of the bytes where it counts has the record
 pub holds_words : (map : Map) (base room turns : ℕ) (bytes : List ℕ) → AreBytes bytes
@@ -73,9 +70,7 @@ holds_words map base room turns bytes fit few head words = record {
   head = head;
   few = few;
   check = words 0 (omega arith);
-  each = λ at low.
-      let P : Option ℕ → Type 0 = λ v. HasByte v (at % 4) (slice_index bytes at) in
-      subst P (sym (words (at / 4 + 1) (word_within at (length bytes) low))) (has_byte bytes fit at);
+  each = λ at low. rw (words (at / 4 + 1) (word_within at (length bytes) low)) (has_byte bytes fit at);
 }
 
 -- where the words that turn stand at their other addresses, the head completes the record
@@ -86,26 +81,22 @@ module _ (old mid new : Map) (base room turns turned : ℕ) (bytes : List ℕ)
     (have : HaveWords (words_with (length bytes)) mid base bytes turns turned)
     (others : (address : ℕ) → IsOf base room address → address ≢ base → new address ≡ mid address)
   where
-    in_record : (word t : ℕ) → word < words_with (length bytes) → t < 2 → IsOf base room (place base word t)
-    in_record word t low below =
-        of_record base room word t (omega (arith, low, words_within (length bytes) room few)) below
-
     same_word : (word t : ℕ) → word < words_with (length bytes) → t < 2
         → new (place base word t) ≡ mid (place base word t)
     same_word word t low below =
-        others (place base word t) (in_record word t low below)
+        others (place base word t)
+        (of_record base room word t (omega (arith, low, words_within (length bytes) room few)) below)
         (λ e. not_base base word t (sym e))
 
     pub turned_words : (word : ℕ) → word < words_with (length bytes)
         → new (place base word (word_turn (bit_xor turns turned) word)) ≡ Some (record_word bytes word)
     turned_words word low =
-        let P : ℕ → Type 0 = λ t. new (place base word t) ≡ Some (record_word bytes word) in
         elim (turns_or_not turns turned word) [
-          | inl w ↦ subst P (sym w.1)
+          | inl w ↦ rw w.1
               (same_word word (word_turn turns word) low (turn_lt turns word)
               ∙ keeps (place base word (word_turn turns word)) (counts_here base room turns word)
               ∙ unchanged word low w.0)
-          | inr w ↦ subst P (sym w.1)
+          | inr w ↦ rw w.1
               (same_word word (1 - word_turn turns word) low (below_two (word_turn turns word))
               ∙ have word low w.0)
         ]

@@ -1,6 +1,6 @@
 -- Where the words of a record stand: the two addresses of each word, and of different words, are
 -- apart.
-use Rattle.std.proofs.Common.{◌≡◌, ◌<◌, ◌≤◌, ◌⊎◌, ◌+◌, ◌-◌, ◌*◌, ◌/◌, ◌%◌, ℕ, zero, suc, inl, inr, refl, sym, ap, subst, arith}
+use Rattle.std.proofs.Common.{◌≡◌, ◌<◌, ◌≤◌, ◌⊎◌, ◌+◌, ◌-◌, ◌*◌, ◌/◌, ◌%◌, ℕ, zero, suc, inl, inr, refl, ap, arith}
 use Rattle.std.specs.Prelude.{bit_xor}
 use Rattle.std.proofs.lemmas.Nat.Bits.{bit_at-lt, bit_at_xor}
 use Rattle.ee_records.specs.Record.{IsOf, place, word_turn, words_with}
@@ -35,20 +35,17 @@ not_base base word t e = absurd (omega arith)
 pub head_counts : (base room turns : ℕ) → IsOther base room turns base → ⊥
 head_counts base room turns other = not_base base other.word (1 - word_turn turns other.word) other.is
 
-pub place_of : (base room word t : ℕ) → word < room + 1 → t < 2
-    → (base ≤ place base word t) × (place base word t ≤ base + 2 * (room + 1))
-place_of base room word t h1 h2 = (omega arith, omega arith)
-
 -- both addresses of a word are the record's
 pub of_record : (base room word t : ℕ) → word < room + 1 → t < 2 → IsOf base room (place base word t)
-of_record base room word t h1 h2 =
-    let p = place_of base room word t h1 h2 in record { from = p.0; to = p.1 }
+of_record base room word t h1 h2 = record { from = omega arith; to = omega arith }
+
+pub base_of : (base room : ℕ) → IsOf base room base
+base_of base room = record { from = omega arith; to = omega arith }
 
 pub other_of_record : (base room turns address : ℕ) → IsOther base room turns address
     → IsOf base room address
 other_of_record base room turns address other =
-    let P : ℕ → Type 0 = λ a. IsOf base room a in
-    subst P (sym other.is)
+    rw other.is
     (of_record base room other.word (1 - word_turn turns other.word) other.within
     (below_two (word_turn turns other.word)))
 

@@ -1,5 +1,5 @@
 -- A record that is prepared, and the write that completes it.
-use Rattle.std.proofs.Common.{◌≡◌, ◌∙◌, ◌<◌, ◌≤◌, ◌⊎◌, ◌+◌, ◌*◌, ◌/◌, ◌%◌, ℕ, Some, None, List, Ok, Err, inl, inr, refl, sym, ap, subst, arith, length}
+use Rattle.std.proofs.Common.{◌≡◌, ◌∙◌, ◌<◌, ◌≤◌, ◌⊎◌, ◌+◌, ◌*◌, ◌/◌, ◌%◌, ℕ, Some, None, List, Ok, Err, inl, inr, refl, ap, subst, arith, length}
 use Rattle.std.specs.Prelude.{bit_xor}
 use Rattle.std.proofs.lemmas.Nat.Bits.{bit_at-zero}
 use Rattle.ee_flash.specs.Device.{Device, IsOn}
@@ -8,30 +8,30 @@ use Rattle.ee_pages.specs.Meaning.{Map}
 use Rattle.ee_core.proofs.Public.{goes_on_both, put-at}
 use Rattle.ee_core.specs.State.{state_of}
 use Rattle.ee_records.proofs.Held.{holds_words, same_record, turned_words}
-use Rattle.ee_records.proofs.Places.{other_of_record}
-use Rattle.ee_records.proofs.Puts.{add_write, cut_later, may_keep}
+use Rattle.ee_records.proofs.Places.{base_of, counts_here, head_counts, other_of_record}
+use Rattle.ee_records.proofs.Puts.{add_write, cut_later, keeps_more, may_keep}
 use Rattle.ee_records.specs.Calls.{AreChangedIn, AreWrites, HasWritten, IsCompletedBy, IsPaid, KeepsMeaning, PreparesRecord, StaysPowered, WritesRecord, turning}
 use Rattle.ee_records.proofs.WordBytes.{AreBytes}
-use Rattle.ee_records.specs.Record.{IsOf, IsSameRecord, KeepsBeside, head_of, word_turn, words_with}
-use Rattle.ee_records.specs.Steps.{AreTurnsIn, AreUnchanged, EndsSo, HaveWords, KeepsCounted, MayPut, PutsOne}
+use Rattle.ee_records.specs.Record.{IsOf, KeepsBeside, head_of, place_by, word_turn, words_with}
+use Rattle.ee_records.specs.Steps.{AreTurnsIn, AreUnchanged, EndsSo, HaveWords, IsOther, KeepsCounted, MayPut, PutsOne}
 use Rattle.ee_records.specs.declared.fault.RecordFault.{RecordFault}
 use Rattle.ee_records.specs.declared.fault.RecordFault.TheVariants as fault
 
 -- ---- words where they don't count
-
-pub keeps_others : (old new : Device) (base room turns : ℕ)
-    → KeepsCounted base room turns (state_of old).map (state_of new).map
-    → KeepsBeside base room old new
-keeps_others old new base room turns keeps = λ address no.
-    keeps address (λ other. no (other_of_record base room turns address other))
 
 pub keeps_all : (old new : Device) (base room turns : ℕ) → room < 16384
     → AreTurnsIn (state_of old).map base turns
     → KeepsCounted base room turns (state_of old).map (state_of new).map
     → KeepsMeaning base room old new
 keeps_all old new base room turns fits are keeps = record {
-  record_kept = same_record (state_of old).map (state_of new).map base room turns fits are keeps;
-  others = keeps_others old new base room turns keeps;
+  record_kept =
+      same_record base room fits (state_of old).map (state_of new).map
+      (keeps base (head_counts base room turns))
+      (λ head word is low. keeps (place_by base (head / 65536) word)
+      (subst (λ t. ¬ IsOther base room turns (place_by base t word)) (are head is)
+      (counts_here base room turns word)));
+  others = λ address no.
+      keeps address (λ other. no (other_of_record base room turns address other));
 }
 
 -- ---- refusals
@@ -54,11 +54,10 @@ module _ (old mid new : Device) (base room : ℕ) (bytes : List ℕ) (address va
   where
     written_others : MayPut address value (state_of mid).map (state_of new).map
         → KeepsBeside base room old new
-    written_others may = λ one no.
-        let P : ℕ → Type 0 = λ a. IsOf base room a in
-        may_keep (state_of mid).map (state_of new).map address value one may
-        (λ e. no (subst P (sym e) of))
-        ∙ kept.others one no
+    written_others may =
+        keeps_more (λ a. IsOf base room a) (state_of old).map (state_of mid).map (state_of new).map
+        address of kept.others
+        (λ one ne. may_keep (state_of mid).map (state_of new).map address value one may ne)
 
     has_written : (state_of new).map address ≡ Some value
         → MayPut address value (state_of mid).map (state_of new).map
@@ -69,17 +68,10 @@ module _ (old mid new : Device) (base room : ℕ) (bytes : List ℕ) (address va
       others = written_others may;
     }
 
-    same_then : (state_of new).map ≡ (state_of mid).map → KeepsMeaning base room old new
-    same_then e =
-        let P : Map → Type 0 = λ map. IsSameRecord base room (state_of old).map map in
-        record {
-          record_kept = subst P (sym e) kept.record_kept;
-          others = written_others (inl e);
-        }
-
     cut_cases : MayPut address value (state_of mid).map (state_of new).map
         → KeepsMeaning base room old new ⊎ HasWritten base room bytes old new
-    cut_cases (inl e) = inl (same_then e)
+    cut_cases (inl e) =
+        inl (record { record_kept = rw e kept.record_kept; others = written_others (inl e) })
     cut_cases (inr e) = inr (has_written
         (ap (λ (map : Map). map address) e ∙ put-at (state_of mid).map address value address refl)
         (inr e))
@@ -89,26 +81,17 @@ module _ (old mid new : Device) (base room : ℕ) (bytes : List ℕ) (address va
         → WritesRecord old base room bytes (Err bad) new
     last_refused T fault.Off puts = absurd puts
     last_refused T fault.TooLong puts = absurd puts
-    last_refused T fault.Full puts =
-        let P : Device → Type 0 = λ device. WritesRecord old base room bytes (Err fault.Full) device in
-        subst P (sym puts.0) (goes, kept, (address, of, puts.1))
-    last_refused T fault.Spent puts =
-        let P : Device → Type 0 = λ device. WritesRecord old base room bytes (Err fault.Spent) device in
-        subst P (sym puts.0) (goes, kept, puts.1)
-    last_refused T fault.Memory puts =
-        let P : Device → Type 0 = λ device. WritesRecord old base room bytes (Err fault.Memory) device in
-        subst P (sym puts.0) (goes, kept, (address, of, puts.1))
+    last_refused T fault.Full puts = rw puts.0 (goes, kept, (address, of, puts.1))
+    last_refused T fault.Spent puts = rw puts.0 (goes, kept, puts.1)
+    last_refused T fault.Memory puts = rw puts.0 (goes, kept, (address, of, puts.1))
     last_refused T fault.Cut puts = (cut_later old mid new goes.1 puts.0, cut_cases puts.1)
 
     paid_more : IsPaid 0 base bytes old mid → AreWrites 1 mid new → IsPaid 1 base bytes old new
     paid_more paid one =
         let words : ℕ = turning paid.turned (words_with (length bytes)) in
-        let same : words + 0 + 1 ≡ words + 1 = omega arith in
-        record {
-          turned = paid.turned;
-          changed = paid.changed;
-          writes = subst (λ n. AreWrites n old new) same (add_write (words + 0) old mid new paid.writes one);
-        }
+        let same : words + 1 ≡ words + 0 + 1 = omega arith in
+        let writes = add_write (words + 0) old mid new paid.writes one in
+        record { turned = paid.turned; changed = paid.changed; writes = rw same writes }
 
     pub completed : IsPaid 0 base bytes old mid → GoesOn mid new → (state_of new).map address ≡ Some value
         → MayPut address value (state_of mid).map (state_of new).map → AreWrites 1 mid new
@@ -121,17 +104,10 @@ pub paid_for : (old mid : Device) (base turned : ℕ) (bytes : List ℕ)
     → AreWrites (turning turned (words_with (length bytes))) old mid → IsPaid 0 base bytes old mid
 paid_for old mid base turned bytes changed writes =
     let words : ℕ = turning turned (words_with (length bytes)) in
-    let same : words ≡ words + 0 = omega arith in
-    record {
-      turned = turned;
-      changed = changed;
-      writes = subst (λ n. AreWrites n old mid) same writes;
-    }
+    let same : words + 0 ≡ words = omega arith in
+    record { turned = turned; changed = changed; writes = rw same writes }
 
 -- ---- what completes a record
-
-at_head : (base room address : ℕ) → address ≡ base → IsOf base room address
-at_head base room address e = record { from = omega (arith, e); to = omega (arith, e) }
 
 -- the head, where words turn
 pub head_completes : (old mid : Device) (base room turns turned address : ℕ) (bytes : List ℕ)
@@ -144,17 +120,12 @@ pub head_completes : (old mid : Device) (base room turns turned address : ℕ) (
     × IsCompletedBy (state_of mid).map base room bytes address
     (bit_xor turns turned * 65536 + length bytes)
 head_completes old mid base room turns turned address bytes fit few unchanged keeps have e =
-    let P : ℕ → Type 0 =
-    λ a. IsCompletedBy (state_of mid).map base room bytes a (bit_xor turns turned * 65536 + length bytes) in (
-      at_head base room address e,
-      subst P (sym e) (λ new there others.
-          holds_words new base room (bit_xor turns turned) bytes fit few there
+    rw e (
+      base_of base room,
+      λ new there others. holds_words new base room (bit_xor turns turned) bytes fit few there
           (turned_words (state_of old).map (state_of mid).map new base room turns turned bytes few
-          unchanged keeps have others)),
+          unchanged keeps have others),
     )
-
-unturned : (turned word : ℕ) → turned ≡ 0 → word_turn turned word ≡ 0
-unturned turned word e = ap (λ t. word_turn t word) e ∙ bit_at-zero (word % 16)
 
 head_is : (head count : ℕ) → head % 65536 ≡ count → head ≡ head_of (head / 65536) count
 head_is head count e = omega (arith, e)
@@ -169,6 +140,6 @@ nothing_to_write device base room head turned bytes on fit few is low none uncha
   on,
   holds_words (state_of device).map base room (head / 65536) bytes fit few
       (is ∙ ap (λ h. Some h) (head_is head (length bytes) low))
-      (λ word below. unchanged word below (unturned turned word none)),
+      (λ word below. unchanged word below (ap (λ t. word_turn t word) none ∙ bit_at-zero (word % 16))),
   refl,
 )

@@ -1,5 +1,5 @@
 -- What single writes leave, one after another.
-use Rattle.std.proofs.Common.{◌≡◌, ◌≢◌, ◌∙◌, ◌<◌, ◌+◌, ◌-◌, ℕ, suc, Some, List, Result, Ok, Err, inl, inr, refl, sym, ap, subst, arith, rules}
+use Rattle.std.proofs.Common.{◌≡◌, ◌≢◌, ◌∙◌, ◌<◌, ◌+◌, ◌-◌, ℕ, Some, List, Result, Ok, Err, inl, inr, refl, sym, ap, subst, add-one, arith, rules}
 use Rattle.std.proofs.lemmas.Bool.{cases_eq}
 use Rattle.ee_flash.specs.Device.{Device}
 use Rattle.ee_flash.specs.Power.{GoesOn, IsCut}
@@ -27,20 +27,16 @@ wrote_cut T old new address value h = (h.cut, cut_map old new (Put address value
 
 forgot_map : (old new : Device) (address : ℕ) (written : Written)
     → Forgets old address (Ok written) new
-    → (state_of new).map ≡ map_after (Forget address) (state_of old).map
+    → GoesOn old new × ((state_of new).map ≡ map_after (Forget address) (state_of old).map)
 forgot_map old new address written h = search rules
-
-forgot_goes_on : (old new : Device) (address : ℕ) (written : Written)
-    → Forgets old address (Ok written) new → GoesOn old new
-forgot_goes_on old new address written h = search rules
 
 pub forgot : {T : Type 0} (done : T) (old new : Device) (address : ℕ) (written : Written)
     → Forgets old address (Ok written) new → ForgetsOne {T = T} old address (Ok done) new
 forgot done old new address written h =
     let e = forgot_map old new address written h in (
-      forgot_goes_on old new address written h,
-      ap (λ (map : Map). map address) e ∙ forget-at (state_of old).map address address refl,
-      inr e,
+      e.0,
+      ap (λ (map : Map). map address) e.1 ∙ forget-at (state_of old).map address address refl,
+      inr e.1,
     )
 
 pub forgot_cut : (T : Type 0) (old new : Device) (address : ℕ)
@@ -56,14 +52,13 @@ may_keep old new address value other (inl e) ne = ap (λ (map : Map). map other)
 may_keep old new address value other (inr e) ne =
     ap (λ (map : Map). map other) e ∙ put-other old address value other ne
 
--- a write of a word where it doesn't count keeps the others
-pub keeps_more : (base room turns address value : ℕ) (old mid new : Map)
-    → IsOther base room turns address → KeepsCounted base room turns old mid
-    → MayPut address value mid new → KeepsCounted base room turns old new
-keeps_more base room turns address value old mid new other keeps may = λ one no.
-    let P : ℕ → Type 0 = λ a. IsOther base room turns a in
-    may_keep mid new address value one may (λ e. no (subst P (sym e) other))
-    ∙ keeps one no
+-- where one of these addresses changes, the others keep what they had
+pub keeps_more : (These : ℕ → Type 0) (old mid new : Map) (address : ℕ) → These address
+    → ((other : ℕ) → ¬ These other → mid other ≡ old other)
+    → ((other : ℕ) → other ≢ address → new other ≡ mid other)
+    → (other : ℕ) → ¬ These other → new other ≡ old other
+keeps_more These old mid new address here keeps stays = λ other no.
+    stays other (λ e. no (subst These (sym e) here)) ∙ keeps other no
 
 pub cut_later : (old mid new : Device) → GoesOn old mid → IsCut mid new → IsCut old new
 cut_later old mid new goes cut = search rules
@@ -81,9 +76,6 @@ ends_later base room (Err fault.Memory) old mid new goes ends =
     (goes_on_both old mid new goes ends.0, ends.1)
 ends_later base room (Err fault.Cut) old mid new goes ends = cut_later old mid new goes ends
 
-along : (P : Device → Type 0) (old new : Device) → new ≡ old → P old → P new
-along P old new e h = subst P (sym e) h
-
 pub one_ends : {T : Type 0} (base room : ℕ) (result : Result T RecordFault) (old new : Device)
     (address value : ℕ) → IsOf base room address
     → PutsOne old address value result new → EndsSo base room result old new
@@ -91,28 +83,23 @@ one_ends base room (Ok done) old new address value of puts = puts.0
 one_ends base room (Err fault.Off) old new address value of puts = absurd puts
 one_ends base room (Err fault.TooLong) old new address value of puts = absurd puts
 one_ends base room (Err fault.Full) old new address value of puts =
-    along (λ device. EndsSo {T = ℕ} base room (Err fault.Full) old device) old new puts.0
-    (goes_on_same old, (address, of, puts.1))
+    rw puts.0 (goes_on_same old, (address, of, puts.1))
 one_ends base room (Err fault.Spent) old new address value of puts =
-    along (λ device. EndsSo {T = ℕ} base room (Err fault.Spent) old device) old new puts.0
-    (goes_on_same old, puts.1)
+    rw puts.0 (goes_on_same old, puts.1)
 one_ends base room (Err fault.Memory) old new address value of puts =
-    along (λ device. EndsSo {T = ℕ} base room (Err fault.Memory) old device) old new puts.0
-    (goes_on_same old, (address, of, puts.1))
+    rw puts.0 (goes_on_same old, (address, of, puts.1))
 one_ends base room (Err fault.Cut) old new address value of puts = puts.0
 
 -- ---- words at their other addresses
 
 module _ (base turns turned words : ℕ) (bytes : List ℕ) (mid new : Map) where
-  pub have_more : HaveWords words mid base bytes turns turned
+  have_more : HaveWords words mid base bytes turns turned
       → MayPut (place base words (1 - word_turn turns words)) (record_word bytes words) mid new
       → new (place base words (1 - word_turn turns words)) ≡ Some (record_word bytes words)
       → HaveWords (words + 1) new base bytes turns turned
   have_more before may there = λ word low e.
-      let P : ℕ → Type 0 =
-      λ w. new (place base w (1 - word_turn turns w)) ≡ Some (record_word bytes w) in
       elim (cases_eq word words) [
-        | inl same ↦ subst P (sym same) there
+        | inl same ↦ rw same there
         | inr ne ↦
             may_keep mid new (place base words (1 - word_turn turns words)) (record_word bytes words)
             (place base word (1 - word_turn turns word)) may
@@ -131,41 +118,28 @@ have_skipped base turns turned words turn bytes map before is other = λ word lo
 
 -- ---- how many writes
 
-pub more_writes : (writes : ℕ) (old new : Device) → AreWrites writes old new
-    → AreWrites (writes + 1) old new
-more_writes writes old new h =
-    let next : suc writes ≡ writes + 1 = omega arith in
-    subst (λ n. AreWrites n old new) next (inl h)
-
 pub add_write : (writes : ℕ) (old mid new : Device) → AreWrites writes old mid
     → AreWrites 1 mid new → AreWrites (writes + 1) old new
-add_write writes old mid new before (inl same) =
-    more_writes writes old new (subst (λ device. AreWrites writes old device) (sym same) before)
+add_write writes old mid new before (inl same) = rw (add-one, same) (inl before)
 add_write writes old mid new before (inr one) =
-    let next : suc writes ≡ writes + 1 = omega arith in
-    subst (λ n. AreWrites n old new) next
-    (inr (one.0, subst (λ device. AreWrites writes old device) (sym one.1) before, one.2, one.3, one.4, one.5))
+    rw add-one (inr (one.0, rw one.1 before, one.2, one.3, one.4, one.5))
 
 turning-next : (turned words : ℕ)
     → turning turned (words + 1) ≡ turning turned words + word_turn turned words
-turning-next turned words =
-    let next : suc words ≡ words + 1 = omega arith in
-    subst (λ n. turning turned n ≡ turning turned words + word_turn turned words) next refl
+turning-next turned words = rw add-one refl
 
 pub turned_write : (turned words : ℕ) (old mid new : Device) → word_turn turned words ≡ 1
     → AreWrites (turning turned words) old mid → AreWrites 1 mid new
     → AreWrites (turning turned (words + 1)) old new
 turned_write turned words old mid new turns before one =
-    let same : turning turned words + 1 ≡ turning turned (words + 1) =
-    omega (arith, turning-next turned words, turns) in
-    subst (λ n. AreWrites n old new) same (add_write (turning turned words) old mid new before one)
+    rw (turning-next turned words, turns) (add_write (turning turned words) old mid new before one)
 
 pub no_write : (turned words : ℕ) (old new : Device) → word_turn turned words ≢ 1
     → AreWrites (turning turned words) old new → AreWrites (turning turned (words + 1)) old new
 no_write turned words old new stays before =
-    let same : turning turned words ≡ turning turned (words + 1) =
+    let same : turning turned (words + 1) ≡ turning turned words =
     omega (arith, turning-next turned words, stays, turn_lt turned words) in
-    subst (λ n. AreWrites n old new) same before
+    rw same before
 
 -- one word more is put where it doesn't count
 pub put_more : (old mid new : Device) (base room turns turned words address value : ℕ)
@@ -176,14 +150,15 @@ pub put_more : (old mid new : Device) (base room turns turned words address valu
     → PutsOne {T = ℕ} mid address value (Ok 0) new
     → GoesOn old new × KeepsCounted base room turns (state_of old).map (state_of new).map
     × HaveWords (words + 1) (state_of new).map base bytes turns turned × AreWrites 1 mid new
-put_more old mid new base room turns turned words address value bytes low at is goes keeps have puts =
-    let P : ℕ → ℕ → Type 0 = λ a v. PutsOne {T = ℕ} mid a v (Ok 0) new in
-    let put : PutsOne {T = ℕ} mid (place base words (1 - word_turn turns words)) (record_word bytes words) (Ok 0) new =
-    subst (λ v. P (place base words (1 - word_turn turns words)) v) is (subst (λ a. P a value) at puts) in
-    let other : IsOther base room turns (place base words (1 - word_turn turns words)) =
-    record { word = words; within = low; is = refl } in (
-      goes_on_both old mid new goes put.0,
-      keeps_more base room turns (place base words (1 - word_turn turns words)) (record_word bytes words) (state_of old).map (state_of mid).map (state_of new).map other keeps put.2,
-      have_more base turns turned words bytes (state_of mid).map (state_of new).map have put.2 put.1,
-      put.3,
+put_more old mid new base room turns turned words address value bytes low there is goes keeps have puts =
+    let was : Map = (state_of mid).map in
+    let map : Map = (state_of new).map in
+    let put = rw (there, is) at puts in
+    let other : IsOther base room turns address =
+    record { word = words; within = low; is = there } in (
+      goes_on_both old mid new goes puts.0,
+      keeps_more (λ a. IsOther base room turns a) (state_of old).map was map address other keeps
+          (λ one ne. may_keep was map address value one puts.2 ne),
+      have_more base turns turned words bytes was map have put.2 put.1,
+      puts.3,
     )

@@ -1,15 +1,12 @@
 -- One record at a base address, apart from others, and with more room.
-use Rattle.std.proofs.Common.{◌≡◌, ◌∙◌, ◌<◌, ◌+◌, ◌/◌, ◌%◌, ℕ, Option, Some, None, List, sym, subst, arith, length, slice_index}
+use Rattle.std.proofs.Common.{◌≡◌, ◌∙◌, ◌<◌, ◌≤◌, ◌+◌, ◌*◌, ◌/◌, ◌%◌, ℕ, Option, Some, None, List, sym, arith, length, slice_index}
 use Rattle.std.proofs.lemmas.List.{ext_get_or}
 use Rattle.ee_pages.specs.Meaning.{Map}
 use Rattle.ee_core.specs.State.{state_of}
-use Rattle.ee_records.proofs.Held.{holds_along}
-use Rattle.ee_records.proofs.Places.{of_record, turn_lt, words_within}
+use Rattle.ee_records.proofs.Held.{holds_along, some_same}
+use Rattle.ee_records.proofs.Places.{base_of, of_record, turn_lt, words_within}
 use Rattle.ee_records.specs.Laws.{OtherRecordsAreKept, RecordsAreOne, RecordsGrow}
 use Rattle.ee_records.specs.Record.{HasByte, HoldsBytes, IsOf, head_of, place, place_by, word_turn}
-
-pub some_same : (x y : ℕ) → ◌≡◌ {A = Option ℕ} (Some x) (Some y) → x ≡ y
-some_same x y e = cc
 
 pub same_heads : (t c u d : ℕ) → c < 65536 → d < 65536 → head_of t c ≡ head_of u d → (t ≡ u) × (c ≡ d)
 same_heads t c u d h1 h2 e = (omega arith, omega arith)
@@ -26,15 +23,9 @@ records_are_one_lem map base room one other fits h1 h2 =
     (some_same (head_of h1.turns (length one)) (head_of h2.turns (length other))
     (sym h1.head ∙ h2.head)) in
     ext_get_or 0 one other heads.1 (λ at low.
-    let P : ℕ → Type 0 =
-    λ t. HasByte (map (place_by base t (at / 4 + 1))) (at % 4) (slice_index other at) in
     let low_too : at < length other = omega (arith, heads.1) in
     one_byte (map (place_by base h1.turns (at / 4 + 1))) (at % 4)
-    (slice_index one at) (slice_index other at) (h1.each at low)
-    (subst P (sym heads.0) (h2.each at low_too)))
-
-pub base_of : (base room : ℕ) → IsOf base room base
-base_of base room = record { from = omega arith; to = omega arith }
+    (slice_index one at) (slice_index other at) (h1.each at low) (rw heads.0 (h2.each at low_too)))
 
 kept_along : (old new : Map) (base room : ℕ)
     → ((address : ℕ) → IsOf base room address → new address ≡ old address)
@@ -60,10 +51,6 @@ other_records_are_kept_lem old new base room other other_room apart keeps =
     }
 
 pub records_grow_lem : RecordsGrow
-records_grow_lem map base room more bytes le held = record {
-  turns = held.turns;
-  head = held.head;
-  few = omega (arith, held.few);
-  check = held.check;
-  each = held.each;
-}
+records_grow_lem map base room more bytes le held =
+    let few : length bytes ≤ 4 * more = omega (arith, held.few) in
+    record { turns = held.turns; head = held.head; few = few; check = held.check; each = held.each }

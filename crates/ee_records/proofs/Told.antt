@@ -4,11 +4,11 @@ use Rattle.std.proofs.lemmas.Bool.{cases_eq, cases_lt}
 use Rattle.std.proofs.lemmas.List.{ext_get_or, get_or_past}
 use Rattle.ee_pages.specs.Meaning.{Map}
 use Rattle.ee_records.proofs.CheckWords.{same_check}
+use Rattle.ee_records.proofs.Held.{some_same}
 use Rattle.ee_records.proofs.Places.{turn_lt}
-use Rattle.ee_records.proofs.RecordLaws.{one_byte, same_heads, some_same}
-use Rattle.ee_records.proofs.WordBytes.{AreBytes, byte_in}
+use Rattle.ee_records.proofs.RecordLaws.{one_byte, same_heads}
+use Rattle.ee_records.proofs.WordBytes.{AreBytes, below_four, byte_in, split}
 use Rattle.ee_records.specs.Check.{bytes_word, check_of, words_for}
-use Rattle.ee_records.specs.Laws.{OneWordIsTold}
 use Rattle.ee_records.specs.Record.{HasByte, HoldsBytes, byte_of, head_of, place, place_by, word_turn}
 
 byte_lt : (v : Option ℕ) (k b : ℕ) → HasByte v k b → b < 256
@@ -30,20 +30,12 @@ four : (one other : List ℕ) (word : ℕ)
     → ((k : ℕ) → k < 4 → slice_index one (4 * word + k) ≡ slice_index other (4 * word + k))
     → bytes_word one word ≡ bytes_word other word
 four one other word same =
-    let zeroth : slice_index one (4 * word + 0) ≡ slice_index other (4 * word + 0) = same 0 (omega arith) in
     let at : 4 * word + 0 ≡ 4 * word = omega arith in
-    let first : slice_index one (4 * word) ≡ slice_index other (4 * word) =
-    subst (λ n. slice_index one n ≡ slice_index other n) at zeroth in
+    let first = rw at at (same 0 (omega arith)) in
     omega (arith, first, same 1 (omega arith), same 2 (omega arith), same 3 (omega arith))
 
 in_word : (word k : ℕ) → k < 4 → ((4 * word + k) / 4 ≡ word) × ((4 * word + k) % 4 ≡ k)
 in_word word k low = (omega arith, omega arith)
-
-split : (at : ℕ) → 4 * (at / 4) + at % 4 ≡ at
-split at = omega arith
-
-below_four : (at : ℕ) → at % 4 < 4
-below_four at = omega arith
 
 -- the word of bytes to which an address belongs, if it isn't the base, nor of the check
 word_at : (base word t address : ℕ) → t < 2 → place base (word + 1) t ≡ address
@@ -69,13 +61,9 @@ module _ (old new : Map) (base room address : ℕ) (one other : List ℕ) (fits 
         → slice_index one at ≡ slice_index other at
     same_byte at low away =
         let inside : at < length other = omega (arith, low, heads.1) in
-        let P : ℕ → Type 0 =
-        λ t. HasByte (new (place_by base t (at / 4 + 1))) (at % 4) (slice_index other at) in
-        let Q : Option ℕ → Type 0 = λ v. HasByte v (at % 4) (slice_index other at) in
         one_byte (old (place_by base was.turns (at / 4 + 1))) (at % 4) (slice_index one at)
         (slice_index other at) (was.each at low)
-        (subst Q (rest (place_by base was.turns (at / 4 + 1)) away)
-        (subst P (sym heads.0) (held.each at inside)))
+        (rw (← rest (place_by base was.turns (at / 4 + 1)) away, heads.0) (held.each at inside))
 
     same_anywhere : (at : ℕ) → place_by base was.turns (at / 4 + 1) ≢ address
         → slice_index one at ≡ slice_index other at
@@ -116,9 +104,8 @@ module _ (old new : Map) (base room address : ℕ) (one other : List ℕ) (fits 
     byte_there kept at low =
         elim (cases_eq (at / 4) ((address - base - 1) / 2 - 1)) [
           | inl here ↦
-              let words = same_word kept (omega (arith, here, low)) in
               let word : bytes_word one (at / 4) ≡ bytes_word other (at / 4) =
-              subst (λ w. bytes_word one w ≡ bytes_word other w) (sym here) words in
+              rw here (same_word kept (omega (arith, here, low))) in
               ap (slice_index one) (sym (split at))
               ∙ (sym (byte_in one (held_bytes old base room one was) (at / 4) (at % 4) (below_four at))
               ∙ (ap (λ v. byte_of v (at % 4)) word
@@ -127,8 +114,8 @@ module _ (old new : Map) (base room address : ℕ) (one other : List ℕ) (fits 
           | inr apart ↦ same_byte at low (away (at / 4) apart)
         ]
 
-    pub told : other ≡ one
-    told =
+    pub one_word_is_told_lem : other ≡ one
+    one_word_is_told_lem =
         elim (cases_eq (place_by base was.turns 0) address) [
           | inl check ↦
               sym (ext_get_or 0 one other heads.1 (λ at low.
@@ -137,7 +124,3 @@ module _ (old new : Map) (base room address : ℕ) (one other : List ℕ) (fits 
               (turn_lt was.turns (at / 4 + 1)) (turn_lt was.turns 0) (e ∙ sym check))))
           | inr kept ↦ sym (ext_get_or 0 one other heads.1 (byte_there kept))
         ]
-
-pub one_word_is_told_lem : OneWordIsTold
-one_word_is_told_lem old new base room address one other fits ne rest was held =
-    told old new base room address one other fits ne rest was held

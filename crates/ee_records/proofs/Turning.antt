@@ -6,7 +6,7 @@ use Rattle.std.proofs.lemmas.Bool.{cases_eq}
 use Rattle.std.proofs.lemmas.Nat.{one_shl, or_of_16, pow_below}
 use Rattle.std.proofs.lemmas.Nat.Bits.{bit_at_ones, bit_at_or, bit_at_set_other, bit_at_set_same}
 use Rattle.ee_pages.specs.Meaning.{Map}
-use Rattle.ee_records.proofs.RecordLaws.{some_same}
+use Rattle.ee_records.proofs.Held.{some_same}
 use Rattle.ee_records.specs.Calls.{AreChanged, AreChangedIn, IsInPlace}
 use Rattle.ee_records.specs.Record.{place, record_word, word_turn}
 use Rattle.ee_records.specs.Steps.{AreUnchanged}
@@ -35,33 +35,30 @@ one_not_zero : (t : ℕ) → t ≡ 1 → t ≡ 0 → ⊥
 one_not_zero t h1 h2 = absurd (omega arith)
 
 -- each of the sixteen turns is set
-pub all_turn : (word : ℕ) → word_turn 65535 word ≡ 1
+all_turn : (word : ℕ) → word_turn 65535 word ≡ 1
 all_turn word = bit_at_ones 16 (word % 16) (omega arith)
+
+pub changed_within : (map : Map) (base turns turned few words : ℕ) (bytes : List ℕ) → few ≤ words
+    → AreChanged few map base bytes turns turned → AreChanged words map base bytes turns turned
+changed_within map base turns turned few words bytes le changed = λ word e.
+    let other = changed word e in (other.0, omega (arith, other.1, le), other.2, other.3)
 
 module _ (map : Map) (base turns : ℕ) (bytes : List ℕ) (words : ℕ) where
   -- one word more that is in place
   pub more_unchanged : (turned : ℕ) → AreUnchanged words map base bytes turns turned
       → IsInPlace map base bytes turns words → AreUnchanged (words + 1) map base bytes turns turned
   more_unchanged turned before here = λ word low e.
-      let P : ℕ → Type 0 = λ w. IsInPlace map base bytes turns w in
       elim (cases_eq word words) [
-        | inl same ↦ subst P (sym same) here
+        | inl same ↦ rw same here
         | inr ne ↦ before word (omega (arith, low, ne)) e
       ]
-
-  pub more_in_place : (turned : ℕ) → AreChanged words map base bytes turns turned
-      → AreChanged (words + 1) map base bytes turns turned
-  more_in_place turned before = λ word e.
-      let other = before word e in (other.0, omega (arith, other.1), other.2, other.3)
 
   -- one word more that turns
   pub more_turned : (turned : ℕ) → AreUnchanged words map base bytes turns turned
       → AreUnchanged (words + 1) map base bytes turns (bit_or turned (turn_bit words))
   more_turned turned before = λ word low e.
       elim (cases_eq word words) [
-        | inl same ↦ absurd (one_not_zero (word_turn (bit_or turned (turn_bit words)) words)
-            (turned_at turned words)
-            (sym (ap (word_turn (bit_or turned (turn_bit words))) same) ∙ e))
+        | inl same ↦ absurd (one_not_zero _ (turned_at turned words) (rw same at e))
         | inr ne ↦ before word (omega (arith, low, ne)) (still_unturned turned (turn_bit words) word e)
       ]
 
@@ -75,11 +72,6 @@ module _ (map : Map) (base turns : ℕ) (bytes : List ℕ) (words : ℕ) where
             let other = before word (unset turned words word ne e) in
             (other.0, omega (arith, other.1), other.2, other.3)
       ]
-
-pub changed_within : (map : Map) (base turns turned few words : ℕ) (bytes : List ℕ) → few ≤ words
-    → AreChanged few map base bytes turns turned → AreChanged words map base bytes turns turned
-changed_within map base turns turned few words bytes le changed = λ word e.
-    let other = changed word e in (other.0, omega (arith, other.1, le), other.2, other.3)
 
 pub none_unchanged : (map : Map) (base turns words : ℕ) (bytes : List ℕ)
     → AreUnchanged words map base bytes turns 65535

@@ -1,14 +1,17 @@
 -- The bytes of a word.
-use Rattle.std.proofs.Common.{◌≡◌, ◌∙◌, ◌<◌, ◌+◌, ◌*◌, ◌/◌, ◌%◌, ℕ, zero, suc, List, refl, ap, arith, Some, slice_index}
+use Rattle.std.proofs.Common.{◌≡◌, ◌∙◌, ◌<◌, ◌+◌, ◌*◌, ◌/◌, ◌%◌, ℕ, zero, suc, List, ap, arith, Some, slice_index}
 use Rattle.std.proofs.lemmas.Bool.Decides.{nat_tests}
 use Rattle.ee_records.specs.Check.{bytes_word}
 use Rattle.ee_records.specs.Record.{HasByte, byte_of, record_word}
 
 -- four bytes in a number
-bytes_of : (a b c d v : ℕ) → a < 256 → b < 256 → c < 256 → d < 256
-    → v ≡ a + 256 * b + 65536 * c + 16777216 * d
-    → (v / 1 % 256 ≡ a) × (v / 256 % 256 ≡ b) × (v / 65536 % 256 ≡ c) × (v / 16777216 % 256 ≡ d)
-bytes_of a b c d v h1 h2 h3 h4 e = (omega arith, omega arith, omega arith, omega arith)
+bytes_of : (byte : ℕ → ℕ) → ((k : ℕ) → byte k < 256) → (k : ℕ) → k < 4
+    → byte_of (byte 0 + 256 * byte 1 + 65536 * byte 2 + 16777216 * byte 3) k ≡ byte k
+bytes_of byte fit zero h = omega (arith, fit 0, fit 1, fit 2, fit 3)
+bytes_of byte fit (suc zero) h = omega (arith, fit 0, fit 1, fit 2, fit 3)
+bytes_of byte fit (suc (suc zero)) h = omega (arith, fit 0, fit 1, fit 2, fit 3)
+bytes_of byte fit (suc (suc (suc zero))) h = omega (arith, fit 0, fit 1, fit 2, fit 3)
+bytes_of byte fit (suc (suc (suc (suc k)))) h = absurd (omega arith)
 
 -- each number of these bytes is a byte
 abbrev pub AreBytes : List ℕ → Type 0
@@ -16,24 +19,14 @@ AreBytes bytes = (at : ℕ) → slice_index bytes at < 256
 
 pub byte_in : (bytes : List ℕ) → AreBytes bytes → (word k : ℕ) → k < 4
     → byte_of (bytes_word bytes word) k ≡ slice_index bytes (4 * word + k)
-byte_in bytes fit word zero h =
-    let p = bytes_of (slice_index bytes (4 * word)) (slice_index bytes (4 * word + 1)) (slice_index bytes (4 * word + 2)) (slice_index bytes (4 * word + 3)) (bytes_word bytes word) (fit (4 * word)) (fit (4 * word + 1)) (fit (4 * word + 2)) (fit (4 * word + 3)) refl in
-    p.0 ∙ ap (slice_index bytes) (omega arith)
-byte_in bytes fit word (suc zero) h =
-    let p = bytes_of (slice_index bytes (4 * word)) (slice_index bytes (4 * word + 1)) (slice_index bytes (4 * word + 2)) (slice_index bytes (4 * word + 3)) (bytes_word bytes word) (fit (4 * word)) (fit (4 * word + 1)) (fit (4 * word + 2)) (fit (4 * word + 3)) refl in
-    p.1
-byte_in bytes fit word (suc (suc zero)) h =
-    let p = bytes_of (slice_index bytes (4 * word)) (slice_index bytes (4 * word + 1)) (slice_index bytes (4 * word + 2)) (slice_index bytes (4 * word + 3)) (bytes_word bytes word) (fit (4 * word)) (fit (4 * word + 1)) (fit (4 * word + 2)) (fit (4 * word + 3)) refl in
-    p.2
-byte_in bytes fit word (suc (suc (suc zero))) h =
-    let p = bytes_of (slice_index bytes (4 * word)) (slice_index bytes (4 * word + 1)) (slice_index bytes (4 * word + 2)) (slice_index bytes (4 * word + 3)) (bytes_word bytes word) (fit (4 * word)) (fit (4 * word + 1)) (fit (4 * word + 2)) (fit (4 * word + 3)) refl in
-    p.3
-byte_in bytes fit word (suc (suc (suc (suc k)))) h = absurd (omega arith)
+byte_in bytes fit word k h =
+    let first : 4 * word + 0 ≡ 4 * word = omega arith in
+    rw first at (bytes_of (λ at. slice_index bytes (4 * word + at)) (λ at. fit (4 * word + at)) k h)
 
-split : (at : ℕ) → 4 * (at / 4) + at % 4 ≡ at
+pub split : (at : ℕ) → 4 * (at / 4) + at % 4 ≡ at
 split at = omega arith
 
-below_four : (at : ℕ) → at % 4 < 4
+pub below_four : (at : ℕ) → at % 4 < 4
 below_four at = omega arith
 
 pub word_behind_check : (bytes : List ℕ) (word : ℕ)

@@ -1,6 +1,5 @@
-use Rattle.std.proofs.Common.{◌∙◌, ap, sym}
+use Rattle.std.proofs.Common.{◌∙◌, sym}
 use Rattle.ee_records.proofs.CheckWords.{remainder-next, remainder-zero}
-use Rattle.ee_records.specs.Check.{remainder, word_further}
 use Rattle.ee_records.proofs.check.check_of.Goals as goal
 
 pub words-init : goal.words-init
@@ -8,7 +7,5 @@ words-init c = c.word_further-rest.ensures ∙ sym (remainder-zero c.args.bytes.
 
 pub words-preserved : goal.words-preserved
 words-preserved c =
+    rw (remainder-next c.args.bytes.now c.words.word, ← c.words.invariant, ← c.bytes_word.ensures)
     c.word_further-rest-in-words.ensures
-    ∙ (ap (λ rest. word_further rest c.bytes_word.result) c.words.invariant
-    ∙ (ap (word_further (remainder c.args.bytes.now c.words.word)) c.bytes_word.ensures
-    ∙ sym (remainder-next c.args.bytes.now c.words.word)))

@@ -1,7 +1,7 @@
-use Rattle.std.proofs.Common.{◌≤◌, ℕ, List, arith, length}
+use Rattle.std.proofs.Common.{◌+◌, ◌≤◌, ℕ, List, arith, length}
 use Rattle.ee_pages.specs.Meaning.{Map}
 use Rattle.ee_core.specs.State.{state_of}
-use Rattle.ee_records.proofs.Turning.{changed_within, in_place_here, more_changed, more_in_place, more_turned, more_unchanged, not_in_place_here, turned_fits}
+use Rattle.ee_records.proofs.Turning.{changed_within, in_place_here, more_changed, more_turned, more_unchanged, not_in_place_here, turned_fits}
 use Rattle.ee_records.specs.Record.{words_with}
 use Rattle.ee_records.proofs.record.Record.changed_turns.Goals as goal
 use Rattle.ee_records.proofs.record.Record.changed_turns.Goals.{then-not-has_value, else-not-has_value}
@@ -17,8 +17,8 @@ words-preserved g c =
     elim c.if-not-has_value.branch [
       | then-not-has_value w ↦
           let other =
-          not_in_place_here map base turns bytes word c.word_turn.result c.place-address.result
-          c.record_word.result c.word_turn.ensures.turn c.place-address.ensures c.record_word.ensures
+          not_in_place_here map base turns bytes word _ _ _ c.word_turn.ensures.turn
+          c.place-address.ensures c.record_word.ensures
           (c.has_value.ensures.no w.if-not-has_value.true) in
           rw w.turned-is (record {
             few = turned_fits c.words.turned word before.few;
@@ -27,13 +27,14 @@ words-preserved g c =
           })
       | else-not-has_value w ↦
           let here =
-          in_place_here map base turns bytes word c.word_turn.result c.place-address.result
-          c.record_word.result c.word_turn.ensures.turn c.place-address.ensures c.record_word.ensures
+          in_place_here map base turns bytes word _ _ _ c.word_turn.ensures.turn
+          c.place-address.ensures c.record_word.ensures
           (c.has_value.ensures.yes w.if-not-has_value.false) in
           rw w.turned-is (record {
             few = before.few;
             unchanged = more_unchanged map base turns bytes word c.words.turned before.unchanged here;
-            changed = more_in_place map base turns bytes word c.words.turned before.changed;
+            changed = changed_within map base turns _ word (word + 1) _ (omega arith)
+                before.changed;
           })
     ]
 
@@ -42,5 +43,4 @@ returns-clause-changed g c =
     let within : c.words.word ≤ words_with (length c.args.bytes.now) =
     omega (arith, c.words.auto.word-end, c.words_with-word-end.ensures) in
     changed_within (state_of (g.V.Variables.device c.args.store.now)).map c.args.self.now.base
-    c.args.turns c.words.turned c.words.word (words_with (length c.args.bytes.now))
-    c.args.bytes.now within c.words.invariant.changed
+    c.args.turns _ _ _ _ within c.words.invariant.changed
