@@ -1,9 +1,10 @@
 -- What the mark says of the shape that a flash was written in.
-use Rattle.std.specs.Prelude.{◌≡◌, ◌≢◌, ◌⊎◌, ℕ, Some}
-use Rattle.ee_flash.specs.Size.{IsWithinLimits, Size}
+use Rattle.std.specs.Prelude.{◌≡◌, ◌≢◌, ◌⊎◌, ℕ, ◌+◌, ◌*◌, ◌^◌, Some, unwrap_or}
+use Rattle.ee_flash.specs.Numbers.{header_half}
+use Rattle.ee_flash.specs.Size.{IsWithinLimits, Size, size_of}
 use Rattle.ee_flash.specs.declared.word.Word.TheVariants.{Torn}
 use Rattle.ee_nor.specs.Coded.Code.{codeword}
-use Rattle.ee_nor.specs.Coded.Coded.{coded_word, mark_payload}
+use Rattle.ee_nor.specs.Coded.Coded.{coded_number, coded_word, mark_payload}
 use Rattle.ee_nor.specs.Coded.EccNor.{EccDevice, ecc_at}
 
 -- a number of the flash is the mark of this shape
@@ -36,3 +37,29 @@ IsOtherShape ecc other =
 -- neither names one
 abbrev pub IsOfNoOtherShape : EccDevice → Type 0
 IsOfNoOtherShape ecc = NamesNone ecc 0 × NamesNone ecc ecc.size.pages
+
+-- ---- plain words
+
+-- the mark of a store of plain words, which says no shape
+abbrev pub plain_mark : ℕ
+plain_mark = header_half * 2 ^ 32 + header_half
+
+-- what word 1 of a page reads as, 0 where it can't be read
+abbrev pub mark_read : EccDevice → ℕ → ℕ
+mark_read ecc page = unwrap_or (ecc_at ecc page 1).reading 0
+
+-- A store of plain words: the first page of a set has their mark, and neither has that of this
+-- shape.
+pub record HoldsPlainWords (ecc : EccDevice) : Type 0 where
+  pub plain : (mark_read ecc 0 ≡ plain_mark) ⊎ (mark_read ecc ecc.size.pages ≡ plain_mark)
+  pub not_first : mark_read ecc 0 ≢ coded_number ecc.size plain_mark
+  pub not_second : mark_read ecc ecc.size.pages ≢ coded_number ecc.size plain_mark
+
+-- The flash holds a store that isn't one of coded words of this shape: one of another shape, or,
+-- with no page and no word, one of plain words.
+abbrev pub HoldsOther : EccDevice → Size → Type 0
+HoldsOther ecc other =
+    IsOtherShape ecc other ⊎ (IsOfNoOtherShape ecc × HoldsPlainWords ecc × (other ≡ size_of 0 0))
+
+abbrev pub HoldsNoOther : EccDevice → Type 0
+HoldsNoOther ecc = IsOfNoOtherShape ecc × (HoldsPlainWords ecc → ⊥)

@@ -5,7 +5,7 @@ ghost use Rattle.ee_flash.specs.Device.{all_ones};
 ghost use Rattle.ee_nor.specs.Coded.Coded.{IsCodedSafe};
 ghost use Rattle.ee_nor.specs.Coded.EccNor.{ecc_at, whole_number};
 ghost use Rattle.ee_flash.specs.Size.{size_of};
-ghost use Rattle.ee_nor.specs.Coded.Shapes.{IsOfNoOtherShape, IsOtherShape};
+ghost use Rattle.ee_nor.specs.Coded.Shapes.{HoldsNoOther, HoldsOther};
 ghost use Rattle.ee_nor.specs.Coded.Wiping.{IsEccWipeCut, MayBeNew, with_all_ecc_wiped};
 
 use crate::coded::ecc_nor::EccNor;
@@ -34,13 +34,14 @@ impl<N: EccNor + Drop> Coded<N> {
     /// `OtherShape`, with the flash as it was: the mark there is of this shape, and not of the
     /// device's own. Page 0 comes first, the first page of set 0 in each shape. That of set 1 is
     /// looked for where the own shape has it. So a flash of another shape passes where page 0 is
-    /// erased and no mark stands there; as none of its marks reads as one, it has no live set.
+    /// erased and no mark stands there; as none of its marks reads as one, it has no live set. With
+    /// 0 pages it holds plain words: one of these two is their mark, and neither is the device's.
     pub fn of(nor: N) -> Result<Coded<N>, (N, OtherShape)>
         requires safe { IsCodedSafe (N.ecc nor) }
         ensures same { IfOk result (λ coded. N.ecc coded.nor ≡ N.ecc nor) }
-        ensures looked { OnOk result (IsOfNoOtherShape (N.ecc nor)) }
+        ensures looked { OnOk result (HoldsNoOther (N.ecc nor)) }
         ensures fault { IfErr result (λ refused.
-            IsOtherShape (N.ecc nor) (size_of refused.1.pages refused.1.words)) }
+            HoldsOther (N.ecc nor) (size_of refused.1.pages refused.1.words)) }
         ensures untouched { IfErr result (λ refused. N.ecc refused.0 ≡ N.ecc nor) }
     {
         match other_shape(&nor) {

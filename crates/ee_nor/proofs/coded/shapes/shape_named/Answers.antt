@@ -2,7 +2,7 @@ use Rattle.std.proofs.Common.{IfNone, ◌∙◌, ap, subst, ℕ}
 use Rattle.ee_flash.specs.Size.{Size}
 use Rattle.ee_nor.specs.Coded.Shapes.{NamesNone}
 use Rattle.ee_nor.proofs.CodedLemmas.Marks.{both_none}
-use Rattle.ee_nor.proofs.coded.shapes.other_shape.Goals as goal
+use Rattle.ee_nor.proofs.coded.shapes.shape_named.Goals as goal
 
 pub returns-in-None-clause-none : goal.returns-in-None-clause-none
 returns-in-None-clause-none g c =
