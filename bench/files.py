@@ -29,6 +29,7 @@ CERTIFICATE = next(
 DUMP = worked.example("dumps").files["dump"]
 HEX = worked.example("hex").files["part"]
 PAIRS = worked.example("pairs").files["dump"]
+CODED = worked.example("coded").files["dump"]
 SETTINGS = worked.example("second-schema").files["settings"]
 INPUTS = {
     "image": MOVED,
@@ -42,6 +43,7 @@ INPUTS = {
     "hex": HEX,
     "pairs": PAIRS,
     "pairs-hex": hex_of(PAIRS, 0x0807F000),
+    "coded": CODED,
 }
 # The commands that write an image, and those that don't. Each of the first changes the image.
 WRITERS = {
@@ -51,6 +53,7 @@ WRITERS = {
     "set": ["set", "image", "settings", "volume", "10"],
     "import": ["import", "1", "6", "dump", "image"],
     "import --pairs": ["import", "--pairs", "1", "6", "pairs", "image"],
+    "import --coded": ["import", "--coded", "1", "6", "coded", "image"],
     "import-hex": ["import-hex", "1", "6", "0807f000", "hex", "image"],
     "import-hex --pairs": ["import-hex", "--pairs", "1", "6", "0807f000", "pairs-hex", "image"],
     "unset": ["unset", "image", "settings", "volume"],

@@ -45,6 +45,10 @@ export --pairs image dump
 import --pairs P W dump new
 export-hex --pairs image BASE hex
 import-hex --pairs P W BASE hex new
+export --coded image dump
+import --coded P W dump new
+export-hex --coded image BASE hex
+import-hex --coded P W BASE hex new
 list image
 list image settings
 get image settings NAME
@@ -116,7 +120,7 @@ def command(dice, size, names):
     words = [drawn(dice, word, size, names) for word in dice.choice(COMMANDS)]
     if dice.random() < 0.03:
         words.insert(
-            dice.randrange(len(words) + 1), dice.choice(["--pairs", "--rust", "x", "", "image"])
+            dice.randrange(len(words) + 1), dice.choice(["--pairs", "--coded", "x", "", "image"])
         )
     if dice.random() < 0.02 and words:
         del words[dice.randrange(len(words))]
