@@ -84,8 +84,8 @@ pub trait Driver {
 /// Only [`Coded`](Kind::Coded) words say the shape of their store, so that an opening under another is told.
 #[derive(Clone, Copy, Debug, PartialEq, Eq)]
 pub enum Kind {
-    /// Words of 64 bits with error correction (ECC), so that one that a cut left half written is told: [`Word::Torn`]. That the ECC
-    /// makes no other number of it is a premise, which ECCs of 72 bits break now and then: a new store takes `Coded`.
+    /// Words of 64 bits with error correction (ECC), so that one that a cut left half written is told: [`Word::Torn`]. That the
+    /// ECC makes no other number of it is a premise, which ECCs of 72 bits break now and then: a new store takes `Coded`.
     Words,
     /// Pairs of numbers, whose cells go one way: from one to zero while a number is programmed, from zero to one while a page is
     /// erased. So what a cut leaves of a number that is programmed has every bit of the one asked for, and what it leaves of
@@ -95,10 +95,10 @@ pub enum Kind {
     /// says that an erase doesn't. A cut erase leaves any numbers. That no two of a word come out as each other's complement
     /// is a premise then: chance makes them of 64 bits, and of a word that a cut program tore of the few that it lacks.
     PairsClearing,
-    /// Words of 64 bits with ECC, each with a check of 15 bits, in as much flash as `Words` and by the same driver. Cells go one way,
-    /// as of `Pairs`, and a word reads as they are, with one bit turned by the ECC, or as torn: then none that a cut leaves reads as
-    /// another, and one that no store wrote is torn. That a cut erase makes no word whole which an earlier cut had left torn is a
-    /// premise.
+    /// Words of 64 bits with ECC, each with a check of 15 bits, in as much flash as `Words` and by the same driver. Cells go one
+    /// way, as of `Pairs`, and a word reads as they are, with one bit turned by the ECC, or as torn: then none that a cut leaves
+    /// reads as another, and one that no store wrote is torn. That a cut erase makes no word whole which an earlier cut had left
+    /// torn is a premise.
     Coded,
 }
 

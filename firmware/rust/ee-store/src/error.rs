@@ -8,8 +8,8 @@ use core::fmt;
 pub enum OpenError<E> {
     /// Sizes of the flash don't fit, or the place of the store in it.
     Unfit(Unfit),
-    /// The flash holds a store of [coded words](crate::Kind::Coded) of this other shape, by the mark in page 0, or in the first page of
-    /// the second set as the driver's shape has it. It comes before all else that an opening says of the flash.
+    /// The flash holds a store of [coded words](crate::Kind::Coded) of this other shape, by the mark in page 0, or in the first
+    /// page of the second set as the driver's shape has it. It comes before all else that an opening says of the flash.
     OtherShape {
         /// Pages of each set, 1 to 64.
         pages: usize,

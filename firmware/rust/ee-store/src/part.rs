@@ -65,9 +65,9 @@ impl<D: Driver> Part<D> {
         Coded::of(self.codes()?).err().map(|it| it.1)
     }
 
-    /// Whether a first store may be made here: but for words only where no more is written than a first start that was cut leaves.
-    /// It programs the first two words of page 0, and erases that page where it was cut before: such an erase leaves anything
-    /// there if it clears the cells first, and else no others.
+    /// Whether a first store may be made here: but for words only where no more is written than a first start that was cut
+    /// leaves. It programs the first two words of page 0, and erases that page where it was cut before: such an erase leaves
+    /// anything there if it clears the cells first, and else no others.
     pub(crate) fn may_be_new(&self) -> bool {
         match self.driver.kind() {
             Kind::Words => true,

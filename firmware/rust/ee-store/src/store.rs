@@ -82,9 +82,9 @@ impl<D: Driver> Store<D> {
     /// live and each word behind a page's header is erased or torn. It is the call to make at each start: a first start in which
     /// power failed is made again, and no stored value is erased.
     ///
-    /// Of [pairs](crate::Kind::Pairs) and [coded words](crate::Kind::Coded) it makes the first store only where all words are erased
-    /// but the first two of page 0. A first start that was cut leaves no others. Where an erase clears first, page 0 may hold any
-    /// numbers but a value.
+    /// Of [pairs](crate::Kind::Pairs) and [coded words](crate::Kind::Coded) it makes the first store only where all words are
+    /// erased but the first two of page 0. A first start that was cut leaves no others. Where an erase clears first, page 0 may
+    /// hold any numbers but a value.
     ///
     /// # Errors
     ///

@@ -10,10 +10,10 @@
 //! every one of the word asked for, and with one bit turned, whichever it is and whatever the error
 //! correction did, it is that word or no coded word.
 //!
-//! `encode` makes a word, `decode` reads one (`specs/Coded/Code.antt`). `Coded` is a device of words
-//! (`ee_flash`) on such a flash, one number a word. The check is the bits 31 to 17, so a run gives
-//! the numbers as they read, in which a look finds an address, and `number` decodes the one that is
-//! found. `EccNor` is the flash as a contract (`specs/Coded/EccNor.antt`): cells, and beside each
+//! `encode` makes a word, `decode` reads one (`specs/Coded/Code.antt`). `Coded` is a device of
+//! words (`ee_flash`) on such a flash, one number a word. The check is the bits 31 to 17, so a run
+//! gives the numbers as they read, in which a look finds an address, and `number` decodes the one
+//! that is found. `EccNor` is the flash as a contract (`specs/Coded/EccNor.antt`): cells, and beside each
 //! number what it reads as. `specs/Coded/Coded.antt` says which word a reading is.
 //!
 //! The mark has the shape of the device, and that of another is torn. So a flash that was written
@@ -23,8 +23,9 @@
 //!
 //! **No program uses coded words yet**, and the firmware keeps words and pairs alone. Not here: a
 //! test whether cells hold what something else wrote (a reading doesn't tell, so `of` and `known`
-//! ask for it and `wipe` erases), and numbers that stand in memory. The code doesn't hold where two bits are corrected, where erases clear cells first, or
-//! where cells fade from one to zero by themselves.
+//! ask for it and `wipe` erases), and numbers that stand in memory. The code doesn't hold where two
+//! bits are corrected, where erases clear cells first, or where cells fade from one to zero by
+//! themselves.
 //!
 //! # What is proved
 //!

@@ -76,8 +76,8 @@ fn gather_page<F: Flash>(flash: &F, side: Side, page: usize, above: u16, nearest
     }
 }
 
-/// Notes what the words of these readings say, of so many addresses above this one, which are those that have a
-/// place in the batch. Gives how many have one then.
+/// Notes what the words of these readings say, of so many addresses above this one, which are those
+/// that have a place in the batch. Gives how many have one then.
 #[inline(never)]
 fn note_all<F: Flash>(
     flash: &F,

@@ -75,7 +75,7 @@ pub(crate) fn set_number<F: Flash>(flash: &F, side: Side, slot: usize) -> u64 {
 pub(crate) fn committed<F: Flash>(flash: &F, side: Side) -> Option<u32> {
     let mut room = [1; COMMITTING];
     let run = flash.run(first_page(flash, side), 0, &mut room[..COMMITTING]);
-    // The number of a torn word is 0, of an erased one all ones: neither is a mark or a receive word.
+    // The number of a torn word is 0, of an erased one all ones: no mark and no receive word.
     if flash.number(run[1]) == MARK {
         read_receive(Word::Held(flash.number(run[0])))
     } else {
