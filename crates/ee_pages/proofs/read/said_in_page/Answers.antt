@@ -29,15 +29,16 @@ returns-in-Some g c =
     length-take-le count c.runs.room
     (omega (arith, c.min-count.ensures, c.min-count.array_long)) in
     let run =
-    whole_run reads device c.args.side c.args.page here formed c.requires.page_in_range at from count
-    (length (take count c.runs.room)) readings
+    whole_run reads device c.args.side c.args.page here formed c.requires.page_in_range at from
+    count (length (take count c.runs.room)) readings
     (omega (arith, few, c.runs.invariant.within, c.requires.used_in_range)) all
     c.run-run.ensures in
     let end : from + length readings ≡ c.runs.left = omega (arith, few, run.0) in
     let low : from + length readings ≤ c.args.used = omega (arith, end, c.runs.invariant.within) in
     let silent =
     run_silent reads device c.args.side c.args.page here formed c.requires.page_in_range at
-    (g.met.F.Flash.shown c.args.flash.now) from ends c.args.used c.args.address readings low c.requires.used_in_range run.1
+    (g.met.F.Flash.shown c.args.flash.now) from ends c.args.used c.args.address readings low
+    c.requires.used_in_range run.1
     found.within found.behind
     (subst (λ n. latest_in (drop n row) c.args.address ≡ None) (sym end)
     c.runs.invariant.silent) in
@@ -79,15 +80,16 @@ runs-preserved-then-ends-gt0 g c =
     length-take-le count c.runs.room
     (omega (arith, c.min-count.ensures, c.min-count.array_long)) in
     let run =
-    whole_run reads device c.args.side c.args.page here formed c.requires.page_in_range at from count
-    (length (take count c.runs.room)) readings
+    whole_run reads device c.args.side c.args.page here formed c.requires.page_in_range at from
+    count (length (take count c.runs.room)) readings
     (omega (arith, few, c.runs.invariant.within, c.requires.used_in_range)) all
     c.run-run.ensures in
     let end : from + length readings ≡ c.runs.left = omega (arith, few, run.0) in
     let low : from + length readings ≤ c.args.used = omega (arith, end, c.runs.invariant.within) in
     let silent =
     run_silent reads device c.args.side c.args.page here formed c.requires.page_in_range at
-    (g.met.F.Flash.shown c.args.flash.now) from ends c.args.used c.args.address readings low c.requires.used_in_range run.1
+    (g.met.F.Flash.shown c.args.flash.now) from ends c.args.used c.args.address readings low
+    c.requires.used_in_range run.1
     found.within found.behind
     (subst (λ n. latest_in (drop n row) c.args.address ≡ None) (sym end)
     c.runs.invariant.silent) in
@@ -132,15 +134,16 @@ runs-preserved g c =
     length-take-le count c.runs.room
     (omega (arith, c.min-count.ensures, c.min-count.array_long)) in
     let run =
-    whole_run reads device c.args.side c.args.page here formed c.requires.page_in_range at from count
-    (length (take count c.runs.room)) readings
+    whole_run reads device c.args.side c.args.page here formed c.requires.page_in_range at from
+    count (length (take count c.runs.room)) readings
     (omega (arith, few, c.runs.invariant.within, c.requires.used_in_range)) all
     c.run-run.ensures in
     let end : from + length readings ≡ c.runs.left = omega (arith, few, run.0) in
     let low : from + length readings ≤ c.args.used = omega (arith, end, c.runs.invariant.within) in
     let silent =
     run_silent reads device c.args.side c.args.page here formed c.requires.page_in_range at
-    (g.met.F.Flash.shown c.args.flash.now) from ends c.args.used c.args.address readings low c.requires.used_in_range run.1
+    (g.met.F.Flash.shown c.args.flash.now) from ends c.args.used c.args.address readings low
+    c.requires.used_in_range run.1
     found.within found.behind
     (subst (λ n. latest_in (drop n row) c.args.address ≡ None) (sym end)
     c.runs.invariant.silent) in

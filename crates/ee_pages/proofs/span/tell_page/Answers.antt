@@ -45,13 +45,14 @@ runs-preserved g c =
     length-take-le count c.runs.room
     (omega (arith, c.min-count.ensures, c.min-count.array_long)) in
     let run =
-    whole_run reads device c.args.side c.args.page here formed c.requires.page_in_range at from count
-    (length (take count c.runs.room)) readings
+    whole_run reads device c.args.side c.args.page here formed c.requires.page_in_range at from
+    count (length (take count c.runs.room)) readings
     (omega (arith, few, c.runs.invariant.within, c.requires.used_in_range)) all
     c.run-run.ensures in
     let end : from + count ≡ c.runs.left = omega (arith, few) in
     let words = words_from device here (4 + from) count in
-    let are = subst (λ n. AreReadings reads (words_from device here (4 + from) n) readings) run.0 run.1 in
+    let are =
+    subst (λ n. AreReadings reads (words_from device here (4 + from) n) readings) run.0 run.1 in
     record {
       within = omega (arith, c.runs.invariant.within);
       tells =

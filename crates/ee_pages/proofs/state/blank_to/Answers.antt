@@ -22,7 +22,8 @@ returns-then-not-is_erased-clause-before g c =
     let words : c.words-words.result ≡ device.size.words =
     c.words-words.ensures.value ∙ ap (λ (size : Size). size.words) c.shape.ensures in
     let next = c.runs.invariant.next (omega (arith, words, c.runs-test.true)) in
-    erased_on (g.F.Flash.reads c.args.flash.now) (g.met.F.Flash.shown c.args.flash.now) device c.args.page c.runs.at c.run_from-run.result.now
+    erased_on (g.F.Flash.reads c.args.flash.now) (g.met.F.Flash.shown c.args.flash.now) device
+    c.args.page c.runs.at c.run_from-run.result.now
     (g.met.F.Flash.formed c.args.flash.now) c.requires.page_in_range
     (omega (arith, run.within, next.1)) run.readings
     c.args.from c.erased_in.result c.runs.invariant.before erased.within erased.before
@@ -38,7 +39,8 @@ returns-then-not-is_erased-clause-end g c = λ h.
     let inside =
     one_of c.run_from-run.result.now c.erased_in.result
     (c.is_erased.ensures.no c.if-not-is_erased.true) erased.before in
-    erased_end (g.F.Flash.reads c.args.flash.now) (g.met.F.Flash.shown c.args.flash.now) device c.args.page c.runs.at c.run_from-run.result.now
+    erased_end (g.F.Flash.reads c.args.flash.now) (g.met.F.Flash.shown c.args.flash.now) device
+    c.args.page c.runs.at c.run_from-run.result.now
     (g.met.F.Flash.formed c.args.flash.now) c.requires.page_in_range
     (omega (arith, run.within, next.1)) run.readings
     c.erased_in.result inside (erased.end inside)
@@ -55,7 +57,8 @@ runs-preserved g c =
       within = omega (arith, run.within, next.1);
       next = λ h. (omega (arith, words, h), omega (arith, words));
       before =
-          erased_on (g.F.Flash.reads c.args.flash.now) (g.met.F.Flash.shown c.args.flash.now) device c.args.page c.runs.at c.run_from-run.result.now
+          erased_on (g.F.Flash.reads c.args.flash.now) (g.met.F.Flash.shown c.args.flash.now) device
+          c.args.page c.runs.at c.run_from-run.result.now
           (g.met.F.Flash.formed c.args.flash.now) c.requires.page_in_range
           (omega (arith, run.within, next.1)) run.readings
           c.args.from (length c.run_from-run.result.now) c.runs.invariant.before (omega arith)
