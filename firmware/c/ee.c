@@ -1680,8 +1680,7 @@ static MaybeU32 committed(const Device *flash, Side side) {
     }
     const ListOfU64 run = device_run(flash, first_page(flash, side), 0u,
             (RoomOfU64){ .items = room, .len = COMMITTING });
-    /* The number of a torn word is 0, of an erased one all ones: neither is a mark or a receive
-     * word. */
+    /* The number of a torn word is 0, of an erased one all ones: no mark and no receive word. */
     if (device_number(flash, run.items[1u]) == MARK) {
         return read_receive(word_held(device_number(flash, run.items[0u])));
     }
