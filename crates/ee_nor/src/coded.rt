@@ -16,12 +16,12 @@
 //!
 //! The mark has the shape of the device, and that of another is torn. So a flash that was written
 //! in another shape has no committed set, and `Coded::of` names that shape where the first page of
-//! a set does, and refuses a store of plain words. Numbers of something else read as torn: a store is first made only where no more is
-//! written than a first start leaves (`may_be_new`).
+//! a set does, and refuses a store of plain words. Numbers of something else read as torn: a store
+//! is first made only where no more is written than a first start leaves (`may_be_new`).
 //!
-//! Not here: a test whether cells hold what something else wrote, since a reading doesn't tell (`of`
-//! and `known` ask for it, and `wipe` erases). The code doesn't hold where two bits are corrected,
-//! where erases clear cells first, or where cells fade from one to zero by themselves.
+//! Not here: a test whether cells hold what something else wrote, since a reading doesn't tell
+//! (`of` and `known` ask for it, and `wipe` erases). The code doesn't hold where two bits are
+//! corrected, where erases clear cells first, or where cells fade from one to zero by themselves.
 //!
 //! # What is proved
 //!
