@@ -53,6 +53,9 @@
  * cores of 32 bits write such a number with less code. */
 #define UNREAD UINT64_C(0x100000001)
 
+/* The mark of a store of plain words. */
+#define PLAIN_MARK UINT64_C(0xAAAAAAAAAAAAAAAA)
+
 /* Seven bits for each half weight: a row has a one that the next lacks, and two that each later
  * one lacks. */
 static const uint8_t WEIGHT_ROWS[29] = {
@@ -430,7 +433,8 @@ typedef struct LowPair {
     uint32_t word;
 } LowPair;
 
-/* The shape of the store that a flash holds, where it is another than the device's. */
+/* The shape of the store that a flash holds, where that is none of coded words of the device's
+ * shape. Both are 0 of a store of plain words, whose mark says no shape. */
 typedef struct OtherShape {
     /* The pages of each set, 1 to 64. */
     uint32_t pages;
@@ -1187,6 +1191,8 @@ EE_IN_PLACE uint64_t payload_of(Shape shape, uint64_t number);
 static uint64_t mark_payload(Shape shape);
 static uint64_t words_number_of(uint64_t payload);
 EE_IN_PLACE MaybeOtherShape other_shape(const EccNumbers *nor);
+static bool holds_plain_words(const EccNumbers *nor);
+static MaybeOtherShape shape_named(const EccNumbers *nor);
 EE_APART MaybeOtherShape other_named(const EccNumbers *nor, uint32_t page);
 EE_IN_PLACE MaybeShape shape_of_mark(uint64_t number);
 static uint64_t coded_number(const EccNumbers *self, uint64_t reading);
@@ -1680,8 +1686,7 @@ static MaybeU32 committed(const Device *flash, Side side) {
     }
     const ListOfU64 run = device_run(flash, first_page(flash, side), 0u,
             (RoomOfU64){ .items = room, .len = COMMITTING });
-    /* The number of a torn word is 0, of an erased one all ones: neither is a mark or a receive
-     * word. */
+    /* The number of a torn word is 0, of an erased one all ones: no mark and no receive word. */
     if (device_number(flash, run.items[1u]) == MARK) {
         return read_receive(word_held(device_number(flash, run.items[0u])));
     }
@@ -4848,10 +4853,34 @@ static uint64_t words_number_of(uint64_t payload) {
     return value * UINT64_C(0x100000000) + low;
 }
 
-/* ---- coded/shapes.rs: The shape that the mark of a flash of coded numbers says. */
+/* ---- coded/shapes.rs: The store that a flash holds, where it is none of coded words of the
+ * device's shape. */
+
+/* The other shape of the store that a flash holds. */
+EE_IN_PLACE MaybeOtherShape other_shape(const EccNumbers *nor) {
+    const MaybeOtherShape maybe_named = shape_named(nor);
+    if (maybe_named.some) {
+        return maybe_other_shape_some(maybe_named.value);
+    }
+    if (holds_plain_words(nor)) {
+        return maybe_other_shape_some((OtherShape){ .pages = 0u, .words = 0u });
+    }
+    return maybe_other_shape_none();
+}
+
+/* Whether the flash holds a store of plain words. Of each coded mark three ones or more are no
+ * ones of the plain one, so no cut of one makes it. */
+static bool holds_plain_words(const EccNumbers *nor) {
+    const uint64_t own = words_coded_number(nor->shape, PLAIN_MARK);
+    const MaybeU64 maybe_read = ecc_numbers_read(nor, 0u, 1u);
+    const uint64_t first = maybe_read.some ? maybe_read.value : 0u;
+    const MaybeU64 maybe_read_2 = ecc_numbers_read(nor, nor->shape.pages, 1u);
+    const uint64_t second = maybe_read_2.some ? maybe_read_2.value : 0u;
+    return (first == PLAIN_MARK || second == PLAIN_MARK) && first != own && second != own;
+}
 
 /* The other shape that the first page of a set names. */
-EE_IN_PLACE MaybeOtherShape other_shape(const EccNumbers *nor) {
+static MaybeOtherShape shape_named(const EccNumbers *nor) {
     const MaybeOtherShape maybe_other_named = other_named(nor, 0u);
     if (maybe_other_named.some) {
         return maybe_other_shape_some(maybe_other_named.value);

@@ -13,8 +13,8 @@
 //! `encode` makes a word, `decode` reads one (`specs/Coded/Code.antt`). `Coded` is a device of
 //! words (`ee_flash`) on such a flash, one number a word. The check is the bits 31 to 17, so a run
 //! gives the numbers as they read, in which a look finds an address, and `number` decodes the one
-//! that is found. `EccNor` is the flash as a contract (`specs/Coded/EccNor.antt`): cells, and beside each
-//! number what it reads as. `specs/Coded/Coded.antt` says which word a reading is.
+//! that is found. `EccNor` is the flash as a contract (`specs/Coded/EccNor.antt`): cells, and beside
+//! each number what it reads as. `specs/Coded/Coded.antt` says which word a reading is.
 //!
 //! The mark has the shape of the device, and that of another is torn. So a flash that was written
 //! in another shape has no committed set, and `Coded::of` names that shape where the first page of

@@ -24,7 +24,8 @@ impl<N: EccNor> Coded<N> {
     /// `OtherShape`, with the flash as it was: the mark there is of this shape, and not of the
     /// device's own. Page 0 comes first, the first page of set 0 in each shape. That of set 1 is
     /// looked for where the own shape has it. So a flash of another shape passes where page 0 is
-    /// erased and no mark stands there; as none of its marks reads as one, it has no live set.
+    /// erased and no mark stands there; as none of its marks reads as one, it has no live set. With
+    /// 0 pages it holds plain words: one of these two is their mark, and neither is the device's.
     pub fn of(nor: N) -> Result<Coded<N>, (N, OtherShape)> {
         match other_shape(&nor) {
             None => Ok(Coded { nor }),
