@@ -72,16 +72,12 @@ static ee_result converted(const ee_flash *flash) {
     return flash->program(flash->context, set.first, COMMITS, set.mark) == 0 ? EE_OK : EE_DRIVER;
 }
 
-/* Whether a start was refused since the flash holds a store of words. */
-static bool is_of_words(ee_result status, const ee_flash *flash) {
-    uint32_t pages = 0, page_words = 0;
-    return status == EE_OTHER_SHAPE && ee_other_shape(flash, &pages, &page_words) == EE_OK && pages == 0;
-}
-
 ee_result ee_convert(ee_store *store, const ee_flash *flash) {
     ee_result status = flash && flash->kind != EE_CODED ? (ee_result)EE_WRONG_SHAPE : ee_start(store, flash);
-    if (is_of_words(status, flash)) {
-        status = converted(flash);
+    if (status == EE_OTHER_SHAPE) {
+        uint32_t pages, page_words;
+        if (ee_other_shape(flash, &pages, &page_words) != EE_OK) return EE_DRIVER; /* a read failed, or reads otherwise */
+        if (pages == 0) status = converted(flash);
         if (status == EE_OK) status = ee_start(store, flash);
     }
     return status == EE_OK ? cleaned(store) : status;
