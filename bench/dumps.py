@@ -1,7 +1,7 @@
-"""What bench/test tries of dumps: bytes and Intel HEX of random parts, with ECC and without,
-written by `ee` and by this file, read by `ee`, by this file and by objcopy where there is one;
-pairs that a cut left, and others; broken lines; and a HEX text as long as may be read, with its
-time."""
+"""What bench/test tries of dumps: bytes and Intel HEX of random parts, of words, pairs and coded
+words, written by `ee` and by this file, read by `ee`, by this file and by objcopy where there is
+one; pairs and coded words that a cut left, and others; dumps read as another kind; broken lines; and
+a HEX text as long as may be read, with its time. Coded words are those of docs/coded.py."""
 import random
 import re
 import subprocess
@@ -9,6 +9,7 @@ import time
 from collections import namedtuple
 from itertools import product
 
+from docs import coded
 from tools import trying, worked
 
 # The sizes that are tried: the least, one page of 2 KiB, and the greatest.
@@ -38,28 +39,56 @@ def tells_shape(number, at):
     return number >> 17 & 0x7FFF == 0 and 0 < number & 0xFFFF < 0xFFFF and not may_be_cut
 
 
-def random_dump(chance, pages, words, anywhere=False):
+def is_stores(number):
+    """Whether a store may write this number: a slot's or a header's."""
+    return number >> 17 & 0x7FFF == 0 and number & 0xFFFF or number >> 32 == 0xAAAAAAAA
+
+
+def random_dump(chance, pages, words, anywhere=False, stores=False):
     """The bytes of a part: words with bytes of every kind, and erased ones. Only with `anywhere`
-    they may tell another shape."""
+    they may tell another shape; with `stores` all numbers are a store's."""
 
     def word(at):
         while True:
             kinds = [ALL_ONES, chance.randbytes(8), bytes([chance.randrange(256)]) * 8]
+            if stores:
+                slot = chance.randbytes(2) + bytes([chance.randrange(2), 0]) + chance.randbytes(4)
+                kinds = [ALL_ONES, slot, chance.randbytes(4) + b"\xaa" * 4, b"\xaa" * 8]
             if anywhere and chance.randrange(12) == 0:
                 kinds = [MARK.to_bytes(8, "little"), b"\x05\x00\x01\x00" + chance.randbytes(4)]
             drawn = chance.choice(kinds)
-            if anywhere or not tells_shape(int.from_bytes(drawn, "little"), at):
+            number = int.from_bytes(drawn, "little")
+            if stores and drawn != ALL_ONES and not is_stores(number):
+                continue
+            if anywhere or not tells_shape(number, at):
                 return drawn
 
     return b"".join(word(at % words) for at in range(2 * pages * words))
 
 
-def paired(dump):
+def plain(dump, pages, words):
+    """The bytes of a part that has these words as they are."""
+    return bytes(dump)
+
+
+def paired(dump, pages, words):
     """The bytes of a part without ECC that has these words: each number and its complement, or all
     ones."""
     numbers = (dump[at : at + 8] for at in range(0, len(dump), 8))
     return b"".join(
         2 * ALL_ONES if number == ALL_ONES else number + bytes(255 - byte for byte in number)
+        for number in numbers
+    )
+
+
+def encoded(dump, pages, words):
+    """The bytes of a part of coded words that has these words, each a number of a store or all
+    ones."""
+    numbers = (dump[at : at + 8] for at in range(0, len(dump), 8))
+    return b"".join(
+        number
+        if number == ALL_ONES
+        else coded.written(int.from_bytes(number, "little"), pages, words).to_bytes(8, "little")
         for number in numbers
     )
 
@@ -89,10 +118,52 @@ def image_of_pairs(dump, pages, words):
     return image_text(texts, pages, words)
 
 
+def image_of_codes(dump, pages, words):
+    """The image of these bytes of a part of coded words."""
+    texts = []
+    for at in range(0, len(dump), 8):
+        number = int.from_bytes(dump[at : at + 8], "little")
+        found = coded.read(number, pages, words)
+        texts.append("-" if number == MOST_NUMBER else "?" if found is None else f"{found:016x}")
+    return image_text(texts, pages, words)
+
+
 # A form of a dump: what stands behind the commands' names, the bytes of a part with these words,
-# the image of such bytes, and how many a word has.
-Form = namedtuple("Form", "flag written read size")
-FORMS = [Form("", bytes, image_of, 8), Form(" --pairs", paired, image_of_pairs, 16)]
+# the image of such bytes, how many a word has, and whether it has codes for a store's numbers alone.
+Form = namedtuple("Form", "flag written read size stores")
+FORMS = [
+    Form("", plain, image_of, 8, False),
+    Form(" --pairs", paired, image_of_pairs, 16, False),
+    Form(" --coded", encoded, image_of_codes, 8, True),
+]
+
+
+def kind_in(half):
+    """What the mark of a set tells, if it has one: the flag and the words of the line."""
+    first, second, third = (int.from_bytes(half[at : at + 8], "little") for at in (8, 16, 24))
+    if first == MARK:
+        return "", "words"
+    if second == MARK and third == MOST_NUMBER - MARK:
+        return " --pairs", "pairs"
+    pages, words = first >> 48, first >> 32 & 0xFFFF
+    if 1 <= pages <= PAGES and 5 <= words <= WORDS and first == coded.word_of(first >> 32, 1 << 16):
+        return " --coded", f"coded words {pages} {words}"
+    return None
+
+
+def other_kind(flag, dump, pages, words):
+    """What the first set whose mark is of another kind than a part of this form and shape tells."""
+    asked = f"coded words {pages} {words}"
+    for half in (dump[: len(dump) // 2], dump[len(dump) // 2 :]):
+        told = kind_in(half)
+        if told and (told[0] != flag or flag == " --coded" and told[1] != asked):
+            return told[1]
+    return None
+
+
+def found_in(flag, read, dump, pages, words):
+    """What an import finds in these bytes: another kind, a word that is wrong, or an image."""
+    return other_kind(flag, dump, pages, words) or judged(read(dump, pages, words))
 
 
 def judged(found):
@@ -107,10 +178,12 @@ def judged(found):
 
 
 def told_of(found):
-    """What an import says where this was found: an image, a bad line, or what is wrong with a word
-    of this page and place."""
+    """What an import says where this was found: an image, a bad line, another kind, or what is wrong
+    with a word of this page and place."""
     if isinstance(found, bytes):
         return 0, "imported\n"
+    if isinstance(found, str):
+        return 3, f"ee: dump of {found}\n"
     wrong = "line {}".format(found) if isinstance(found, int) else "{} {} {}".format(*found)
     return 3, f"ee: dump {wrong}\n"
 
@@ -179,12 +252,21 @@ def read_hex(text, base, size):
     return len(lines)
 
 
+def part_of(chance, form, pages, words):
+    """The bytes of a random part of this form, of which no mark tells another kind."""
+    while True:
+        dump = random_dump(chance, pages, words, False, form.stores)
+        dump = form.written(dump, pages, words)
+        if not other_kind(form.flag, dump, pages, words):
+            return dump
+
+
 def bytes_and_texts(place):
     """A part and its image, its bytes and its text are each other's."""
     chance = random.Random(1)
-    for (flag, written, read, size), (pages, words) in product(FORMS, SIZES):
-        dump = written(random_dump(chance, pages, words))
-        image = read(dump, pages, words)
+    for form, (pages, words) in product(FORMS, SIZES):
+        flag, size, dump = form.flag, form.size, part_of(chance, form, pages, words)
+        image = form.read(dump, pages, words)
         place.put("image", image)
         expect(place, f"export{flag} image dump", (0, "exported\n"))
         place.same("dump", dump, f"export{flag} {pages} {words}")
@@ -207,9 +289,9 @@ def objcopy(place):
     """What objcopy writes is read, and it reads what is written."""
     chance, base = random.Random(2), 0x0807F000
     copy = lambda *words: subprocess.run(["objcopy", *words], cwd=place.folder, check=True)
-    for (flag, written, read, _), (pages, words) in product(FORMS, SIZES):
-        dump = written(random_dump(chance, pages, words))
-        place.put("image", read(dump, pages, words))
+    for form, (pages, words) in product(FORMS, SIZES):
+        flag, dump = form.flag, part_of(chance, form, pages, words)
+        place.put("image", form.read(dump, pages, words))
         expect(place, f"export{flag} image dump", (0, "exported\n"))
         copy("-I", "binary", "-O", "ihex", "--change-addresses", hex(base), "dump", "theirs")
         line = f"import-hex{flag} {pages} {words} {base:08x} theirs again"
@@ -254,15 +336,15 @@ def mutated(chance, text):
 def broken_texts(place):
     """Changed texts are read as this file reads them, or have the bad line that it finds."""
     chance, base = random.Random(3), 0xFFD0
-    for (flag, written, read, _), number in product(FORMS, range(MUTATIONS)):
-        dump = written(random_dump(chance, 1, 6, chance.randrange(3) == 0))
+    for (flag, written, read, _, stores), number in product(FORMS, range(MUTATIONS)):
+        dump = written(random_dump(chance, 1, 6, chance.randrange(3) == 0, stores), 1, 6)
         text = hex_of(dump, base, chance.choice([5, 16, 32]))
         for _ in range(chance.randrange(1, 3)):
             text = mutated(chance, text) or b"\n"
         place.put("hex", text)
         found = read_hex(text, base, len(dump))
         if isinstance(found, bytes):
-            found = judged(read(found, 1, 6))
+            found = found_in(flag, read, found, 1, 6)
         expect(place, f"import-hex{flag} 1 6 {base:08x} hex image", told_of(found))
         if isinstance(found, bytes):
             place.same("image", found, f"text{flag} {number}")
@@ -296,8 +378,9 @@ def damaged_pairs(place):
     chance, base = random.Random(5), 0xFF40
     for number in range(MUTATIONS):
         pages, words = chance.choice(SIZES[:3])
-        dump = damaged(chance, paired(random_dump(chance, pages, words, number % 4 == 0)))
-        found = judged(image_of_pairs(dump, pages, words))
+        dump = random_dump(chance, pages, words, number % 4 == 0)
+        dump = damaged(chance, paired(dump, pages, words))
+        found = found_in(" --pairs", image_of_pairs, dump, pages, words)
         place.put("dump", dump)
         place.put("hex", hex_of(dump, base))
         expect(place, f"import --pairs {pages} {words} dump image", told_of(found))
@@ -311,6 +394,41 @@ def damaged_pairs(place):
         expect(place, f"import --pairs {pages} {words} dump image", (3, "ee: dump length\n"))
 
 
+def damaged_codes(place):
+    """Coded words with some bits turned are imported as torn words, or as what they are."""
+    chance = random.Random(6)
+    for number in range(MUTATIONS):
+        pages, words = chance.choice(SIZES[:3])
+        dump = random_dump(chance, pages, words, number % 4 == 0, True)
+        dump = bytearray(encoded(dump, pages, words))
+        for _ in range(chance.randrange(4)):
+            dump[chance.randrange(len(dump))] ^= 1 << chance.randrange(8)
+        found = found_in(" --coded", image_of_codes, dump, pages, words)
+        place.put("dump", dump)
+        expect(place, f"import --coded {pages} {words} dump image", told_of(found))
+        if isinstance(found, bytes):
+            place.same("image", found, f"coded words {number}")
+            expect(place, "export --coded image back", told_of_torn(found))
+
+
+def other_kinds(place):
+    """A dump with a mark is read as no other kind, and as coded words in no other shape."""
+    chance = random.Random(7)
+    for wrote, asked in product(FORMS, FORMS):
+        for (pages, words), (others, many) in product(SIZES[:4], SIZES[:4]):
+            dump = bytearray(random_dump(chance, pages, words, False, True))
+            half = chance.randrange(2) * pages * words * 8
+            dump[half + 8 : half + 16] = b"\xaa" * 8
+            dump = wrote.written(dump, pages, words)
+            if len(dump) != 2 * asked.size * others * many:
+                continue
+            found = found_in(asked.flag, asked.read, dump, others, many)
+            place.put("dump", dump)
+            expect(place, f"import{asked.flag} {others} {many} dump image", told_of(found))
+            differs = wrote != asked or wrote.stores and (pages, words) != (others, many)
+            trying.expect(differs, isinstance(found, str), f"{wrote.flag} as{asked.flag}")
+
+
 def greatest_texts(place):
     for form in FORMS:
         greatest_text(place, form)
@@ -319,7 +437,7 @@ def greatest_texts(place):
 def greatest_text(place, form):
     """A text as long as may be read says the greatest part over and over; one that is longer isn't
     read."""
-    dump = form.written(random_dump(random.Random(4), PAGES, WORDS))
+    dump = part_of(random.Random(4), form, PAGES, WORDS)
     rows = hex_of(dump, 0)
     end = record(0, 1, b"")
     rows = rows.removesuffix(end)
@@ -342,7 +460,14 @@ def greatest_text(place, form):
 
 def checks(program, folder, tally):
     """Makes each check in a folder of its own. Gives its name and what was found, if anything."""
-    tried = [(bytes_and_texts,), (broken_texts,), (damaged_pairs,), (greatest_texts,)]
+    tried = [
+        (bytes_and_texts,),
+        (broken_texts,),
+        (damaged_pairs,),
+        (damaged_codes,),
+        (other_kinds,),
+        (greatest_texts,),
+    ]
     if not tally.lacks("HEX by objcopy", ["objcopy"], "apt-get install binutils"):
         tried.append((objcopy,))
     return trying.faults(tried, lambda: trying.Place(program, folder))

@@ -25,6 +25,7 @@ SAVING = "image.ee-saving-"
 ALL_LIVE = worked.example("all-live")
 MOVED = ALL_LIVE.files["image"]
 PAIRS = worked.example("pairs").files["dump"]
+CODED = worked.example("coded").files["dump"]
 INPUTS = {
     "image": MOVED,
     "script": ALL_LIVE.files["script"],
@@ -37,6 +38,7 @@ INPUTS = {
     "hex": worked.example("hex").files["part"],
     "pairs": PAIRS,
     "pairs-hex": hex_of(PAIRS, 0x0807F000),
+    "coded": CODED,
 }
 # The commands that write an image, and those that don't. Each of the first changes the image.
 WRITERS = {
@@ -46,6 +48,7 @@ WRITERS = {
     "set": "set image settings volume 10",
     "import": "import 1 6 dump image",
     "import --pairs": "import --pairs 1 6 pairs image",
+    "import --coded": "import --coded 1 6 coded image",
     "import-hex": "import-hex 1 6 0807f000 hex image",
     "import-hex --pairs": "import-hex --pairs 1 6 0807f000 pairs-hex image",
     "unset": "unset image settings volume",

@@ -31,6 +31,10 @@ export --pairs image dump
 import --pairs P W dump new
 export-hex --pairs image BASE hex
 import-hex --pairs P W BASE hex new
+export --coded image dump
+import --coded P W dump new
+export-hex --coded image BASE hex
+import-hex --coded P W BASE hex new
 list image
 list image settings
 get image settings NAME
@@ -93,7 +97,7 @@ def command(dice, size, names):
     line = dice.choice(COMMANDS.splitlines())
     words = [drawn(dice, word, size, names) for word in line.split()]
     if dice.random() < 0.03:
-        other = dice.choice(["--pairs", "--rust", "x", "", "image"])
+        other = dice.choice(["--pairs", "--coded", "--rust", "x", "", "image"])
         words.insert(dice.randrange(len(words) + 1), other)
     if dice.random() < 0.02 and words:
         del words[dice.randrange(len(words))]

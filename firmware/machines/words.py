@@ -65,9 +65,13 @@ class EccFlash(Stm32):
         cells.states[at] = FINE
 
     def tear(self, cells, at, values):
-        """Nothing done, done, done and read with a correction, all ones by a correction, or torn."""
-        kind = self.dice.randrange(7)
-        if kind == 0:
+        """Nothing done, done, done and read with a correction, all ones by a correction, or torn. What is erased stays so in an
+        erase, since cells go one way."""
+        kind, stands = self.dice.randrange(7), cells.values[at * self.PARTS : (at + 1) * self.PARTS]
+        is_erased = cells.states[at] == FINE and list(stands) == list(values) == [
+            ONES for _ in values
+        ]
+        if kind == 0 or is_erased:
             return
         if kind >= 3:
             values = [ONES if kind == 3 else self.any_bits() for _ in values]

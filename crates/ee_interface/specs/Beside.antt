@@ -2,7 +2,7 @@
 use Rattle.std.specs.Prelude.{◌≡◌, ℕ, List, [], ◌++◌, codes, decimal}
 use Rattle.ee_interface.specs.declared.fault.File.TheVariants.{Settings, Values}
 use Rattle.ee_interface.specs.declared.fault.Fault.{Fault}
-use Rattle.ee_interface.specs.declared.fault.Fault.TheVariants.{CannotRead, TooLong, BadLine, BadShape, Foreign, BadName, BadField, BadRange, SameAddress, OutOfRange, NotFitting, NotRising, WrongFrom, NotForced, Backwards, LowPair, Misplaced, TornWord, BadValue, UnknownValue, ValueOutOfRange, FullAt, SpentAt}
+use Rattle.ee_interface.specs.declared.fault.Fault.TheVariants.{CannotRead, TooLong, BadLine, BadShape, Foreign, BadName, BadField, BadRange, SameAddress, OutOfRange, NotFitting, NotRising, WrongFrom, NotForced, Backwards, DumpOfCoded, LowPair, Misplaced, TornWord, Uncoded, BadValue, UnknownValue, ValueOutOfRange, FullAt, SpentAt}
 use Rattle.ee_interface.specs.declared.beside.Beside.{Beside}
 use Rattle.ee_interface.specs.declared.beside.Beside.TheVariants.{Nothing, File, Entry, Number, Numbers}
 use Rattle.ee_interface.specs.Fault.{file_name, cause}
@@ -44,6 +44,8 @@ behind (Foreign page at) = Numbers page at
 behind (LowPair page at) = Numbers page at
 behind (Misplaced page at) = Numbers page at
 behind (TornWord page at) = Numbers page at
+behind (Uncoded page at) = Numbers page at
+behind (DumpOfCoded pages words) = Numbers pages words
 behind (OutOfRange min max) = Numbers min max
 behind (ValueOutOfRange entry min max) = Numbers min max
 behind fault = Nothing

@@ -4,7 +4,7 @@ use Rattle.ee_text.specs.Line.{line_of}
 use Rattle.ee_interface.specs.declared.fault.File.{File}
 use Rattle.ee_interface.specs.declared.fault.File.TheVariants.{Image, Before, Script, Certificate, Settings, Dump, Values}
 use Rattle.ee_interface.specs.declared.fault.Fault.{Fault}
-use Rattle.ee_interface.specs.declared.fault.Fault.TheVariants.{CannotRead, TooLong, CannotWriteImage, ImageChanged, CannotWriteDump, CannotWriteOutput, OutputIsWritten, BadLine, BadShape, Unformatted, NoLiveSet, TwoLive, Foreign, SettingsText, BadName, BadField, BadRange, SameAddress, UnknownName, OutOfRange, Full, Spent, Absent, HoldsValues, NothingToRescue, NotFitting, WrongStart, NotRising, WrongFrom, NotForced, OtherShape, Backwards, NoSizeEnough, DumpLength, LowPair, Misplaced, TornWord, Base, ValuesText, BadValue, UnknownValue, ValueOutOfRange, FullAt, SpentAt, ValuesDiffer, Memory}
+use Rattle.ee_interface.specs.declared.fault.Fault.TheVariants.{CannotRead, TooLong, CannotWriteImage, ImageChanged, CannotWriteDump, CannotWriteOutput, OutputIsWritten, BadLine, BadShape, Unformatted, NoLiveSet, TwoLive, Foreign, SettingsText, BadName, BadField, BadRange, SameAddress, UnknownName, OutOfRange, Full, Spent, Absent, HoldsValues, NothingToRescue, NotFitting, WrongStart, NotRising, WrongFrom, NotForced, OtherShape, Backwards, NoSizeEnough, DumpLength, DumpOfWords, DumpOfPairs, DumpOfCoded, LowPair, Misplaced, TornWord, Uncoded, Base, ValuesText, BadValue, UnknownValue, ValueOutOfRange, FullAt, SpentAt, ValuesDiffer, Memory}
 use Rattle.ee_image.specs.declared.fault.ImageFault.{ImageFault}
 use Rattle.ee_image.specs.declared.fault.ImageFault.TheVariants as image
 use Rattle.ee_pages.specs.declared.find.ScanFault.{ScanFault}
@@ -67,9 +67,14 @@ cause OtherShape = codes "other shape"
 cause (Backwards page) = codes "wear backwards " ++ decimal page
 cause NoSizeEnough = codes "no size is enough"
 cause DumpLength = codes "dump length"
+cause DumpOfWords = codes "dump of words"
+cause DumpOfPairs = codes "dump of pairs"
+cause (DumpOfCoded pages words) =
+    codes "dump of coded words " ++ decimal pages ++ codes " " ++ decimal words
 cause (LowPair page at) = codes "dump pair " ++ decimal page ++ codes " " ++ decimal at
 cause (Misplaced page at) = codes "dump shape " ++ decimal page ++ codes " " ++ decimal at
 cause (TornWord page at) = codes "torn word " ++ decimal page ++ codes " " ++ decimal at
+cause (Uncoded page at) = codes "uncoded word " ++ decimal page ++ codes " " ++ decimal at
 cause Base = codes "base"
 cause ValuesText = codes "values text"
 cause (BadValue entry) = codes "values entry " ++ decimal entry ++ codes " bad field"
@@ -104,6 +109,7 @@ status OtherShape = 4
 status (Backwards page) = 4
 status NoSizeEnough = 4
 status (TornWord page at) = 4
+status (Uncoded page at) = 4
 status Base = 4
 status (UnknownValue entry) = 4
 status (ValueOutOfRange entry min max) = 4

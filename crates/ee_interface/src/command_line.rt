@@ -5,12 +5,14 @@
 //! went through them.
 
 mod files;
+mod form;
 mod help;
 mod jobs;
 mod operands;
 mod words;
 
 pub use files::{MOST_BYTES, MOST_READS, ReadFault, Stopped, read_whole, write_whole};
+pub use form::Form;
 pub use help::{HELP, VERSION};
 pub use jobs::Job;
 pub use operands::{

@@ -120,6 +120,12 @@ pub enum Fault {
     NoSizeEnough,
     /// The dump has not as many bytes as a part of the size has.
     DumpLength,
+    /// A mark of the dump says that it is one of words.
+    DumpOfWords,
+    /// A mark of the dump says that it is one of pairs.
+    DumpOfPairs,
+    /// A mark of the dump says that it is one of coded words of this shape.
+    DumpOfCoded { pages: usize, words: usize },
     /// The first word of the dump whose two numbers sum to less than all ones, by its
     /// page and its place.
     LowPair { page: usize, at: usize },
@@ -127,6 +133,8 @@ pub enum Fault {
     Misplaced { page: usize, at: usize },
     /// The first torn word of the image, by its page and its place: no dump has one.
     TornWord { page: usize, at: usize },
+    /// The first held word of the image whose number has no coded word, by its page and its place.
+    Uncoded { page: usize, at: usize },
     /// The part would reach past the addresses of 32 bits.
     Base,
     /// The values file is no TOML.
@@ -209,9 +217,13 @@ impl Fault {
             Fault::Backwards(_) => "wear backwards ",
             Fault::NoSizeEnough => "no size is enough",
             Fault::DumpLength => "dump length",
+            Fault::DumpOfWords => "dump of words",
+            Fault::DumpOfPairs => "dump of pairs",
+            Fault::DumpOfCoded { .. } => "dump of coded words ",
             Fault::LowPair { .. } => "dump pair ",
             Fault::Misplaced { .. } => "dump shape ",
             Fault::TornWord { .. } => "torn word ",
+            Fault::Uncoded { .. } => "uncoded word ",
             Fault::Base => "base",
             Fault::ValuesText => "values text",
             Fault::UnknownValue(_) => " unknown name",
@@ -238,7 +250,9 @@ impl Fault {
             Fault::Foreign { page, at }
             | Fault::LowPair { page, at }
             | Fault::Misplaced { page, at }
-            | Fault::TornWord { page, at } => Beside::Numbers(page as u64, at as u64),
+            | Fault::TornWord { page, at }
+            | Fault::Uncoded { page, at } => Beside::Numbers(page as u64, at as u64),
+            Fault::DumpOfCoded { pages, words } => Beside::Numbers(pages as u64, words as u64),
             Fault::OutOfRange { min, max } | Fault::ValueOutOfRange { min, max, .. } => {
                 Beside::Numbers(min as u64, max as u64)
             }
@@ -413,6 +427,9 @@ pub fn status_of(fault: &Fault) -> u8
         | Fault::BadRange(_)
         | Fault::SameAddress(_)
         | Fault::DumpLength
+        | Fault::DumpOfWords
+        | Fault::DumpOfPairs
+        | Fault::DumpOfCoded { .. }
         | Fault::LowPair { .. }
         | Fault::Misplaced { .. }
         | Fault::ValuesText
@@ -434,6 +451,7 @@ pub fn status_of(fault: &Fault) -> u8
         | Fault::Backwards(_)
         | Fault::NoSizeEnough
         | Fault::TornWord { .. }
+        | Fault::Uncoded { .. }
         | Fault::Base
         | Fault::UnknownValue(_)
         | Fault::ValueOutOfRange { .. }

@@ -7,4 +7,5 @@ pub mod Marks
 pub mod Steps
 pub mod CodeRuns
 pub mod Wipes
+pub mod FirstStarts
 pub mod Premises

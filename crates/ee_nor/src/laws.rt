@@ -1,6 +1,7 @@
 //! Laws of pairs and of coded words, each the contract of a function that does nothing.
 ghost use Rattle.ee_nor.specs.Coded.Coded.{SlotsStandInClear};
 ghost use Rattle.ee_nor.specs.Coded.Shapes.{OtherMarkIsTorn};
+ghost use Rattle.ee_nor.specs.Coded.Wiping.{NewStaysNew};
 ghost use Rattle.ee_nor.specs.Laws.{EraseMakesNoNumber, PairsAreFormed, PartsAreAProgram, TornIsTold};
 
 /// A word that was cut on its way to a value reads as that value, or as none.
@@ -33,4 +34,9 @@ pub fn other_mark_is_torn()
 /// has an address.
 pub fn slots_stand_in_clear()
     ensures { SlotsStandInClear }
+{}
+
+/// Where power is cut in a first start on a flash of coded words, one may be made again.
+pub fn new_stays_new()
+    ensures { NewStaysNew }
 {}

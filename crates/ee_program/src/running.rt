@@ -41,26 +41,26 @@ pub(crate) fn work<R: FileLocks + Input + Print + AllocGlobal>(
         Job::Try { shape } => try_input(rt, shape),
         Job::Format { shape, image } => format_file(rt, is_dry, shape, image),
         Job::Import {
-            pairs,
+            form,
             shape,
             dump,
             image,
-        } => import_file(rt, is_dry, pairs, shape, dump, image),
-        Job::Export { pairs, image, dump } => export_file(rt, is_dry, pairs, image, dump),
+        } => import_file(rt, is_dry, form, shape, dump, image),
+        Job::Export { form, image, dump } => export_file(rt, is_dry, form, image, dump),
         Job::ImportHex {
-            pairs,
+            form,
             shape,
             base,
             dump,
             image,
-        } => import_hex_file(rt, is_dry, pairs, shape, base, dump, image),
+        } => import_hex_file(rt, is_dry, form, shape, base, dump, image),
         Job::ExportHex {
-            pairs,
+            form,
             fill,
             image,
             base,
             dump,
-        } => export_hex_file(rt, is_dry, pairs, fill, image, base, dump),
+        } => export_hex_file(rt, is_dry, form, fill, image, base, dump),
         Job::Inspect { image } => tell_inside(rt, image),
         Job::Run {
             indexed,
@@ -145,22 +145,17 @@ fn format_file<R: FileLocks + Print + AllocGlobal>(
     )
 }
 
-/// How a part keeps its words: `pairs` says that each stands beside its complement.
-fn form_of(pairs: bool) -> Form {
-    if pairs { Form::Pairs } else { Form::Words }
-}
-
 /// Writes the image of a part, from its bytes.
 fn import_file<R: FileLocks + Print + AllocGlobal>(
     rt: &R,
     is_dry: bool,
-    pairs: bool,
+    form: Form,
     shape: Shape,
     dump: &str,
     image: &str,
 ) -> Result<(), Fault> {
     let bytes = read_file(rt, File::Dump, dump)?;
-    let imported = import_image(rt.alloc(), shape, form_of(pairs), &bytes);
+    let imported = import_image(rt.alloc(), shape, form, &bytes);
     write_new(rt, is_dry, image, imported, b"imported\n")
 }
 
@@ -168,12 +163,12 @@ fn import_file<R: FileLocks + Print + AllocGlobal>(
 fn export_file<R: FileLocks + Print + AllocGlobal>(
     rt: &R,
     is_dry: bool,
-    pairs: bool,
+    form: Form,
     image: &str,
     dump: &str,
 ) -> Result<(), Fault> {
     let text = read_file(rt, File::Image, image)?;
-    let bytes = export_image(rt.alloc(), form_of(pairs), &text);
+    let bytes = export_image(rt.alloc(), form, &text);
     write_dump(rt, is_dry, dump, bytes)
 }
 
@@ -181,14 +176,14 @@ fn export_file<R: FileLocks + Print + AllocGlobal>(
 fn import_hex_file<R: FileLocks + Print + AllocGlobal>(
     rt: &R,
     is_dry: bool,
-    pairs: bool,
+    form: Form,
     shape: Shape,
     base: u32,
     dump: &str,
     image: &str,
 ) -> Result<(), Fault> {
     let lines = read_file(rt, File::Dump, dump)?;
-    let imported = import_hex(rt.alloc(), shape, form_of(pairs), base, &lines);
+    let imported = import_hex(rt.alloc(), shape, form, base, &lines);
     write_new(rt, is_dry, image, imported, b"imported\n")
 }
 
@@ -197,14 +192,14 @@ fn import_hex_file<R: FileLocks + Print + AllocGlobal>(
 fn export_hex_file<R: FileLocks + Print + AllocGlobal>(
     rt: &R,
     is_dry: bool,
-    pairs: bool,
+    form: Form,
     fill: bool,
     image: &str,
     base: u32,
     dump: &str,
 ) -> Result<(), Fault> {
     let text = read_file(rt, File::Image, image)?;
-    let lines = export_hex(rt.alloc(), fill, form_of(pairs), &text, base);
+    let lines = export_hex(rt.alloc(), fill, form, &text, base);
     write_dump(rt, is_dry, dump, lines)
 }
 

@@ -1,23 +1,23 @@
 -- With the fuse that is known, what a line is answered and what it leaves is a function of the
 -- point before it.
-use Rattle.std.proofs.Common.{◌≡◌, ◌≢◌, ◌⊎◌, inl, inr, ◌<◌, ℕ, Bool, cond, Option, Some, None, Ok, Err, List, [], ◌∷◌, ap, arith, false, refl, sym, subst, true, rules, ◌∙◌}
+use Rattle.std.proofs.Common.{◌≡◌, ◌≢◌, ◌<◌, ℕ, Bool, cond, Option, Some, None, List, [], ◌∷◌, ap, arith, false, refl, sym, subst, true, ◌∙◌}
 use Rattle.std.specs.Prelude.{◌&&◌, ◌==◌, nat_lt, is_some, not}
-use Rattle.std.proofs.lemmas.Bool.{cases_Bool, eq-eqb, eqb-true, lt-ltb, ltb-true, ne_eqb, true≢false}
-use Rattle.ee_flash.specs.Device.{Device, IsOff, IsOn}
+use Rattle.std.proofs.lemmas.Bool.{eq-eqb, eqb-true, lt-ltb, ltb-true, ne_eqb, true≢false}
+use Rattle.ee_flash.specs.Device.{Device, IsOn}
 use Rattle.ee_flash.specs.Laws.{after_steps}
 use Rattle.ee_flash.specs.Step.{Step}
 use Rattle.ee_flash.specs.Taking.{Completes, HasFuse, IsCutAmong}
 use Rattle.ee_flash.proofs.Public.{completed_by_fuse, cut_by_fuse}
 use Rattle.ee_pages.specs.Meaning.{Change, Put, live_in}
 use Rattle.ee_pages.specs.Meaning as meaning
-use Rattle.ee_core.specs.Changes.{Appends, IsAccepted, IsCutChange, IsFull, IsSpent, Moves, greatest_generation}
-use Rattle.ee_core.specs.Points.{Point, closed_point, open_point, with_power_on}
+use Rattle.ee_core.specs.Changes.{Appends, IsAccepted, IsFull, IsSpent, Moves, greatest_generation}
+use Rattle.ee_core.specs.Points.{Point, open_point, with_power_on}
 use Rattle.ee_core.specs.State.{State, capacity, state_of}
 use Rattle.ee_core.specs.StepLists.{steps_of_append, steps_of_making, steps_of_open, steps_of_transfer}
 use Rattle.ee_interface.specs.declared.script.command.Command.{Command}
 use Rattle.ee_interface.specs.declared.script.command.Command.TheVariants.{Write, Read, Forget, Clean, Arm, PowerOn}
 use Rattle.ee_interface.specs.declared.script.answer.Answer.{Answer}
-use Rattle.ee_interface.specs.declared.script.answer.Answer.TheVariants.{Appended, Moved, Full, Spent, Cleaned, Idle, Value, NoValue, Absent, Armed, Cut, Off, Opened}
+use Rattle.ee_interface.specs.declared.script.answer.Answer.TheVariants.{Appended, Moved, Full, Spent, Cleaned, Idle, Value, NoValue, Absent, Cut, Off, Opened}
 use Rattle.ee_interface.specs.Script.Run.{Run}
 use Rattle.ee_replay.specs.Lines.{answer_at_once, answer_behind, answer_called, answer_given, answer_of, answers_of, calling_answer, device_called, device_left, device_opened, finds_no_room, is_spent, opening_answer, point_after, point_behind, point_called, point_opened, read_answer, steps_of_command}
 use Rattle.ee_replay.specs.Serving.{CallAnswers, LineAnswers, Noted, LineIsNoted, PowerAnswers, notes_after, notes_behind}

@@ -1,8 +1,6 @@
 -- What a script leaves is a function of texts.
-use Rattle.std.proofs.Common.{◌≡◌, ◌∙◌, ℕ, List, ap, sym}
+use Rattle.std.proofs.Common.{◌≡◌, ◌∙◌, ap, sym}
 use Rattle.ee_flash.specs.Device.{Device}
-use Rattle.ee_flash.specs.Size.{Size}
-use Rattle.ee_interface.specs.declared.script.command.Command.{Command}
 use Rattle.ee_interface.proofs.ScriptLemmas.Public.{one_script_lem}
 use Rattle.ee_image_store.proofs.Public.{same_at_rest}
 use Rattle.ee_replay.specs.Outcomes.{OneOutcome, OneTry}

@@ -12,11 +12,11 @@ use Rattle.ee_pages.specs.declared.find.ScanFault.{ScanFault}
 use Rattle.ee_pages.specs.declared.side.Side.{Side}
 use Rattle.ee_pages.specs.declared.side.Side.TheVariants.{First, Second}
 use Rattle.ee_core.proofs.Public.{legal_on, legal_powered, live_powered, state_in_on, state_in_powered}
-use Rattle.ee_core.specs.Points.{Point, closed_point, open_point, with_power_on}
+use Rattle.ee_core.specs.Points.{open_point, with_power_on}
 use Rattle.ee_core.specs.Known.{Knows}
 use Rattle.ee_core.specs.declared.known.Known.{Known}
 use Rattle.ee_core.specs.Finished.{IsMarked, IsStore}
-use Rattle.ee_core.specs.Openings.{IsCutOpening, OpenFails, Opens}
+use Rattle.ee_core.specs.Openings.{OpenFails}
 use Rattle.ee_core.specs.declared.opening.OpenFault.{OpenFault}
 use Rattle.ee_core.specs.declared.opening.OpenFault.TheVariants as opening
 use Rattle.ee_core.specs.State.{state_of}
@@ -28,11 +28,8 @@ use Rattle.ee_core.specs.declared.variables.Written.{Written}
 use Rattle.ee_core.specs.declared.variables.Written.TheVariants as written
 use Rattle.ee_flash.specs.declared.fuse.Fuse.{Fuse}
 use Rattle.ee_replay.specs.Desk.{CallsAtDesk, SaysTheSame}
-use Rattle.ee_core.specs.Lookups.{slots_by}
 use Rattle.ee_flash.specs.declared.word.Word.{Word}
-use Rattle.ee_interface.specs.declared.script.answer.Answer.{Answer}
-use Rattle.ee_interface.specs.declared.script.answer.Answer.TheVariants.{Cut, Opened}
-use Rattle.ee_replay.specs.Serving.{IsSound, PowerAnswers}
+use Rattle.ee_replay.specs.Serving.{IsSound}
 
 -- ---- a cut that is armed
 

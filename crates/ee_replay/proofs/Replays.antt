@@ -3,12 +3,10 @@ use Rattle.std.proofs.Common.{◌≡◌, ◌∙◌, ℕ, List, ap, subst, arith}
 use Rattle.ee_flash.specs.Device.{Device, blank_device}
 use Rattle.ee_flash.specs.Size.{Size}
 use Rattle.ee_core.specs.Points.{Point}
-use Rattle.ee_core.specs.Runs.{WearsAtMost}
 use Rattle.ee_core.specs.State.{State, formatted_state, state_of}
 use Rattle.ee_image.specs.Text.{image_text}
 use Rattle.ee_image_store.specs.Erases.{ErasesRise, erases_of_all}
 use Rattle.ee_image_store.specs.Opening.{IsNewStore, IsOpened, SpellsDevice}
-use Rattle.ee_image_store.specs.Trace.{moves}
 use Rattle.ee_replay.specs.Lines.{point_behind}
 use Rattle.ee_replay.specs.Replaying.{IsReplayed, IsScriptRun, IsRunOn, IsTried, leaves_of}
 use Rattle.ee_replay.specs.Serving.{IsMade, IsServed, IsSound, serving_on}

@@ -5,7 +5,6 @@ use Rattle.ee_flash.specs.Device.{Device, IsOn}
 use Rattle.ee_flash.specs.Memory.{with_fuse}
 use Rattle.ee_flash.specs.Size.{slot_count}
 use Rattle.ee_flash.specs.Taking.{HasFuse}
-use Rattle.ee_flash.specs.declared.fuse.Fuse.{Fuse}
 use Rattle.ee_pages.specs.Legal.{IsLegal}
 use Rattle.ee_pages.specs.Meaning.{live_in}
 use Rattle.ee_core.specs.Changes.{greatest_generation}

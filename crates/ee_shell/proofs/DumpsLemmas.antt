@@ -1,8 +1,10 @@
 pub mod Words
 pub mod Pairs
 pub mod Torn
-pub mod Misplaced
+pub mod Sought
+pub mod Pairing
+pub mod Codes
 pub mod Dumps
 pub mod Growing
-pub mod Pairing
+pub mod Kinds
 pub mod Public

@@ -1,8 +1,10 @@
 pub mod Pair
+pub mod Code
+pub mod Places
 pub mod Dump
 pub mod Fault
 pub mod Reading
 pub mod Writing
+pub mod Kind
 pub mod Laws
-pub mod Places
 pub mod intel_hex

@@ -1,5 +1,5 @@
-pub mod Moving
 pub mod Faults
+pub mod Moving
 pub mod Hex
 pub mod Laws
 pub mod Inspecting

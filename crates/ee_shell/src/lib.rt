@@ -19,7 +19,7 @@
 //! was applied is verified (`laws`); `header_text` is the text of its definition (`header`).
 //! `import_image` gives the device that a dump makes, `export_image` the dump of a device, as bytes
 //! or as Intel HEX (`imported`, `exported`); what one gave the other takes, with no wear, where no
-//! word is torn and none tells another shape (`laws`). `inspect_text` tells what the image shows, and doubts an address exactly
+//! word is torn and none tells another shape or form (`laws`). `inspect_text` tells what the image shows, and doubts an address exactly
 //! where a torn slot may have spoken of it last (`inspected`). Of each command the first fault that
 //! applies is told, and none is passed over (`fault`, `names`).
 //!

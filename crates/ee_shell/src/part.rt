@@ -2,7 +2,7 @@
 //!
 //! `import` makes an image of what a programmer read from a part, and `export` gives what it writes
 //! to one, as bytes (`specs/Part/Moving.antt`) or as Intel HEX (`specs/Part/Hex.antt`), of a part
-//! with error correction or of one without (`Form`). They open no store: words that spell nothing
+//! with error correction, as it is or coded, or of one without (`Form`). They open no store: words that spell nothing
 //! stay what they are. `specs/Part/Faults.antt` has why each gives nothing, and
 //! `specs/Part/Inspecting.antt` what is told of an image that came back from the field.
 

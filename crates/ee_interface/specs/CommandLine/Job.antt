@@ -5,6 +5,9 @@ use Rattle.std.specs.Int.{to_be_bytes, w32}
 use Rattle.std.specs.Borrow.{Bor}
 use Rattle.hex.specs.Hex.{decode_of}
 use Rattle.ee_flash.specs.Size.{IsWithinLimits, Size, size_of}
+use Rattle.ee_interface.specs.CommandLine.Form.{dump_length}
+use Rattle.ee_interface.specs.declared.command_line.form.Form.{Form}
+use Rattle.ee_interface.specs.declared.command_line.form.Form.TheVariants.{Words, Pairs, Coded}
 use Rattle.ee_interface.specs.declared.command_line.jobs.Job.{Job}
 use Rattle.ee_interface.specs.declared.command_line.jobs.Job.TheVariants as job
 
@@ -12,10 +15,10 @@ use Rattle.ee_interface.specs.declared.command_line.jobs.Job.TheVariants as job
 pub data Row : Type 0 where
   Try : Size → Row
   Format : Size → List ℕ → Row
-  Import : Bool → Size → List ℕ → List ℕ → Row
-  Export : Bool → List ℕ → List ℕ → Row
-  ImportHex : Bool → Size → ℕ → List ℕ → List ℕ → Row
-  ExportHex : Bool → Bool → List ℕ → ℕ → List ℕ → Row
+  Import : Form → Size → List ℕ → List ℕ → Row
+  Export : Form → List ℕ → List ℕ → Row
+  ImportHex : Form → Size → ℕ → List ℕ → List ℕ → Row
+  ExportHex : Form → Bool → List ℕ → ℕ → List ℕ → Row
   Inspect : List ℕ → Row
   Run : Bool → List ℕ → List ℕ → Row
   Get : List ℕ → List ℕ → List ℕ → Row
@@ -42,10 +45,10 @@ pub data Row : Type 0 where
 abbrev pub row_of : Job → Row
 row_of (job.Try size) = Try size
 row_of (job.Format size image) = Format size image.now
-row_of (job.Import pairs size dump image) = Import pairs size dump.now image.now
-row_of (job.Export pairs image dump) = Export pairs image.now dump.now
-row_of (job.ImportHex pairs size base dump image) = ImportHex pairs size base dump.now image.now
-row_of (job.ExportHex pairs fill image base dump) = ExportHex pairs fill image.now base dump.now
+row_of (job.Import form size dump image) = Import form size dump.now image.now
+row_of (job.Export form image dump) = Export form image.now dump.now
+row_of (job.ImportHex form size base dump image) = ImportHex form size base dump.now image.now
+row_of (job.ExportHex form fill image base dump) = ExportHex form fill image.now base dump.now
 row_of (job.Inspect image) = Inspect image.now
 row_of (job.Run indexed image script) = Run indexed image.now script.now
 row_of (job.Get image settings name) = Get image.now settings.now name.now
@@ -84,33 +87,31 @@ IsCount count = (1 ≤ count) × (count < 2 ^ 32)
 unfoldable pub IsBase : ℕ → Type 0
 IsBase base = (base < 2 ^ 32) × (base % 8 ≡ 0)
 
--- the bytes of a part of this size: 16 for each word of one set, and 32 where it has each word
--- beside its complement
-abbrev pub part_bytes : Bool → Size → ℕ
-part_bytes false size = 16 * (size.pages * size.words)
-part_bytes true size = 32 * (size.pages * size.words)
-
 -- a part of this size that begins there ends within the addresses of 32 bits
-unfoldable pub EndsWithin : Bool → Size → ℕ → Type 0
-EndsWithin pairs size base = base + part_bytes pairs size ≤ 2 ^ 32
+unfoldable pub EndsWithin : Form → Size → ℕ → Type 0
+EndsWithin form size base = base + dump_length form size ≤ 2 ^ 32
 
 -- eight hexadecimal digits in either case: the four bytes of the base, the greatest first
 unfoldable pub HasBase : List ℕ → ℕ → Type 0
 HasBase word base = decode_of word ≡ Ok (to_be_bytes w32 base)
 
+-- a word that is the flag of no form
+abbrev pub IsNoForm : List ℕ → Type 0
+IsNoForm word = word ≢ codes "--pairs" × word ≢ codes "--coded"
+
 -- its size is within the limits, its value has 32 bits, its base is one, from which a part that is
--- imported ends within 32 bits, an image to export is not named `--pairs`, nor as Intel HEX
+-- imported ends within 32 bits, an image to export is not named as a form's flag, nor as Intel HEX
 -- `--fill`, one to run on is not named `--indexed`, one to forget all of is not named `--force`,
 -- settings to tell are not named `--rust`, and cycles and runs are counts
 abbrev pub IsRow : Row → Type 0
 IsRow (Try size) = IsWithinLimits size
 IsRow (Format size image) = IsWithinLimits size
-IsRow (Import pairs size dump image) = IsWithinLimits size
-IsRow (Export pairs image dump) = image ≢ codes "--pairs"
-IsRow (ImportHex pairs size base dump image) =
-    IsWithinLimits size × IsBase base × EndsWithin pairs size base
-IsRow (ExportHex pairs fill image base dump) =
-    image ≢ codes "--pairs" × image ≢ codes "--fill" × IsBase base
+IsRow (Import form size dump image) = IsWithinLimits size
+IsRow (Export form image dump) = IsNoForm image
+IsRow (ImportHex form size base dump image) =
+    IsWithinLimits size × IsBase base × EndsWithin form size base
+IsRow (ExportHex form fill image base dump) =
+    IsNoForm image × image ≢ codes "--fill" × IsBase base
 IsRow (Inspect image) = Unit {0}
 IsRow (Run indexed image script) = image ≢ codes "--indexed"
 IsRow (Get image settings name) = Unit {0}
@@ -150,28 +151,39 @@ abbrev pub HaveNoFlag : List ℕ → List (List ℕ) → Type 0
 HaveNoFlag flag [] = Unit {0}
 HaveNoFlag flag (word ∷ words) = word ≢ flag
 
+-- the flag of a form, which words have none of, before other words
+abbrev pub with_form : Form → List (List ℕ) → List (List ℕ)
+with_form Words words = words
+with_form Pairs words = codes "--pairs" ∷ words
+with_form Coded words = codes "--coded" ∷ words
+
+-- these words begin with the flag of no form
+abbrev pub HaveNoForm : List (List ℕ) → Type 0
+HaveNoForm [] = Unit {0}
+HaveNoForm (word ∷ words) = IsNoForm word
+
 -- the words say this row; no words say `try 1 6`
 abbrev pub AreWordsOf : List (List ℕ) → Row → Type 0
 AreWordsOf words (Try size) = (words ≡ codes "try" ∷ decimal size.pages ∷ decimal size.words ∷ [])
     ⊎ ((words ≡ []) × (size ≡ size_of 1 6))
 AreWordsOf words (Format size image) =
     words ≡ codes "format" ∷ decimal size.pages ∷ decimal size.words ∷ image ∷ []
-AreWordsOf words (Import pairs size dump image) =
+AreWordsOf words (Import form size dump image) =
     words
     ≡ codes "import"
-    ∷ with_flag pairs (codes "--pairs")
+    ∷ with_form form
     (decimal size.pages ∷ decimal size.words ∷ dump ∷ image ∷ [])
-AreWordsOf words (Export pairs image dump) =
-    words ≡ codes "export" ∷ with_flag pairs (codes "--pairs") (image ∷ dump ∷ [])
-AreWordsOf words (ImportHex pairs size base dump image) = (digits : List ℕ) × HasBase digits base
+AreWordsOf words (Export form image dump) =
+    words ≡ codes "export" ∷ with_form form (image ∷ dump ∷ [])
+AreWordsOf words (ImportHex form size base dump image) = (digits : List ℕ) × HasBase digits base
     × (words
     ≡ codes "import-hex"
-    ∷ with_flag pairs (codes "--pairs")
+    ∷ with_form form
     (decimal size.pages ∷ decimal size.words ∷ digits ∷ dump ∷ image ∷ []))
-AreWordsOf words (ExportHex pairs fill image base dump) = (digits : List ℕ) × HasBase digits base
+AreWordsOf words (ExportHex form fill image base dump) = (digits : List ℕ) × HasBase digits base
     × (words
     ≡ codes "export-hex"
-    ∷ with_flag pairs (codes "--pairs")
+    ∷ with_form form
     (with_flag fill (codes "--fill") (image ∷ digits ∷ dump ∷ [])))
 AreWordsOf words (Inspect image) = words ≡ codes "inspect" ∷ image ∷ []
 AreWordsOf words (Run indexed image script) =

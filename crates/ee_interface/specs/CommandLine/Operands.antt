@@ -137,13 +137,17 @@ AreOperandsOf name count operands =
     ⊎ ((name ≡ codes "check") × (operands ≡ Image ∷ Script ∷ Certificate ∷ []))
     ⊎ AreOtherOperandsOf name operands
 
+-- the flag of a form
+abbrev pub IsFormFlag : List ℕ → Type 0
+IsFormFlag word = (word ≡ codes "--pairs") ⊎ (word ≡ codes "--coded")
+
 -- a flag of the command
 abbrev pub IsFlagOf : List ℕ → List ℕ → Type 0
 IsFlagOf name word =
-    ((name ≡ codes "import") × (word ≡ codes "--pairs"))
-    ⊎ ((name ≡ codes "export") × (word ≡ codes "--pairs"))
-    ⊎ ((name ≡ codes "import-hex") × (word ≡ codes "--pairs"))
-    ⊎ ((name ≡ codes "export-hex") × (word ≡ codes "--pairs"))
+    ((name ≡ codes "import") × IsFormFlag word)
+    ⊎ ((name ≡ codes "export") × IsFormFlag word)
+    ⊎ ((name ≡ codes "import-hex") × IsFormFlag word)
+    ⊎ ((name ≡ codes "export-hex") × IsFormFlag word)
     ⊎ ((name ≡ codes "export-hex") × (word ≡ codes "--fill"))
     ⊎ ((name ≡ codes "run") × (word ≡ codes "--indexed"))
     ⊎ ((name ≡ codes "header") × (word ≡ codes "--rust"))

@@ -20,6 +20,8 @@ ee: flash EEPROM emulation over images as text, proved
   ee export-hex IMAGE BASE DUMP            the words that aren't erased, as Intel HEX
   ee import[-hex] --pairs P W ...          the same with no ECC: each word beside its complement
   ee export[-hex] --pairs IMAGE ...        the same with no ECC
+  ee import[-hex] --coded P W ...          the same with ECC and coded words
+  ee export[-hex] --coded IMAGE ...        the same with ECC and coded words
   ee export-hex --fill IMAGE ...           the same as export-hex, with the erased words
   ee run IMAGE SCRIPT                      answers a script, and replaces the image
   ee run --indexed IMAGE SCRIPT            the same, with an index in memory

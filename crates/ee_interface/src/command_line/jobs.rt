@@ -1,9 +1,10 @@
 //! What the program can be asked for.
 
+use super::form::Form;
 use ee_flash::Shape;
 
-/// What the words ask for. Files are named by their paths. `pairs` says that a part has each word
-/// beside its complement.
+/// What the words ask for. Files are named by their paths. FORM is no word for words, else `--pairs`
+/// or `--coded`.
 ///
 /// Source: ours.
 #[derive(Clone, Copy)]
@@ -17,34 +18,32 @@ pub enum Job<'a> {
         shape: Shape,
         image: &'a str,
     },
-    /// `import P W DUMP IMAGE` or `import --pairs P W DUMP IMAGE`: writes the image of a
-    /// part, from its bytes.
+    /// `import FORM P W DUMP IMAGE`: writes the image of a part, from its bytes.
     Import {
-        pairs: bool,
+        form: Form,
         shape: Shape,
         dump: &'a str,
         image: &'a str,
     },
-    /// `export IMAGE DUMP` or `export --pairs IMAGE DUMP`: writes the bytes of the image's part.
+    /// `export FORM IMAGE DUMP`: writes the bytes of the image's part.
     Export {
-        pairs: bool,
+        form: Form,
         image: &'a str,
         dump: &'a str,
     },
-    /// `import-hex P W BASE DUMP IMAGE` or `import-hex --pairs P W BASE DUMP IMAGE`: writes the
-    /// image of a part, from Intel HEX. The part's first byte stands at BASE, a multiple of 8, and
-    /// its last within 32 bits.
+    /// `import-hex FORM P W BASE DUMP IMAGE`: writes the image of a part, from Intel HEX. The
+    /// part's first byte stands at BASE, a multiple of 8, and its last within 32 bits.
     ImportHex {
-        pairs: bool,
+        form: Form,
         shape: Shape,
         base: u32,
         dump: &'a str,
         image: &'a str,
     },
-    /// `export-hex [--pairs] [--fill] IMAGE BASE DUMP`: writes the bytes of the image's part as
+    /// `export-hex FORM [--fill] IMAGE BASE DUMP`: writes the bytes of the image's part as
     /// Intel HEX, from BASE on, a multiple of 8; `fill` says that erased words are written too.
     ExportHex {
-        pairs: bool,
+        form: Form,
         fill: bool,
         image: &'a str,
         base: u32,

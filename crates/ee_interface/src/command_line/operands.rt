@@ -3,7 +3,7 @@
 ghost use Rattle.std.specs.Prelude.{◌≡◌, ◌<◌, ◌≤◌, ◌+◌, ◌∷◌, [], ◌↔◌, IsTrue, IfSome, IfNone, length};
 ghost use Rattle.std.specs.List.{list_all};
 ghost use Rattle.ee_interface.specs.CommandLine.Job.{texts_of};
-ghost use Rattle.ee_interface.specs.CommandLine.Operands.{AreBehindFlag, AreLineOperandsOf, AreOperandsOf, AreOtherOperandsOf, IsCommandName, IsFirstWrong, IsFlagOf, IsLetter, IsLineCause, IsNumberIn, IsOtherName, IsSpelling, IsTear, IsWordsCause, are_digits, is_decimal_digit, is_zero_led, least_number, most_number, number_fault, word_fault};
+ghost use Rattle.ee_interface.specs.CommandLine.Operands.{AreBehindFlag, AreLineOperandsOf, AreOperandsOf, AreOtherOperandsOf, IsCommandName, IsFirstWrong, IsFlagOf, IsFormFlag, IsLetter, IsLineCause, IsNumberIn, IsOtherName, IsSpelling, IsTear, IsWordsCause, are_digits, is_decimal_digit, is_zero_led, least_number, most_number, number_fault, word_fault};
 ghost use Rattle.ee_interface.specs.declared.command_line.operands.Operand.TheVariants.{Image, Settings, Before};
 
 use super::words::base_of;
@@ -266,13 +266,20 @@ fn is_flag_of(name: &str, word: &str) -> bool
     ensures { IsTrue result ↔ IsFlagOf name.now word.now }
 {
     match name {
-        "import" | "export" | "import-hex" => word == "--pairs",
-        "export-hex" => word == "--pairs" || word == "--fill",
+        "import" | "export" | "import-hex" => is_form_flag(word),
+        "export-hex" => is_form_flag(word) || word == "--fill",
         "run" => word == "--indexed",
         "header" => word == "--rust",
         "forget-all" => word == "--force",
         _ => false,
     }
+}
+
+/// Whether a word is the flag of a form.
+fn is_form_flag(word: &str) -> bool
+    ensures { IsTrue result ↔ IsFormFlag word.now }
+{
+    word == "--pairs" || word == "--coded"
 }
 
 /// The least number that a word may be; 0 where it is to be none.

@@ -1,8 +1,10 @@
 //! The words behind the program's name, read.
-ghost use Rattle.std.specs.Prelude.{◌≡◌, [], ◌∷◌, ◌<◌, ◌^◌, ℕ, Bool, List, Some, IfSome, IsSomeAnd, codes, option_map, decimal};
+ghost use Rattle.std.specs.Prelude.{◌≡◌, [], ◌∷◌, ◌<◌, ◌^◌, ◌↔◌, ℕ, Bool, List, Some, IfNone, IfSome, IsSomeAnd, IsTrue, codes, option_map, decimal};
 ghost use Rattle.ee_flash.specs.Size.{IsWithinLimits, Size};
-ghost use Rattle.ee_interface.specs.CommandLine.Job.{ArePageWords, EndsWithin, HasBase, HaveNoFlag, IsBase, IsCount, GivesSpelled, IsPlain, SpellsGiven, texts_of, with_flag};
+ghost use Rattle.ee_interface.specs.CommandLine.Job.{ArePageWords, EndsWithin, HasBase, HaveNoFlag, HaveNoForm, IsBase, IsCount, IsNoForm, GivesSpelled, IsPlain, SpellsGiven, texts_of, with_flag, with_form};
+ghost use Rattle.ee_interface.specs.declared.command_line.form.Form.{Form as FormOf};
 
+use super::form::Form;
 use super::jobs::Job;
 use ee_flash::Shape;
 use ee_text::number_up_to;
@@ -64,27 +66,71 @@ fn split_flag<'w, 'a>(flag: &str, words: &'w [&'a str]) -> Option<(bool, &'w [&'
     }
 }
 
-/// The words behind `--pairs` and `--fill`, and whether each is given. None where one is given
-/// twice, or behind the other in another order.
-fn split_hex_flags<'w, 'a>(words: &'w [&'a str]) -> Option<(bool, bool, &'w [&'a str])>
-    ensures found { IfSome result (λ split. HaveNoFlag (codes "--pairs") (texts_of split.2.now)
+/// The form whose flag a word is.
+fn form_of_flag(word: &str) -> Option<Form>
+    ensures found { IfSome result (λ form. (words : List (List ℕ))
+        → with_form form words ≡ word.now ∷ words) }
+    ensures some { IfSome result (λ _. IsNoForm word.now → ⊥) }
+    ensures none { IfNone result (IsNoForm word.now) }
+{
+    match word {
+        "--pairs" => Some(Form::Pairs),
+        "--coded" => Some(Form::Coded),
+        _ => None,
+    }
+}
+
+/// Whether words begin with no form's flag.
+fn have_no_form(words: &[&str]) -> bool
+    ensures { IsTrue result ↔ HaveNoForm (texts_of words.now) }
+{
+    match words.split_first() {
+        Some((first, _)) => form_of_flag(first).is_none(),
+        None => true,
+    }
+}
+
+/// The form whose flag comes first, words where none does, and the words behind. None where two do.
+fn split_form<'w, 'a>(words: &'w [&'a str]) -> Option<(Form, &'w [&'a str])>
+    ensures found { IfSome result (λ split. HaveNoForm (texts_of split.1.now)
+        × (texts_of words.now ≡ with_form split.0 (texts_of split.1.now))) }
+    ensures only { (form : FormOf) (operands : List (List ℕ)) → HaveNoForm operands
+        → texts_of words.now ≡ with_form form operands
+        → IsSomeAnd result (λ split. (split.0 ≡ form) × (texts_of split.1.now ≡ operands)) }
+{
+    let Some((first, operands)) = words.split_first() else {
+        return Some((Form::Words, words));
+    };
+    let Some(form) = form_of_flag(first) else {
+        return Some((Form::Words, words));
+    };
+    if have_no_form(operands) {
+        Some((form, operands))
+    } else {
+        None
+    }
+}
+
+/// The form whose flag comes first, whether `--fill` is behind it, and the words behind that. None
+/// where one is given twice, two forms are, or they come in another order.
+fn split_hex_flags<'w, 'a>(words: &'w [&'a str]) -> Option<(Form, bool, &'w [&'a str])>
+    ensures found { IfSome result (λ split. HaveNoForm (texts_of split.2.now)
         × HaveNoFlag (codes "--fill") (texts_of split.2.now)
-        × (texts_of words.now ≡ with_flag split.0 (codes "--pairs")
-        (with_flag split.1 (codes "--fill") (texts_of split.2.now)))) }
-    ensures only { (pairs fill : Bool) (operands : List (List ℕ))
-        → HaveNoFlag (codes "--pairs") operands → HaveNoFlag (codes "--fill") operands
-        → texts_of words.now ≡ with_flag pairs (codes "--pairs")
-        (with_flag fill (codes "--fill") operands)
-        → IsSomeAnd result (λ split. (split.0 ≡ pairs) × (split.1 ≡ fill)
+        × (texts_of words.now
+        ≡ with_form split.0 (with_flag split.1 (codes "--fill") (texts_of split.2.now)))) }
+    ensures only { (form : FormOf) (fill : Bool) (operands : List (List ℕ)) → HaveNoForm operands
+        → HaveNoFlag (codes "--fill") operands
+        → texts_of words.now ≡ with_form form (with_flag fill (codes "--fill") operands)
+        → IsSomeAnd result (λ split. (split.0 ≡ form) × (split.1 ≡ fill)
         × (texts_of split.2.now ≡ operands)) }
 {
-    let (pairs, others) = split_flag("--pairs", words)?;
-    let (fill, others) = split_flag("--fill", others)?;
-    let (again, operands) = split_flag("--pairs", others)?;
-    if again {
-        return None;
+    let (form, others) = split_form(words)?;
+    let (fill, operands) = split_flag("--fill", others)?;
+    if have_no_form(operands) {
+        Some((form, fill, operands))
+    } else {
+        None
     }
-    Some((pairs, fill, operands))
 }
 
 /// The job of `run`.
@@ -120,9 +166,9 @@ fn export_job<'a>(words: &[&'a str]) -> Option<Job<'a>>
     ensures found { SpellsGiven (codes "export" ∷ texts_of words.now) result }
     ensures only { GivesSpelled (codes "export" ∷ texts_of words.now) result }
 {
-    let (pairs, operands) = split_flag("--pairs", words)?;
+    let (form, operands) = split_form(words)?;
     match *operands {
-        [image, dump] => Some(Job::Export { pairs, image, dump }),
+        [image, dump] => Some(Job::Export { form, image, dump }),
         _ => None,
     }
 }
@@ -132,12 +178,12 @@ fn export_hex_job<'a>(words: &[&'a str]) -> Option<Job<'a>>
     ensures found { SpellsGiven (codes "export-hex" ∷ texts_of words.now) result }
     ensures only { GivesSpelled (codes "export-hex" ∷ texts_of words.now) result }
 {
-    let Some((pairs, fill, operands)) = split_hex_flags(words) else {
+    let Some((form, fill, operands)) = split_hex_flags(words) else {
         return None;
     };
     match *operands {
         [image, base, dump] => Some(Job::ExportHex {
-            pairs,
+            form,
             fill,
             image,
             base: base_of(base)?,
@@ -152,12 +198,12 @@ fn import_job<'a>(words: &[&'a str]) -> Option<Job<'a>>
     ensures found { SpellsGiven (codes "import" ∷ texts_of words.now) result }
     ensures only { GivesSpelled (codes "import" ∷ texts_of words.now) result }
 {
-    let Some((pairs, shape, files)) = split_part(words) else {
+    let Some((form, shape, files)) = split_part(words) else {
         return None;
     };
     match *files {
         [dump, image] => Some(Job::Import {
-            pairs,
+            form,
             shape,
             dump,
             image,
@@ -171,14 +217,14 @@ fn import_hex_job<'a>(words: &[&'a str]) -> Option<Job<'a>>
     ensures found { SpellsGiven (codes "import-hex" ∷ texts_of words.now) result }
     ensures only { GivesSpelled (codes "import-hex" ∷ texts_of words.now) result }
 {
-    let Some((pairs, shape, others)) = split_part(words) else {
+    let Some((form, shape, others)) = split_part(words) else {
         return None;
     };
     match *others {
         [base, dump, image] => Some(Job::ImportHex {
-            pairs,
+            form,
             shape,
-            base: base_for(pairs, shape, base)?,
+            base: base_for(form, shape, base)?,
             dump,
             image,
         }),
@@ -198,22 +244,22 @@ fn forget_all_job<'a>(words: &[&'a str]) -> Option<Job<'a>>
     }
 }
 
-/// Whether `--pairs` is given, the shape behind it, and the words behind that.
-#[tactic(auto, using(crate::proofs::CommandLineLemmas::Flags::size_is_no_flag))]
-fn split_part<'w, 'a>(words: &'w [&'a str]) -> Option<(bool, Shape, &'w [&'a str])>
+/// The form whose flag comes first, the shape behind it, and the words behind that.
+#[tactic(auto, using(crate::proofs::CommandLineLemmas::Flags::size_is_no_form))]
+fn split_part<'w, 'a>(words: &'w [&'a str]) -> Option<(Form, Shape, &'w [&'a str])>
     ensures found { IfSome result (λ split. IsWithinLimits split.1
-        × (texts_of words.now ≡ with_flag split.0 (codes "--pairs")
+        × (texts_of words.now ≡ with_form split.0
         (decimal split.1.pages ∷ decimal split.1.words ∷ texts_of split.2.now))) }
-    ensures only { (pairs : Bool) (size : Size) (others : List (List ℕ)) → IsWithinLimits size
-        → texts_of words.now ≡ with_flag pairs (codes "--pairs")
-        (decimal size.pages ∷ decimal size.words ∷ others)
-        → IsSomeAnd result (λ split. (split.0 ≡ pairs) × (split.1 ≡ size)
+    ensures only { (form : FormOf) (size : Size) (others : List (List ℕ)) → IsWithinLimits size
+        → texts_of words.now
+        ≡ with_form form (decimal size.pages ∷ decimal size.words ∷ others)
+        → IsSomeAnd result (λ split. (split.0 ≡ form) × (split.1 ≡ size)
         × (texts_of split.2.now ≡ others)) }
 {
-    let (pairs, operands) = split_flag("--pairs", words)?;
+    let (form, operands) = split_form(words)?;
     let (pages, others) = operands.split_first()?;
     let (page_words, others) = others.split_first()?;
-    Some((pairs, shape_of(pages, page_words)?, others))
+    Some((form, shape_of(pages, page_words)?, others))
 }
 
 /// The job that a word alone asks for.
@@ -420,17 +466,14 @@ fn digits_of(word: &str) -> Option<u32>
 /// The base that a word spells, where a part of this size that begins there ends within the
 /// addresses of 32 bits.
 #[tactic(auto, unfolding(crate::specs::CommandLine::Job::EndsWithin))]
-fn base_for(pairs: bool, shape: Shape, word: &str) -> Option<u32>
+fn base_for(form: Form, shape: Shape, word: &str) -> Option<u32>
     ensures found { IfSome result
-        (λ base. IsBase base × EndsWithin pairs shape base × HasBase word.now base) }
-    ensures only { (base : ℕ) → IsBase base → EndsWithin pairs shape base → HasBase word.now base
+        (λ base. IsBase base × EndsWithin form shape base × HasBase word.now base) }
+    ensures only { (base : ℕ) → IsBase base → EndsWithin form shape base → HasBase word.now base
         → result ≡ Some base }
 {
     let base = base_of(word)?;
-    // The words of one set, which the shape keeps at 2 ^ 15 or below.
-    let words = (shape.pages() * shape.words()) as u64;
-    let bytes = if pairs { 32 * words } else { 16 * words };
-    if u64::from(base) + bytes > 1 << 32 {
+    if u64::from(base) + form.dump_length(shape) as u64 > 1 << 32 {
         return None;
     }
     Some(base)

@@ -49,7 +49,7 @@ pub page_long : (ecc : EccDevice) (page : ℕ) → IsEccFormed ecc → page < pa
 page_long ecc page formed in_range =
     formed.page_lengths page [] (omega (arith, formed.image_length))
 
-reads_erased : (reading : Option ℕ) → is_other_read reading ≡ false → reading ≡ Some all_ones
+pub reads_erased : (reading : Option ℕ) → is_other_read reading ≡ false → reading ≡ Some all_ones
 reads_erased None is = cc
 reads_erased (Some number) is = ap Some (eqb-true _ _ (not-false _ is))
 

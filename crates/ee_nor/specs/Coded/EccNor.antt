@@ -97,11 +97,13 @@ ecc_after (ProgramEcc page at number) device =
 ecc_after (EraseEcc page) device = with_ecc_erased page device
 
 -- What a cut in an erase may leave of its page. Cells go from zero to one, so each number has every
--- one that it had. None is made whole: what reads, after the cut, as a number whose ones were all
--- there before, read so before, unless it reads as erased.
+-- one that it had, and one that reads as erased does so still. None is made whole: what reads, after
+-- the cut, as a number whose ones were all there before, read so before, unless it reads as erased.
 pub record MayEraseLeaveEcc (old new : List EccNumber) : Type 0 where
   pub as_long : length new ≡ length old
   pub keeps_ones : (at : ℕ) → HasOnes (ecc_in new at).cells (ecc_in old at).cells
+  pub keeps_erased : (at : ℕ) → (ecc_in old at).reading ≡ Some all_ones
+      → (ecc_in new at).reading ≡ Some all_ones
   pub none_made_whole : (at read : ℕ) → read ≢ all_ones → (ecc_in new at).reading ≡ Some read
       → HasOnes (ecc_in old at).cells read → (ecc_in old at).reading ≡ Some read
 

@@ -3,7 +3,7 @@ use Rattle.std.specs.Prelude.{◌≡◌, ◌<◌, ◌≤◌, ℕ, ◌==◌, drop
 use Rattle.std.specs.List.{list_any}
 use Rattle.ee_flash.specs.Device.{all_ones}
 use Rattle.ee_flash.specs.Size.{page_count}
-use Rattle.ee_nor.specs.Coded.EccNor.{EccDevice, EccNumber, EraseEcc, IsEccCutIn, ecc_page, with_ecc_erased}
+use Rattle.ee_nor.specs.Coded.EccNor.{EccDevice, EccNumber, EccStep, EraseEcc, IsEccCutIn, ProgramEcc, ecc_page, with_ecc_erased}
 
 -- it reads as something else than erased, or can't be read
 abbrev pub is_other_read : Option ℕ → Bool
@@ -21,6 +21,17 @@ is_ecc_blank numbers = not (list_any is_ecc_written numbers)
 pub record MayBeNew (ecc : EccDevice) : Type 0 where
   pub first : is_ecc_blank (drop 2 (ecc_page ecc 0)) ≡ true
   pub others : (page : ℕ) → 1 ≤ page → is_ecc_blank (ecc_page ecc page) ≡ true
+
+-- a step of a first start: an erase, or a program of one of those two numbers
+abbrev pub IsOfFirstStart : EccStep → Type 0
+IsOfFirstStart (ProgramEcc page at number) = (page ≡ 0) × (at < 2)
+IsOfFirstStart (EraseEcc page) = Unit {0}
+
+-- Where a first start is cut, one may be made again.
+abbrev pub NewStaysNew : Type 0
+NewStaysNew =
+    (step : EccStep) (old new : EccDevice) → IsOfFirstStart step → IsEccCutIn step old new
+    → MayBeNew old → MayBeNew new
 
 -- with a page erased that holds something; a blank one stays as it is
 abbrev pub with_ecc_wiped : ℕ → EccDevice → EccDevice

@@ -3,7 +3,6 @@ use crate::explain::causes::LineCause;
 use crate::explain::paths::path_of;
 use crate::explain::remedies::remedy_of;
 use arrayvec::ArrayVec;
-use ee_flash::Shape;
 use ee_interface::command_line::{
     HELP, Job, Operand, WordFault, WordsCause, least_number, most_number, why_no_job, why_no_line,
 };
@@ -315,18 +314,11 @@ pub fn push_dump_length<A: Allocator>(
     out: &mut Vec<u8, A>,
     job: &Job<'_>,
 ) -> Result<(), AllocError> {
-    if let Job::Import { pairs, shape, .. } = *job {
-        push_number_behind(out, b"  wanted: ", bytes_of(pairs, shape))?;
+    if let Job::Import { form, shape, .. } = *job {
+        push_number_behind(out, b"  wanted: ", form.dump_length(shape) as u64)?;
         out.extend_from_slice(b" bytes for these P and W\n")?;
     }
     push_remedy(out, job, &Fault::DumpLength)
-}
-
-/// The bytes of a part, where each word may stand beside its complement.
-fn bytes_of(pairs: bool, shape: Shape) -> u64 {
-    // The words of one set, which the shape keeps at 2 ^ 15 or below.
-    let words = (shape.pages() * shape.words()) as u64;
-    if pairs { 32 * words } else { 16 * words }
 }
 
 /// Writes the name that no setting has, and where the names are. After an error there may be a part

@@ -59,9 +59,14 @@ fn remedy_of_work(fault: &Fault) -> &'static str {
         Fault::Spent | Fault::SpentAt(_) => "no move is left: take a new part, or format the image",
         Fault::DumpLength =>
             "look how long it is, 16 * P * W, or 32 * P * W with --pairs: ls -l DUMP",
+        Fault::DumpOfWords => "it is one of words: type it with no --pairs and no --coded",
+        Fault::DumpOfPairs => "it is one of pairs: type it with --pairs",
+        Fault::DumpOfCoded { .. } =>
+            "it is one of coded words: type it with --coded and with these two numbers as P and W",
         Fault::LowPair { .. } => "try it with no --pairs and twice the W, or another first byte",
         Fault::Misplaced { .. } => "give the P and W that the part's firmware has",
         Fault::TornWord { .. } => "take it away, where it waits: ee clean IMAGE",
+        Fault::Uncoded { .. } => "no store wrote it: look at it, or export with no --coded",
         Fault::Base => "give as BASE where the part's first byte is",
         Fault::NotFitting(_) => "give more pages, or write fewer addresses",
         Fault::NoSizeEnough => "give larger pages, fewer writes or fewer runs",

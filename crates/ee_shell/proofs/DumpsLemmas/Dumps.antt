@@ -13,14 +13,22 @@ use Rattle.ee_flash.specs.declared.word.Word.{Word}
 use Rattle.ee_flash.specs.declared.word.Word.TheVariants.{Erased, Torn}
 use Rattle.ee_flash.proofs.Public.{joined_pages, pages_join}
 use Rattle.ee_shell.specs.Dumps.Pair.{AreWordsOfPairs}
-use Rattle.ee_shell.specs.Dumps.Dump.{IsDump, IsFirstTorn, IsImport, IsSpelledBy, IsWholePage, dump_length, word_bytes, device_words}
-use Rattle.ee_shell.specs.Dumps.Fault.{HasLowPair}
+use Rattle.ee_shell.specs.Dumps.Dump.{IsCodable, IsDump, IsFirstTorn, IsImport, IsSpelledBy, IsWholePage, plain_bytes, word_bytes, device_words}
+use Rattle.ee_nor.specs.Coded.Coded.{coded_word}
+use Rattle.ee_shell.specs.Dumps.Code.{AreWordsOfCodes}
+use Rattle.ee_interface.specs.CommandLine.Form.{dump_length, word_length}
+use Rattle.ee_shell.specs.Dumps.Fault.{HasLowPair, HasUncoded, IsWriteFault}
+use Rattle.ee_shell.specs.declared.dumps.fault.WriteFault.{WriteFault}
+use Rattle.ee_shell.specs.declared.dumps.fault.WriteFault.TheVariants.{Memory as NoMemory, TornWord, Uncoded}
+use Rattle.ee_shell.specs.declared.dumps.places.Sought.TheVariants as look
+use Rattle.ee_shell.proofs.DumpsLemmas.Sought.{none_sought, one_sought}
 use Rattle.ee_shell.specs.Dumps.Laws.{unworn_device}
 use Rattle.ee_shell.specs.Dumps.Reading.{AreCells, AreSpelledBy, AreWhole}
-use Rattle.ee_shell.specs.declared.dumps.form.Form.{Form}
-use Rattle.ee_shell.specs.declared.dumps.form.Form.TheVariants.{Words, Pairs}
+use Rattle.ee_interface.specs.declared.command_line.form.Form.{Form}
+use Rattle.ee_interface.specs.declared.command_line.form.Form.TheVariants.{Words, Pairs, Coded}
 use Rattle.ee_shell.proofs.DumpsLemmas.Pairs.{bytes_of_whole, length-pairs, no_low_pair, one_row_of_words, pairs_of_words}
-use Rattle.ee_shell.proofs.DumpsLemmas.Torn.{first_or_whole, whole_pages, whole_words}
+use Rattle.ee_shell.proofs.DumpsLemmas.Codes.{bytes_of_whole_codes, codes_of_words, has_code, length-codes, one_row_of_codes, words_have_codes}
+use Rattle.ee_shell.proofs.DumpsLemmas.Torn.{first_or_whole, in_pages, in_words, no_torn, one_first, whole_pages, whole_words}
 use Rattle.ee_shell.proofs.DumpsLemmas.Words.{length-words, words_are_bytes, words_injective, words_of_bytes}
 
 -- ---- the words of a device
@@ -52,23 +60,40 @@ whole_of form device dump formed is = record {
   below_all_ones = below_of_pages device.image formed.below_all_ones;
 }
 
+many_words : (device : Device) → IsFormed device
+    → length (device_words device) ≡ page_count device.size * device.size.words
+many_words device formed =
+    length_of_pages device.size.words device.image formed.page_lengths
+    ∙ ap (λ (n : ℕ). n * device.size.words) formed.image_length
+
 -- the length of a dump
 pub dumps_are_read_lem : (form : Form) (device : Device) (dump : List ℕ) → IsFormed device
     → IsDump form device dump → length dump ≡ dump_length form device.size
 dumps_are_read_lem form device dump formed is =
-    search (rules, length-words, whole_words, length_of_pages)
+    ap length is.bytes_are
+    ∙ length-words form device.size (device_words device) (whole_words device is.whole)
+    ∙ ap (λ (n : ℕ). word_length form * n) (many_words device formed)
 
 -- and it is made of bytes
 pub dumps_are_bytes : (form : Form) (device : Device) (dump : List ℕ) → IsDump form device dump
     → (i : ℕ) → get_or dump i 0 < 256
 dumps_are_bytes form device dump is i =
     subst (λ (l : List ℕ). get_or l i 0 < 256) (sym is.bytes_are)
-    (words_are_bytes form (device_words device) i)
+    (words_are_bytes form device.size (device_words device) i)
 
 -- and bytes that made a device are as long, and have no pair that sums to less than all ones
 pairs_length : (device : Device) (dump : List ℕ) → IsFormed device
     → AreWordsOfPairs dump (device_words device) → length dump ≡ dump_length Pairs device.size
 pairs_length device dump formed are = search (rules, length_of_pages, length-pairs, length-map)
+
+codes_length : (device : Device) (dump : List ℕ) → IsFormed device
+    → AreWordsOfCodes device.size dump (device_words device)
+    → length dump ≡ dump_length Coded device.size
+codes_length device dump formed are =
+    ap length are.bytes_are ∙ length-codes are.numbers
+    ∙ ap (λ (n : ℕ). 8 * n)
+    (sym (length-map are.numbers (coded_word device.size)) ∙ ap length (sym are.words_are)
+    ∙ many_words device formed)
 
 pub imports_are_read : (form : Form) (size : Size) (dump : List ℕ) (device : Device)
     → IsFormed device → IsImport form size dump device
@@ -79,28 +104,31 @@ imports_are_read Words size dump device formed made = (
       ∙ ap (λ (d : Device). dump_length Words d.size) made.never_used,
   λ page at has. has,
 )
+imports_are_read Coded size dump device formed made = (
+  codes_length device dump formed made.dump_is
+      ∙ ap (λ (d : Device). dump_length Coded d.size) made.never_used,
+  λ page at has. has,
+)
 imports_are_read Pairs size dump device formed made = (
   pairs_length device dump formed made.dump_is
       ∙ ap (λ (d : Device). dump_length Pairs d.size) made.never_used,
   λ page at has. no_low_pair size dump (device_words device) page at made.dump_is has.1,
 )
 
--- the bytes of a dump of pairs spell its words
-spelled_by : (device : Device) (dump : List ℕ) → IsFormed device → IsDump Pairs device dump
-    → IsSpelledBy Pairs dump device
-spelled_by device dump formed is =
+-- the bytes of a dump spell its words
+codes_of : (device : Device) → IsCodable Coded device → All has_code (device_words device)
+codes_of device coded = in_words has_code refl device coded
+
+spelled_by : (form : Form) (device : Device) (dump : List ℕ) → IsFormed device
+    → IsDump form device dump → IsSpelledBy form dump device
+spelled_by Words device dump formed is = is
+spelled_by Pairs device dump formed is =
     subst (λ (l : List ℕ). IsSpelledBy Pairs l device) (sym is.bytes_are)
     (pairs_of_words (device_words device) (whole_of Pairs device dump formed is))
-
--- a device's dump spells no other words than its own
-one_row : (form : Form) (device other : Device) (dump : List ℕ) → IsFormed device → IsFormed other
-    → IsDump form device dump → IsSpelledBy form dump other → device_words device ≡ device_words other
-one_row Words device other dump formed right is suits =
-    words_injective Words (device_words device) (device_words other) (whole_of Words device dump formed is)
-    (whole_of Words other dump right suits) (sym is.bytes_are ∙ suits.bytes_are)
-one_row Pairs device other dump formed right is suits =
-    one_row_of_words dump (device_words device) (device_words other) (spelled_by device dump formed is)
-    suits
+spelled_by Coded device dump formed is =
+    subst (λ (l : List ℕ). IsSpelledBy Coded l device) (sym is.bytes_are)
+    (codes_of_words device.size (device_words device) formed.within_limits
+    (whole_of Coded device dump formed is) (codes_of device is.codable))
 
 -- two devices of one size with the same words have the same pages
 one_image : (device other : Device) → IsFormed device → IsFormed other → device.size ≡ other.size
@@ -111,13 +139,19 @@ one_image device other formed right size words =
     ∙ ap (pages_of other.size) words
     ∙ joined_pages other.size other.image right.image_length right.page_lengths
 
-same_words : (form : Form) (size : Size) (device other : Device) (dump : List ℕ) → IsFormed device
-    → IsFormed other → IsSpelledBy form dump device → IsSpelledBy form dump other
-    → device_words device ≡ device_words other
-same_words Words size device other dump formed right spelled suits =
-    one_row Words device other dump formed right spelled suits
-same_words Pairs size device other dump formed right spelled suits =
+-- bytes spell one row of words
+same_words : (form : Form) (device other : Device) (dump : List ℕ) → IsFormed device
+    → IsFormed other → device.size ≡ other.size → IsSpelledBy form dump device
+    → IsSpelledBy form dump other → device_words device ≡ device_words other
+same_words Words device other dump formed right size spelled suits =
+    words_injective (device_words device) (device_words other)
+    (whole_of Words device dump formed spelled) (whole_of Words other dump right suits)
+    (sym spelled.bytes_are ∙ suits.bytes_are)
+same_words Pairs device other dump formed right size spelled suits =
     one_row_of_words dump (device_words device) (device_words other) spelled suits
+same_words Coded device other dump formed right size spelled suits =
+    one_row_of_codes device.size dump (device_words device) (device_words other) spelled
+    (subst (λ (s : Size). AreWordsOfCodes s dump (device_words other)) (sym size) suits)
 
 -- bytes make one device
 pub imports_agree : (form : Form) (size : Size) (dump : List ℕ) (device other : Device)
@@ -130,7 +164,7 @@ imports_agree form size dump device other formed right made also =
     made.never_used
     ∙ ap (λ (pages : List (List Word)). record (blank_device size) { image = pages })
     (one_image device other formed right sizes
-    (same_words form size device other dump formed right made.dump_is also.dump_is))
+    (same_words form device other dump formed right sizes made.dump_is also.dump_is))
     ∙ sym also.never_used
 
 -- ---- the laws
@@ -138,13 +172,22 @@ imports_agree form size dump device other formed right made also =
 import_again : (form : Form) (device other : Device) (dump : List ℕ) → IsFormed device
     → IsDump form device dump → IsFormed other → IsImport form device.size dump other
     → other ≡ unworn_device device
-import_again form device other dump formed is right import = search (rules, one_image, one_row)
+import_again form device other dump formed is right import =
+    let size : device.size ≡ other.size =
+    sym (ap (λ (d : Device). d.size) import.never_used) in
+    let words : device_words device ≡ device_words other =
+    same_words form device other dump formed right size (spelled_by form device dump formed is)
+    import.dump_is in
+    import.never_used
+    ∙ ap (λ (pages : List (List Word)). record (blank_device device.size) { image = pages })
+    (sym (one_image device other formed right size words))
 
 none_low : (form : Form) (device : Device) (dump : List ℕ) → IsFormed device
     → IsDump form device dump → (page at : ℕ) → HasLowPair form device.size dump page at → ⊥
 none_low Words device dump formed is page at has = has
+none_low Coded device dump formed is page at has = has
 none_low Pairs device dump formed is page at has =
-    no_low_pair device.size dump (device_words device) page at (spelled_by device dump formed is) has.1
+    no_low_pair device.size dump (device_words device) page at (spelled_by Pairs device dump formed is) has.1
 
 pub import_of_export_lem : (form : Form) (device other : Device) (dump : List ℕ) → IsFormed device
     → IsDump form device dump
@@ -157,8 +200,18 @@ pub whole_import_lem : (form : Form) (size : Size) (dump : List ℕ) (device : D
     → IsFormed device → IsImport form size dump device → ((page : ℕ) → IsWholePage device page)
     → IsDump form device dump
 whole_import_lem Words size dump device formed import whole = import.dump_is
+whole_import_lem Coded size dump device formed import whole = record {
+  whole = whole;
+  codable =
+      in_pages has_code refl device
+      (words_have_codes device.size dump (device_words device) import.dump_is);
+  bytes_are =
+      bytes_of_whole_codes device.size dump (device_words device) import.dump_is
+      (whole_words device whole);
+}
 whole_import_lem Pairs size dump device formed import whole = record {
   whole = whole;
+  codable = tt;
   bytes_are = bytes_of_whole dump (device_words device) import.dump_is (whole_words device whole);
 }
 
@@ -172,26 +225,35 @@ pub one_device_lem : (form : Form) (device other : Device) (dump : List ℕ) →
       on = other.on;
     }
 one_device_lem form device other dump formed right size wear is suits =
-    search (rules, words_injective, whole_of, one_image)
+    let words : device_words device ≡ device_words other =
+    same_words form device other dump formed right size (spelled_by form device dump formed is)
+    (spelled_by form other dump right suits) in
+    let image = one_image device other formed right size words in
+    search (rules, image)
 
 -- words as a device that was never used
-spelled_cells : (form : Form) (dump : List ℕ) (words : List Word) (device : Device)
-    → AreSpelledBy form dump words → device_words device ≡ words → IsSpelledBy form dump device
-spelled_cells Words dump words device are join = record {
+spelled_cells : (form : Form) (size : Size) (dump : List ℕ) (words : List Word) (device : Device)
+    → device.size ≡ size → AreSpelledBy form size dump words → device_words device ≡ words
+    → IsSpelledBy form dump device
+spelled_cells Words size dump words device same are join = record {
+  codable = tt;
   whole = whole_pages device (subst (All (λ word. word ≢ Torn)) (sym join) are.0.none_torn);
-  bytes_are = sym are.1 ∙ ap (flat_map (word_bytes Words)) (sym join);
+  bytes_are = sym are.1 ∙ ap (flat_map plain_bytes) (sym join);
 }
-spelled_cells Pairs dump words device are join =
+spelled_cells Pairs size dump words device same are join =
     subst (λ (ws : List Word). AreWordsOfPairs dump ws) (sym join) are
+spelled_cells Coded size dump words device same are join =
+    subst (λ (s : Size). AreWordsOfCodes s dump (device_words device)) (sym same)
+    (subst (λ (ws : List Word). AreWordsOfCodes size dump ws) (sym join) are)
 
 pub import_of_words : (form : Form) (size : Size) (dump : List ℕ) (words : List Word)
-    → length words ≡ page_count size * size.words → AreSpelledBy form dump words
+    → length words ≡ page_count size * size.words → AreSpelledBy form size dump words
     → IsImport form size dump (device_from size words (replicate (page_count size) 0))
 import_of_words form size dump words many are =
     let device : Device = device_from size words (replicate (page_count size) 0) in
     record {
       never_used = refl;
-      dump_is = spelled_cells form dump words device are (pages_join size words many);
+      dump_is = spelled_cells form size dump words device refl are (pages_join size words many);
     }
 
 formed_of_words : (size : Size) (words : List Word) → IsWithinLimits size → AreWhole words
@@ -214,14 +276,16 @@ export_of_import_lem size dump limits small long =
       import_of_words Words size dump found.0 are.as_many (are.whole, are.bytes_are),
     )
 
-pub dump_or_torn_lem : (form : Form) (device : Device)
+pub dump_or_torn_lem : (form : Form) (device : Device) → IsCodable form device
     → ((dump : List ℕ) × IsDump form device dump)
     ⊎ ((page : ℕ) × (at : ℕ) × IsFirstTorn device page at)
-dump_or_torn_lem form device =
+dump_or_torn_lem form device codable =
     elim (first_or_whole device) [
       | inl first ↦ inr first
-      | inr whole ↦ inl
-          (flat_map (word_bytes form) (device_words device), record { whole = whole; bytes_are = refl })
+      | inr whole ↦ inl (
+        flat_map (word_bytes form device.size) (device_words device),
+        record { whole = whole; codable = codable; bytes_are = refl },
+      )
     ]
 
 -- the words that were read, as the device in memory
@@ -242,3 +306,46 @@ have_lengths form size dump words wear are none = record {
   cells_length = are.as_many;
   wear_length = ap length none ∙ length-replicate (page_count size) 0;
 }
+
+-- ---- why a device has no dump
+
+one_uncoded : (form : Form) (device : Device) (page at other place : ℕ)
+    → HasUncoded form device page at → HasUncoded form device other place
+    → Uncoded other place ≡ Uncoded page at
+one_uncoded Words device page at other place first second = absurd first
+one_uncoded Pairs device page at other place first second = absurd first
+one_uncoded Coded device page at other place first second =
+    let same = one_sought look.Uncoded device page at other place first second in
+    ap (λ (p : ℕ). Uncoded p place) same.0 ∙ ap (Uncoded page) same.1
+
+-- there is one cause at most but for want of memory
+pub one_write_cause : (form : Form) (device : Device) (cause fault : WriteFault)
+    → cause ≢ NoMemory → IsWriteFault form device cause → IsWriteFault form device fault
+    → (fault ≡ cause) ⊎ (fault ≡ NoMemory)
+one_write_cause form device cause NoMemory some h i = inr refl
+one_write_cause form device NoMemory fault some h i = absurd (some refl)
+one_write_cause form device (TornWord page at) (TornWord other place) some h i =
+    let same = one_first device page at other place h i in
+    inl (ap (λ (p : ℕ). TornWord p place) same.0 ∙ ap (TornWord page) same.1)
+one_write_cause form device (TornWord page at) (Uncoded other place) some h i =
+    absurd (i.0 page at h.torn)
+one_write_cause form device (Uncoded page at) (TornWord other place) some h i =
+    absurd (h.0 other place i.torn)
+one_write_cause form device (Uncoded page at) (Uncoded other place) some h i =
+    inl (one_uncoded form device page at other place h.1 i.1)
+
+none_uncoded : (form : Form) (device : Device) (page at : ℕ) → IsCodable form device
+    → HasUncoded form device page at → ⊥
+none_uncoded Words device page at codable has = has
+none_uncoded Pairs device page at codable has = has
+none_uncoded Coded device page at codable has =
+    none_sought look.Uncoded device page at codable has
+
+-- and none but that where there is a dump
+pub write_has_none : (form : Form) (device : Device) (dump : List ℕ) (cause : WriteFault)
+    → IsDump form device dump → IsWriteFault form device cause → cause ≡ NoMemory
+write_has_none form device dump (TornWord page at) is first =
+    absurd (no_torn form device dump page at is first)
+write_has_none form device dump (Uncoded page at) is first =
+    absurd (none_uncoded form device page at is.codable first.1)
+write_has_none form device dump NoMemory is lack = refl

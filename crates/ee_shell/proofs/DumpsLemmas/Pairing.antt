@@ -14,10 +14,10 @@ use Rattle.ee_flash.specs.declared.word.Word.{Word}
 use Rattle.ee_nor.specs.Formed.{below_all_ones}
 use Rattle.ee_nor.specs.Nor.{IsNorNumber}
 use Rattle.ee_nor.specs.Pairs.{pair_word}
-use Rattle.ee_shell.specs.Dumps.Dump.{dump_length}
+use Rattle.ee_interface.specs.CommandLine.Form.{dump_length}
 use Rattle.ee_shell.specs.Dumps.Pair.{AreBytesOf, IsFirstLowPair, IsHighPair, IsPair, Pair, erased_pair, pair_bytes, sum_at, word_of_pair}
 use Rattle.ee_shell.specs.Dumps.Reading.{AreCells}
-use Rattle.ee_shell.specs.declared.dumps.form.Form.TheVariants.{Pairs}
+use Rattle.ee_interface.specs.declared.command_line.form.Form.TheVariants.{Pairs}
 use Rattle.ee_shell.proofs.DumpsLemmas.Words.{small_at, value_fits}
 
 -- ---- the pairs of bytes
@@ -29,15 +29,15 @@ pair_of chunk = record {
   check = from_le_bytes w64 (get_or chunk 1 []);
 }
 
-abbrev IsByte : ℕ → Type 0
+abbrev pub IsByte : ℕ → Type 0
 IsByte byte = byte < 256
 
-eight_again : (bytes : List ℕ) → length bytes ≡ 8 → All IsByte bytes
+pub eight_again : (bytes : List ℕ) → length bytes ≡ 8 → All IsByte bytes
     → to_le_bytes w64 (from_le_bytes w64 bytes) ≡ bytes
 eight_again bytes long small =
     le_bytes_8 bytes (from_le_bytes w64 bytes) long (small_at bytes small) refl
 
-number_fits : (bytes : List ℕ) → All IsByte bytes → IsNorNumber (from_le_bytes w64 bytes)
+pub number_fits : (bytes : List ℕ) → All IsByte bytes → IsNorNumber (from_le_bytes w64 bytes)
 number_fits bytes small = omega (arith, value_fits bytes (small_at bytes small))
 
 -- 16 bytes are those of their pair

@@ -12,11 +12,11 @@ use Rattle.ee_flash.specs.declared.word.Word.{Word}
 use Rattle.ee_flash.specs.declared.word.Word.TheVariants.{Erased, Held, Torn}
 use Rattle.ee_nor.specs.Formed.{word_cases}
 use Rattle.ee_nor.specs.Pairs.{complement}
-use Rattle.ee_shell.specs.Dumps.Dump.{word_bytes}
+use Rattle.ee_shell.specs.Dumps.Dump.{paired_bytes}
 use Rattle.ee_shell.specs.Dumps.Pair.{AreBytesOf, AreWordsOfPairs, IsFirstLowPair, IsHighPair, IsPair, Pair, erased_pair, pair_bytes, sum_at, word_of_pair}
 use Rattle.ee_shell.specs.Dumps.Reading.{AreWhole}
 use Rattle.ee_shell.specs.declared.dumps.fault.DumpFault.TheVariants.{LowPair}
-use Rattle.ee_shell.specs.declared.dumps.form.Form.TheVariants.{Pairs}
+use Rattle.ee_interface.specs.declared.command_line.form.Form.TheVariants.{Pairs}
 use Rattle.ee_shell.proofs.DumpsLemmas.Words.{head_whole}
 
 -- ---- the pair of a word
@@ -36,7 +36,7 @@ kept_word (Held value) below whole =
     ) refl
 kept_word Torn below whole = absurd (whole refl)
 
-kept_bytes : (word : Word) → word ≢ Torn → word_bytes Pairs word ≡ pair_bytes (kept word)
+kept_bytes : (word : Word) → word ≢ Torn → paired_bytes word ≡ pair_bytes (kept word)
 kept_bytes Erased whole = refl
 kept_bytes (Held value) whole = refl
 kept_bytes Torn whole = absurd (whole refl)
@@ -54,7 +54,7 @@ kept_high Torn below = omega arith
 
 -- words that are whole are those of their bytes
 pub pairs_of_words : (words : List Word) → AreWhole words
-    → AreWordsOfPairs (flat_map (word_bytes Pairs) words) words
+    → AreWordsOfPairs (flat_map paired_bytes words) words
 pairs_of_words [] whole = record {
   pairs = [];
   spelled = record { fit = All-nil IsPair; bytes_are = refl };
@@ -69,7 +69,7 @@ pairs_of_words (word ∷ words) whole =
       spelled = record {
         fit = All-cons IsPair (kept word) rest.pairs (kept_fits word first.1) rest.spelled.fit;
         bytes_are =
-            ap (λ l. word_bytes Pairs word ++ l) rest.spelled.bytes_are
+            ap (λ l. paired_bytes word ++ l) rest.spelled.bytes_are
             ∙ ap (λ l. l ++ flat_map pair_bytes rest.pairs) (kept_bytes word first.0);
       };
       high = All-cons IsHighPair (kept word) rest.pairs (kept_high word first.1) rest.high;
@@ -81,39 +81,39 @@ pairs_of_words (word ∷ words) whole =
 -- ---- the word of a pair
 
 pair_is_word : (pair : Pair) → word_of_pair pair ≢ Torn
-    → pair_bytes pair ≡ word_bytes Pairs (word_of_pair pair)
+    → pair_bytes pair ≡ paired_bytes (word_of_pair pair)
 pair_is_word pair whole =
     elim (word_cases pair.number pair.check) [
       | inl erased ↦ ap (λ n. to_le_bytes w64 n ++ to_le_bytes w64 pair.check) erased.0
           ∙ ap (λ n. to_le_bytes w64 all_ones ++ to_le_bytes w64 n) erased.1
-          ∙ sym (ap (word_bytes Pairs) erased.2)
+          ∙ sym (ap paired_bytes erased.2)
       | inr (inl held) ↦ ap (λ n. to_le_bytes w64 pair.number ++ to_le_bytes w64 n) held.1
-          ∙ sym (ap (word_bytes Pairs) held.2)
+          ∙ sym (ap paired_bytes held.2)
       | inr (inr torn) ↦ absurd (whole torn)
     ]
 
 pairs_are_words : (pairs : List Pair) → All (λ word. word ≢ Torn) (map word_of_pair pairs)
-    → flat_map pair_bytes pairs ≡ flat_map (word_bytes Pairs) (map word_of_pair pairs)
+    → flat_map pair_bytes pairs ≡ flat_map paired_bytes (map word_of_pair pairs)
 pairs_are_words [] whole = refl
 pairs_are_words (pair ∷ pairs) whole =
     ap (λ l. l ++ flat_map pair_bytes pairs)
     (pair_is_word pair
     (All-head (λ (w : Word). w ≢ Torn) (word_of_pair pair) (map word_of_pair pairs) whole))
-    ∙ ap (λ l. word_bytes Pairs (word_of_pair pair) ++ l)
+    ∙ ap (λ l. paired_bytes (word_of_pair pair) ++ l)
     (pairs_are_words pairs
     (All-tail (λ (w : Word). w ≢ Torn) (word_of_pair pair) (map word_of_pair pairs) whole))
 
 -- words of which none is torn have the bytes that spell them
 pub bytes_of_whole : (dump : List ℕ) (words : List Word) → AreWordsOfPairs dump words
-    → All (λ word. word ≢ Torn) words → dump ≡ flat_map (word_bytes Pairs) words
+    → All (λ word. word ≢ Torn) words → dump ≡ flat_map paired_bytes words
 bytes_of_whole dump words are whole =
     are.spelled.bytes_are
     ∙ pairs_are_words are.pairs (subst (All (λ (w : Word). w ≢ Torn)) are.words_are whole)
-    ∙ ap (flat_map (word_bytes Pairs)) (sym are.words_are)
+    ∙ ap (flat_map paired_bytes) (sym are.words_are)
 
 -- ---- bytes spell one row of pairs
 
-number_worth : (number other : ℕ) → number ≤ all_ones → other ≤ all_ones
+pub number_worth : (number other : ℕ) → number ≤ all_ones → other ≤ all_ones
     → to_le_bytes w64 number ≡ to_le_bytes w64 other → number ≡ other
 number_worth number other fits suits e =
     sym (from_le_bytes-to_le_bytes_8 number (omega arith)) ∙ ap (from_le_bytes w64) e

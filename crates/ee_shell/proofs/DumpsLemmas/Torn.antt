@@ -1,64 +1,71 @@
 -- Torn words: a device has none, or a first one.
-use Rattle.std.proofs.Common.{rules, ◌≡◌, ◌≢◌, ◌⊎◌, ℕ, zero, suc, ◌+◌, ◌<◌, ◌≤◌, List, [], ◌∷◌, ◌++◌, length, get_or, refl, sym, ◌∙◌, arith, inl, inr, length-append}
+use Rattle.std.proofs.Common.{rules, ◌≡◌, ◌≢◌, ◌⊎◌, ℕ, zero, suc, ◌+◌, ◌<◌, ◌≤◌, List, [], ◌∷◌, ◌++◌, length, get_or, refl, sym, subst, arith, inl, inr, length-append}
 use Rattle.std.specs.List.{All, flat_map}
 use Rattle.std.proofs.lemmas.Bool.{cases_lt}
 use Rattle.std.proofs.lemmas.List.{get_or-append-add, get_or_append_left, get_or_past}
 use Rattle.std.proofs.lemmas.List.Elements.{All-append, All-from_get_or, All-nil}
-use Rattle.ee_flash.specs.Device.{Device}
+use Rattle.ee_flash.specs.Device.{Device, word_at}
 use Rattle.ee_flash.specs.declared.word.Word.{Word}
 use Rattle.ee_flash.specs.declared.word.Word.TheVariants.{Erased, Held, Torn}
 use Rattle.ee_shell.specs.Dumps.Dump.{IsDump, IsFirstTorn, IsWholePage, device_words}
-use Rattle.ee_shell.specs.declared.dumps.form.Form.{Form}
+use Rattle.ee_interface.specs.declared.command_line.form.Form.{Form}
 use Rattle.ee_shell.proofs.DumpsLemmas.Words.{erased_whole, held_whole}
 
 -- ---- none
 
-all_whole : (pages : List (List Word))
-    → ((page at : ℕ) → get_or (get_or pages page []) at Erased ≢ Torn)
-    → All (λ word. word ≢ Torn) (flat_map (λ page. page) pages)
-all_whole [] whole = All-nil (λ word. word ≢ Torn)
-all_whole (page ∷ pages) whole =
-    All-append (λ word. word ≢ Torn) page (flat_map (λ words. words) pages)
-    (All-from_get_or (λ (word : Word). word ≢ Torn) page Erased (λ i within. whole 0 i))
-    (all_whole pages (λ k at. whole (suc k) at))
+module _ (P : Word → Type 0) (blank : P Erased) where
+  all_of : (pages : List (List Word))
+      → ((page at : ℕ) → P (get_or (get_or pages page []) at Erased))
+      → All P (flat_map (λ page. page) pages)
+  all_of [] each = All-nil P
+  all_of (page ∷ pages) each =
+      All-append P page (flat_map (λ words. words) pages)
+      (All-from_get_or P page Erased (λ i within. each 0 i))
+      (all_of pages (λ k at. each (suc k) at))
+
+  front_of : (words more : List Word) → All P (words ++ more) → All P words
+  front_of words more each = λ k none within.
+      subst P (get_or_append_left words more none k within)
+      (each k none (omega (arith, length-append words more)))
+
+  back_of : (words more : List Word) → All P (words ++ more) → All P more
+  back_of words more each = λ k none within.
+      subst P (get_or-append-add words more k none)
+      (each (length words + k) none (omega (arith, length-append words more)))
+
+  each_of : (words : List Word) → All P words → (at : ℕ) → P (get_or words at Erased)
+  each_of words each at = elim (cases_lt at (length words)) [
+    | inl within ↦ each at Erased within
+    | inr past ↦ subst P (sym (get_or_past words at Erased past)) blank
+  ]
+
+  there_of : (pages : List (List Word)) → All P (flat_map (λ page. page) pages)
+      → (page at : ℕ) → P (get_or (get_or pages page []) at Erased)
+  there_of [] each page at = blank
+  there_of (words ∷ pages) each zero at =
+      each_of words (front_of words (flat_map (λ page. page) pages) each) at
+  there_of (words ∷ pages) each (suc page) at =
+      there_of pages (back_of words (flat_map (λ page. page) pages) each) page at
+
+  -- what holds of each word of a device, holds of all its words
+  pub in_words : (device : Device) → ((page at : ℕ) → P (word_at device page at))
+      → All P (device_words device)
+  in_words device each = all_of device.image each
+
+  -- and back
+  pub in_pages : (device : Device) → All P (device_words device) → (page at : ℕ)
+      → P (word_at device page at)
+  in_pages device each page at = there_of device.image each page at
 
 -- the words of a device without a torn one
 pub whole_words : (device : Device) → ((page : ℕ) → IsWholePage device page)
     → All (λ word. word ≢ Torn) (device_words device)
-whole_words device whole = all_whole device.image whole
-
-front_whole : (words more : List Word) → All (λ word. word ≢ Torn) (words ++ more)
-    → All (λ word. word ≢ Torn) words
-front_whole words more each = λ k none within e.
-    each k none (omega (arith, length-append words more))
-    (get_or_append_left words more none k within ∙ e)
-
-back_whole : (words more : List Word) → All (λ word. word ≢ Torn) (words ++ more)
-    → All (λ word. word ≢ Torn) more
-back_whole words more each = λ k none within e.
-    each (length words + k) none (omega (arith, length-append words more))
-    (get_or-append-add words more k none ∙ e)
-
-each_whole : (words : List Word) → All (λ word. word ≢ Torn) words → (at : ℕ)
-    → get_or words at Erased ≢ Torn
-each_whole words each at =
-    elim (cases_lt at (length words)) [
-      | inl within ↦ each at Erased within
-      | inr past ↦ λ e. erased_whole (sym (get_or_past words at Erased past) ∙ e)
-    ]
-
-whole_at : (pages : List (List Word)) → All (λ word. word ≢ Torn) (flat_map (λ page. page) pages)
-    → (page at : ℕ) → get_or (get_or pages page []) at Erased ≢ Torn
-whole_at [] each page at = erased_whole
-whole_at (words ∷ pages) each zero at =
-    each_whole words (front_whole words (flat_map (λ page. page) pages) each) at
-whole_at (words ∷ pages) each (suc page) at =
-    whole_at pages (back_whole words (flat_map (λ page. page) pages) each) page at
+whole_words device whole = in_words (λ word. word ≢ Torn) erased_whole device whole
 
 -- and back
 pub whole_pages : (device : Device) → All (λ word. word ≢ Torn) (device_words device) → (page : ℕ)
     → IsWholePage device page
-whole_pages device each page = whole_at device.image each page
+whole_pages device each page = in_pages (λ word. word ≢ Torn) erased_whole device each page
 
 -- ---- the first of a page
 

@@ -7,14 +7,18 @@ use Rattle.std.proofs.lemmas.Bool.{cases_eq}
 use Rattle.std.proofs.lemmas.List.{drop-drop, drop_at, length-drop, length-take-le, take-append-drop, take_at}
 use Rattle.std.proofs.lemmas.List.Elements.{All-append, All-cons, All-drop, All-head, All-nil, All-push, All-replicate, All-tail, All-take}
 use Rattle.std.proofs.lemmas.Nat.{from_le_bytes-to_le_bytes_8, le_bytes_8}
+use Rattle.std.proofs.Math.Nat.{mul-suc, mul-zero}
 use Rattle.ee_flash.specs.Device.{IsBelowAllOnes, all_ones}
 use Rattle.ee_flash.specs.declared.word.Word.{Word}
 use Rattle.ee_flash.specs.declared.word.Word.TheVariants.{Erased, Held, Torn}
 use Rattle.ee_flash.proofs.Public.{below-held}
+use Rattle.ee_flash.specs.Size.{Size}
+use Rattle.ee_nor.specs.Coded.Coded.{coded_number}
 use Rattle.ee_nor.specs.Pairs.{complement}
-use Rattle.ee_shell.specs.Dumps.Dump.{word_bytes, word_length}
-use Rattle.ee_shell.specs.declared.dumps.form.Form.{Form}
-use Rattle.ee_shell.specs.declared.dumps.form.Form.TheVariants.{Words, Pairs}
+use Rattle.ee_shell.specs.Dumps.Dump.{paired_bytes, plain_bytes, word_bytes}
+use Rattle.ee_interface.specs.CommandLine.Form.{word_length}
+use Rattle.ee_interface.specs.declared.command_line.form.Form.{Form}
+use Rattle.ee_interface.specs.declared.command_line.form.Form.TheVariants.{Words, Pairs, Coded}
 use Rattle.ee_shell.specs.Dumps.Reading.{AreWhole}
 
 -- ---- one word
@@ -28,28 +32,26 @@ erased_below value e = cc
 pub held_whole : (value : ℕ) → Held value ≢ Torn
 held_whole value e = cc
 
-some_bytes : (form : Form) → 0 < word_length form
-some_bytes Words = omega arith
-some_bytes Pairs = omega arith
-
-pub length-word_bytes : (form : Form) (word : Word) → word ≢ Torn
-    → length (word_bytes form word) ≡ word_length form
-length-word_bytes Words Erased whole = refl
-length-word_bytes Words (Held value) whole = refl
-length-word_bytes Pairs Erased whole = refl
-length-word_bytes Pairs (Held value) whole = refl
-length-word_bytes form Torn whole = absurd (whole refl)
+pub length-word_bytes : (form : Form) (size : Size) (word : Word) → word ≢ Torn
+    → length (word_bytes form size word) ≡ word_length form
+length-word_bytes Words size Erased whole = refl
+length-word_bytes Words size (Held value) whole = refl
+length-word_bytes Pairs size Erased whole = refl
+length-word_bytes Pairs size (Held value) whole = refl
+length-word_bytes Coded size Erased whole = refl
+length-word_bytes Coded size (Held value) whole = refl
+length-word_bytes form size Torn whole = absurd (whole refl)
 
 -- the eight bytes of a number
 pub held_bytes : (bytes : List ℕ) (value : ℕ) → length bytes ≡ 8
     → ((i : ℕ) → get_or bytes i 0 < 256) → value ≡ from_le_bytes w64 bytes
-    → word_bytes Words (Held value) ≡ bytes
+    → plain_bytes (Held value) ≡ bytes
 held_bytes bytes value long small is = le_bytes_8 bytes value long small is
 
 -- those of all ones are an erased word's
 pub erased_bytes : (bytes : List ℕ) (value : ℕ) → length bytes ≡ 8
     → ((i : ℕ) → get_or bytes i 0 < 256) → value ≡ from_le_bytes w64 bytes → value ≡ all_ones
-    → word_bytes Words Erased ≡ bytes
+    → plain_bytes Erased ≡ bytes
 erased_bytes bytes value long small is ones =
     let same : to_le_bytes w64 value ≡ replicate 8 255 = ap (to_le_bytes w64) ones in
     sym same ∙ le_bytes_8 bytes value long small is
@@ -71,7 +73,7 @@ value_fits bytes small =
 record IsWordOf (bytes : List ℕ) (word : Word) : Type 0 where
   whole : word ≢ Torn
   below_all_ones : IsBelowAllOnes word
-  bytes_are : word_bytes Words word ≡ bytes
+  bytes_are : plain_bytes word ≡ bytes
 
 word_of : (bytes : List ℕ) → length bytes ≡ 8 → ((i : ℕ) → get_or bytes i 0 < 256)
     → (word : Word) × IsWordOf bytes word
@@ -99,15 +101,15 @@ word_of bytes long small =
 
 -- what a word's bytes are worth
 held_worth : (value : ℕ) → IsBelowAllOnes (Held value)
-    → from_le_bytes w64 (word_bytes Words (Held value)) ≡ value
+    → from_le_bytes w64 (plain_bytes (Held value)) ≡ value
 held_worth value below =
     from_le_bytes-to_le_bytes_8 value (let less = below value refl in omega arith)
 
-erased_worth : from_le_bytes w64 (word_bytes Words Erased) ≡ all_ones
+erased_worth : from_le_bytes w64 (plain_bytes Erased) ≡ all_ones
 erased_worth = refl
 
 not_erased : (value : ℕ) → IsBelowAllOnes (Held value)
-    → word_bytes Words (Held value) ≡ word_bytes Words Erased → ⊥
+    → plain_bytes (Held value) ≡ plain_bytes Erased → ⊥
 not_erased value below e =
     let less : value < all_ones = below value refl in
     let same : value ≡ all_ones =
@@ -115,8 +117,8 @@ not_erased value below e =
     omega arith
 
 -- two words never have the same bytes
-plain_injective : (word other : Word) → IsBelowAllOnes word → IsBelowAllOnes other → word ≢ Torn
-    → other ≢ Torn → word_bytes Words word ≡ word_bytes Words other → word ≡ other
+pub plain_injective : (word other : Word) → IsBelowAllOnes word → IsBelowAllOnes other → word ≢ Torn
+    → other ≢ Torn → plain_bytes word ≡ plain_bytes other → word ≡ other
 plain_injective Torn other below under whole sound e = absurd (whole refl)
 plain_injective Erased Torn below under whole sound e = absurd (sound refl)
 plain_injective (Held m) Torn below under whole sound e = absurd (sound refl)
@@ -125,21 +127,6 @@ plain_injective Erased (Held n) below under whole sound e = absurd (not_erased n
 plain_injective (Held m) Erased below under whole sound e = absurd (not_erased m below e)
 plain_injective (Held m) (Held n) below under whole sound e =
     ap Held (sym (held_worth m below) ∙ ap (from_le_bytes w64) e ∙ held_worth n under)
-
--- the first bytes of a pair are those of the word
-front_plain : (word : Word) → word ≢ Torn → take 8 (word_bytes Pairs word) ≡ word_bytes Words word
-front_plain Erased whole = refl
-front_plain (Held value) whole = refl
-front_plain Torn whole = absurd (whole refl)
-
-pub word_bytes_injective : (form : Form) (word other : Word) → IsBelowAllOnes word
-    → IsBelowAllOnes other → word ≢ Torn → other ≢ Torn
-    → word_bytes form word ≡ word_bytes form other → word ≡ other
-word_bytes_injective Words word other below under whole sound e =
-    plain_injective word other below under whole sound e
-word_bytes_injective Pairs word other below under whole sound e =
-    plain_injective word other below under whole sound
-    (sym (front_plain word whole) ∙ ap (take 8) e ∙ front_plain other sound)
 
 -- ---- a row of words
 
@@ -165,67 +152,60 @@ head_whole word words whole = (
   },
 )
 
-pub length-words : (form : Form) (words : List Word) → All (λ word. word ≢ Torn) words
-    → length (flat_map (word_bytes form) words) ≡ word_length form * length words
-length-words Words [] sound = omega arith
-length-words Pairs [] sound = omega arith
-length-words Words (word ∷ words) sound =
+plain_length : (word : Word) → word ≢ Torn → length (plain_bytes word) ≡ 8
+plain_length Erased whole = refl
+plain_length (Held value) whole = refl
+plain_length Torn whole = absurd (whole refl)
+
+pub length-words : (form : Form) (size : Size) (words : List Word)
+    → All (λ word. word ≢ Torn) words
+    → length (flat_map (word_bytes form size) words) ≡ word_length form * length words
+length-words form size [] sound = sym (mul-zero (word_length form))
+length-words form size (word ∷ words) sound =
     omega (
       arith,
-      length-append (word_bytes Words word) (flat_map (word_bytes Words) words),
-      length-word_bytes Words word (All-head (λ w. w ≢ Torn) word words sound),
-      length-words Words words (All-tail (λ w. w ≢ Torn) word words sound),
-    )
-length-words Pairs (word ∷ words) sound =
-    omega (
-      arith,
-      length-append (word_bytes Pairs word) (flat_map (word_bytes Pairs) words),
-      length-word_bytes Pairs word (All-head (λ w. w ≢ Torn) word words sound),
-      length-words Pairs words (All-tail (λ w. w ≢ Torn) word words sound),
+      mul-suc (word_length form) (length words),
+      length-append (word_bytes form size word) (flat_map (word_bytes form size) words),
+      length-word_bytes form size word (All-head (λ w. w ≢ Torn) word words sound),
+      length-words form size words (All-tail (λ w. w ≢ Torn) word words sound),
     )
 
 -- no two rows of words have the same bytes
-pub words_injective : (form : Form) (words others : List Word) → AreWhole words → AreWhole others
-    → flat_map (word_bytes form) words ≡ flat_map (word_bytes form) others → words ≡ others
-words_injective form [] [] whole sound e = refl
-words_injective form [] (other ∷ others) whole sound e =
+pub words_injective : (words others : List Word) → AreWhole words → AreWhole others
+    → flat_map plain_bytes words ≡ flat_map plain_bytes others → words ≡ others
+words_injective [] [] whole sound e = refl
+words_injective [] (other ∷ others) whole sound e =
     let first = head_whole other others sound in
     absurd
     (omega (
       arith,
       ap length e,
-      length-append (word_bytes form other) (flat_map (word_bytes form) others),
-      length-word_bytes form other first.0,
-      some_bytes form,
+      length-append (plain_bytes other) (flat_map plain_bytes others),
+      plain_length other first.0,
     ))
-words_injective form (word ∷ words) [] whole sound e =
+words_injective (word ∷ words) [] whole sound e =
     let first = head_whole word words whole in
     absurd
     (omega (
       arith,
       ap length e,
-      length-append (word_bytes form word) (flat_map (word_bytes form) words),
-      length-word_bytes form word first.0,
-      some_bytes form,
+      length-append (plain_bytes word) (flat_map plain_bytes words),
+      plain_length word first.0,
     ))
-words_injective form (word ∷ words) (other ∷ others) whole sound e =
+words_injective (word ∷ words) (other ∷ others) whole sound e =
     let first = head_whole word words whole in
     let second = head_whole other others sound in
-    let long = length-word_bytes form word first.0 in
-    let wide = length-word_bytes form other second.0 in
-    let heads : word_bytes form word ≡ word_bytes form other =
-    sym (take_at (word_bytes form word) (flat_map (word_bytes form) words) (word_length form) long)
-    ∙ ap (take (word_length form)) e
-    ∙ take_at (word_bytes form other) (flat_map (word_bytes form) others) (word_length form)
-    wide in
-    let tails : flat_map (word_bytes form) words ≡ flat_map (word_bytes form) others =
-    sym (drop_at (word_bytes form word) (flat_map (word_bytes form) words) (word_length form) long)
-    ∙ ap (drop (word_length form)) e
-    ∙ drop_at (word_bytes form other) (flat_map (word_bytes form) others) (word_length form)
-    wide in
+    let long = plain_length word first.0 in
+    let wide = plain_length other second.0 in
+    let heads : plain_bytes word ≡ plain_bytes other =
+    sym (take_at (plain_bytes word) (flat_map plain_bytes words) 8 long)
+    ∙ ap (take 8) e ∙ take_at (plain_bytes other) (flat_map plain_bytes others) 8 wide in
+    let tails : flat_map plain_bytes words ≡ flat_map plain_bytes others =
+    sym (drop_at (plain_bytes word) (flat_map plain_bytes words) 8 long)
+    ∙ ap (drop 8) e ∙ drop_at (plain_bytes other) (flat_map plain_bytes others) 8 wide in
     ap (λ (w : Word). w ∷ words)
-    (word_bytes_injective form word other first.1 second.1 first.0 second.0 heads)
-    ∙ ap (λ (ws : List Word). other ∷ ws) (words_injective form words others first.2 second.2 tails)
+    (plain_injective word other first.1 second.1 first.0 second.0 heads)
+    ∙ ap (λ (ws : List Word). other ∷ ws) (words_injective words others first.2 second.2 tails)
 
 -- ---- the words of bytes
 
@@ -239,7 +219,7 @@ small_at (byte ∷ bytes) small (suc i) =
 pub record AreWordsOf (bytes : List ℕ) (count : ℕ) (words : List Word) : Type 0 where
   pub as_many : length words ≡ count
   pub whole : AreWhole words
-  pub bytes_are : flat_map (word_bytes Words) words ≡ bytes
+  pub bytes_are : flat_map (plain_bytes) words ≡ bytes
 
 pub words_of_bytes : (count : ℕ) (bytes : List ℕ) → All (λ byte. byte < 256) bytes
     → length bytes ≡ 8 * count → (words : List Word) × AreWordsOf bytes count words
@@ -264,7 +244,7 @@ words_of_bytes (suc count) bytes small long =
               All-cons IsBelowAllOnes first.0 rest.0 is.below_all_ones are.whole.below_all_ones;
         };
         bytes_are =
-            ap (λ l. l ++ flat_map (word_bytes Words) rest.0) is.bytes_are
+            ap (λ l. l ++ flat_map (plain_bytes) rest.0) is.bytes_are
             ∙ ap (λ l. take 8 bytes ++ l) are.bytes_are ∙ take-append-drop 8 bytes;
       },
     )
@@ -297,25 +277,30 @@ bytes_small (suc count) place value =
     (bytes_low_first (suc place) count value) (byte_below place value)
     (bytes_small count (suc place) value)
 
-word_small : (form : Form) (word : Word) → All (λ byte. byte < 256) (word_bytes form word)
-word_small Words Erased = All-replicate (λ (byte : ℕ). byte < 256) 8 255 (omega arith)
-word_small Words (Held value) = bytes_small 8 0 value
-word_small Pairs Erased = All-replicate (λ (byte : ℕ). byte < 256) 16 255 (omega arith)
-word_small Pairs (Held value) =
+word_small : (form : Form) (size : Size) (word : Word)
+    → All (λ byte. byte < 256) (word_bytes form size word)
+word_small Words size Erased = All-replicate (λ (byte : ℕ). byte < 256) 8 255 (omega arith)
+word_small Words size (Held value) = bytes_small 8 0 value
+word_small Words size Torn = All-nil (λ byte. byte < 256)
+word_small Pairs size Erased = All-replicate (λ (byte : ℕ). byte < 256) 16 255 (omega arith)
+word_small Pairs size (Held value) =
     All-append (λ (byte : ℕ). byte < 256) (to_le_bytes w64 value)
     (to_le_bytes w64 (complement value)) (bytes_small 8 0 value)
     (bytes_small 8 0 (complement value))
-word_small Words Torn = All-nil (λ byte. byte < 256)
-word_small Pairs Torn = All-nil (λ byte. byte < 256)
+word_small Pairs size Torn = All-nil (λ byte. byte < 256)
+word_small Coded size Erased = All-replicate (λ (byte : ℕ). byte < 256) 8 255 (omega arith)
+word_small Coded size (Held value) = bytes_small 8 0 (coded_number size value)
+word_small Coded size Torn = All-nil (λ byte. byte < 256)
 
-words_small : (form : Form) (words : List Word)
-    → All (λ byte. byte < 256) (flat_map (word_bytes form) words)
-words_small form [] = All-nil (λ byte. byte < 256)
-words_small form (word ∷ words) =
-    All-append (λ (byte : ℕ). byte < 256) (word_bytes form word) (flat_map (word_bytes form) words)
-    (word_small form word) (words_small form words)
+words_small : (form : Form) (size : Size) (words : List Word)
+    → All (λ byte. byte < 256) (flat_map (word_bytes form size) words)
+words_small form size [] = All-nil (λ byte. byte < 256)
+words_small form size (word ∷ words) =
+    All-append (λ (byte : ℕ). byte < 256) (word_bytes form size word)
+    (flat_map (word_bytes form size) words) (word_small form size word)
+    (words_small form size words)
 
-pub words_are_bytes : (form : Form) (words : List Word) (i : ℕ)
-    → get_or (flat_map (word_bytes form) words) i 0 < 256
-words_are_bytes form words i =
-    small_at (flat_map (word_bytes form) words) (words_small form words) i
+pub words_are_bytes : (form : Form) (size : Size) (words : List Word) (i : ℕ)
+    → get_or (flat_map (word_bytes form size) words) i 0 < 256
+words_are_bytes form size words i =
+    small_at (flat_map (word_bytes form size) words) (words_small form size words) i

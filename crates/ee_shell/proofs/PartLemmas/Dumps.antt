@@ -4,10 +4,12 @@ use Rattle.ee_flash.specs.Device.{Device}
 use Rattle.ee_flash.specs.Size.{Size}
 use Rattle.ee_shell.specs.Dumps.Dump.{IsDump, IsWholePage}
 use Rattle.ee_shell.specs.Dumps.Laws.{unworn_device}
+use Rattle.ee_shell.specs.Dumps.Kind.{IsOfKind}
 use Rattle.ee_shell.specs.Dumps.Places.{IsFirstMisplaced, IsInShape}
-use Rattle.ee_shell.specs.declared.dumps.form.Form.{Form}
-use Rattle.ee_shell.specs.declared.dumps.form.Form.TheVariants.{Words, Pairs}
-use Rattle.ee_shell.proofs.DumpsLemmas.Public.{dumps_are_read_lem, import_of_export_lem, none_misplaced, whole_import_lem}
+use Rattle.ee_shell.specs.declared.dumps.places.Sought.TheVariants as look
+use Rattle.ee_interface.specs.declared.command_line.form.Form.{Form}
+use Rattle.ee_interface.specs.declared.command_line.form.Form.TheVariants.{Words}
+use Rattle.ee_shell.proofs.DumpsLemmas.Public.{dumps_are_read_lem, import_of_export_lem, none_sought, whole_import_lem}
 use Rattle.ee_image_store.specs.Opening.{SpellsDevice}
 use Rattle.ee_interface.specs.declared.fault.Fault.{Fault}
 use Rattle.ee_interface.specs.declared.fault.Fault.TheVariants.{Memory}
@@ -47,20 +49,20 @@ pub exported_in_shape : (form : Form) (bytes : List ℕ) (device : Device) (imag
 exported_in_shape form bytes device image spelled is in_shape fault h =
     let same : h.device ≡ unworn_device device =
     (import_of_export_lem form device h.device bytes spelled.formed is).0 h.formed h.made in
-    none_misplaced (unworn_device device) h.page h.at in_shape
+    none_sought look.Misplaced (unworn_device device) h.page h.at in_shape
     (subst (λ (d : Device). IsFirstMisplaced d h.page h.at) same h.first)
 
 pub import_again_lem : (form : Form) (image bytes : List ℕ) (device : Device)
     → SpellsDevice image device → IsExported form image bytes
-    → (IsInShape device → (fault : Fault) → IsImportFault form device.size bytes fault
-    → fault ≡ Memory)
+    → (IsInShape device → IsOfKind form device.size bytes → (fault : Fault)
+    → IsImportFault form device.size bytes fault → fault ≡ Memory)
     × ((other : List ℕ) → IsImported form device.size bytes other
     → SpellsDevice other (unworn_device device))
 import_again_lem form image bytes device spelled exported =
     let dump = dump_exported form image bytes device spelled exported in (
-      λ in_shape fault wrong.
+      λ in_shape kind fault wrong.
           import_lacks form device.size bytes fault
-          (exported_is form bytes device image spelled dump)
+          (exported_is form bytes device image spelled dump) (λ told other. kind told other.1)
           (exported_in_shape form bytes device image spelled dump in_shape) wrong,
       λ other again. image_again form bytes other device image spelled dump again,
     )
@@ -74,15 +76,15 @@ export_of_import_lem image bytes size imported = (
       ∙ sym imported.made.dump_is.bytes_are,
 )
 
-pub pairs_export_of_import_lem : (image bytes : List ℕ) (size : Size)
-    → (imported : IsImported Pairs size bytes image)
-    → (((page : ℕ) → IsWholePage imported.device page) → IsExported Pairs image bytes)
-    × ((other : List ℕ) → IsExported Pairs image other → other ≡ bytes)
-pairs_export_of_import_lem image bytes size imported =
+pub torn_export_of_import_lem : (form : Form) (image bytes : List ℕ) (size : Size)
+    → (imported : IsImported form size bytes image)
+    → (((page : ℕ) → IsWholePage imported.device page) → IsExported form image bytes)
+    × ((other : List ℕ) → IsExported form image other → other ≡ bytes)
+torn_export_of_import_lem form image bytes size imported =
     let is =
-    whole_import_lem Pairs size bytes imported.device imported.spelled.formed imported.made in (
+    whole_import_lem form size bytes imported.device imported.spelled.formed imported.made in (
       λ whole. record { device = imported.device; spelled = imported.spelled; dump_is = is whole },
       λ other again.
-          let exported = dump_exported Pairs image other imported.device imported.spelled again in
+          let exported = dump_exported form image other imported.device imported.spelled again in
           exported.bytes_are ∙ sym (is exported.whole).bytes_are,
     )

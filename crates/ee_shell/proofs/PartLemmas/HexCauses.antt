@@ -3,8 +3,9 @@ use Rattle.std.proofs.Common.{◌≡◌, ◌≢◌, ◌⊎◌, inl, inr, ◌∙�
 use Rattle.ee_flash.specs.Device.{Device, IsFormed}
 use Rattle.ee_flash.specs.Size.{Size}
 use Rattle.ee_image.specs.Text.{at_rest}
-use Rattle.ee_shell.specs.Dumps.Dump.{IsDump, dump_length}
-use Rattle.ee_shell.specs.declared.dumps.form.Form.{Form}
+use Rattle.ee_shell.specs.Dumps.Dump.{IsDump}
+use Rattle.ee_interface.specs.CommandLine.Form.{dump_length}
+use Rattle.ee_interface.specs.declared.command_line.form.Form.{Form}
 use Rattle.ee_shell.specs.declared.dumps.fault.WriteFault.TheVariants as write
 use Rattle.ee_shell.proofs.DumpsLemmas.Public.{dumps_are_read_lem, one_reading_lem, readings_are_good_lem}
 use Rattle.ee_shell.specs.Dumps.intel_hex.Fault.{IsBadHexLine, IsHexFault}
@@ -16,7 +17,7 @@ use Rattle.ee_interface.specs.declared.fault.Fault.{Fault}
 use Rattle.ee_interface.specs.declared.fault.Fault.TheVariants.{Base, Memory}
 use Rattle.ee_interface.specs.declared.fault.File.TheVariants.{Image}
 use Rattle.ee_image_store.proofs.Public.{one_file_fault, only_memory, reading_good, same_at_rest}
-use Rattle.ee_shell.specs.Part.Faults.{IsDeviceFault, IsImportFault}
+use Rattle.ee_shell.specs.Part.Faults.{IsDeviceFault, IsImportFault, IsNotToldOther}
 use Rattle.ee_interface.specs.Causes.{NamesEach}
 use Rattle.ee_shell.specs.Part.Hex.{PartFits, IsHexExportFault, IsHexExported, IsHexImportFault, IsHexImported, IsPlacedFault, IsHexTextFault, dump_text, fault_of_hex}
 use Rattle.ee_shell.specs.Part.Moving.{IsImported}
@@ -97,14 +98,15 @@ module _ (form : Form) (size : Size) (base : ℕ) (text : List ℕ)
 
   -- where it is one, nothing but memory was wanting
   pub hex_lacks : (bytes : List ℕ) (cause : Fault) → IsHexOf text base (dump_length form size) bytes
-      → IsADump form size bytes → HasNoOtherShape form size bytes
-      → IsHexImportFault form size base text cause → cause ≡ Memory
-  hex_lacks bytes cause says is no_other (inl h) = absurd (h.0 near)
-  hex_lacks bytes cause says is no_other (inr (inl h)) =
+      → IsADump form size bytes → IsNotToldOther form size bytes
+      → HasNoOtherShape form size bytes → IsHexImportFault form size base text cause
+      → cause ≡ Memory
+  hex_lacks bytes cause says is asked no_other (inl h) = absurd (h.0 near)
+  hex_lacks bytes cause says is asked no_other (inr (inl h)) =
       h.fault_is
       ∙ ap fault_of_hex (said_lacks text bytes base (dump_length form size) h.cause says h.applies)
-  hex_lacks bytes cause says is no_other (inr (inr h)) =
-      import_lacks form size bytes cause is no_other
+  hex_lacks bytes cause says is asked no_other (inr (inr h)) =
+      import_lacks form size bytes cause is asked no_other
       (subst (λ (l : List ℕ). IsImportFault form size l cause)
       (one_reading_lem text h.dump bytes base (dump_length form size) h.says says) h.wrong)
 
@@ -119,7 +121,7 @@ placed_named form device other base cause fault same some (inl h) (inr i) =
 placed_named form device other base cause fault same some (inr h) (inl i) =
     absurd (i.0 (subst (PartFits form base) (same_size device other same) h.0))
 placed_named form device other base cause fault same some (inr h) (inr i) =
-    one_device_fault device other cause fault same some h.1 i.1
+    one_device_fault form device other cause fault same some h.1 i.1
 
 pub one_hex_export_fault : (form : Form) (image : List ℕ) (base : ℕ) (cause fault : Fault)
     → cause ≢ Memory → IsHexExportFault form image base cause
@@ -187,7 +189,7 @@ pub far_placed : (form : Form) (image : List ℕ) (base : ℕ) (device : Device)
 far_placed form image base device spelled far = inr (device, spelled, inl (far, refl))
 
 pub not_dumped : (form : Form) (image : List ℕ) (base : ℕ) (device : Device) (fault : Fault)
-    → SpellsDevice image device → PartFits form base device.size → IsDeviceFault device fault
+    → SpellsDevice image device → PartFits form base device.size → IsDeviceFault form device fault
     → IsHexExportFault form image base fault
 not_dumped form image base device fault spelled near wrong =
     inr (device, spelled, inr (near, wrong))

@@ -1,12 +1,14 @@
 -- What was exported by Intel HEX is imported as it was.
 use Rattle.std.proofs.Common.{◌≡◌, sym, subst, arith, true, false, Bool, ℕ, ◌+◌, ◌≤◌, ◌^◌, List, length}
 use Rattle.ee_flash.specs.Device.{Device}
-use Rattle.ee_shell.specs.Dumps.Dump.{IsDump, dump_length}
+use Rattle.ee_shell.specs.Dumps.Dump.{IsDump}
+use Rattle.ee_interface.specs.CommandLine.Form.{dump_length}
 use Rattle.ee_shell.specs.Dumps.Laws.{unworn_device}
+use Rattle.ee_shell.specs.Dumps.Kind.{IsOfKind}
 use Rattle.ee_shell.specs.Dumps.Places.{IsInShape}
 use Rattle.hex.specs.Hex.{IsBytes}
-use Rattle.ee_shell.specs.declared.dumps.form.Form.{Form}
-use Rattle.ee_shell.specs.declared.dumps.form.Form.TheVariants.{Words, Pairs}
+use Rattle.ee_interface.specs.declared.command_line.form.Form.{Form}
+use Rattle.ee_interface.specs.declared.command_line.form.Form.TheVariants.{Words, Pairs, Coded}
 use Rattle.ee_shell.proofs.DumpsLemmas.Public.{dumps_are_bytes, dumps_are_read_lem, one_reading_lem, sparse_texts_read_back_lem, texts_read_back_lem}
 use Rattle.ee_shell.specs.Dumps.intel_hex.Text.{IsHexOf}
 use Rattle.ee_image_store.specs.Opening.{SpellsDevice}
@@ -33,6 +35,8 @@ text_says : (fill : Bool) (form : Form) (base : ℕ) (bytes : List ℕ) → IsBy
     → IsHexOf (dump_text fill form base bytes) base (length bytes) bytes
 text_says true form base bytes all near = texts_read_back_lem base bytes all near
 text_says false Words base bytes all near =
+    sparse_texts_read_back_lem 8 base bytes (omega arith) all near
+text_says false Coded base bytes all near =
     sparse_texts_read_back_lem 8 base bytes (omega arith) all near
 text_says false Pairs base bytes all near =
     sparse_texts_read_back_lem 16 base bytes (omega arith) all near
@@ -61,17 +65,18 @@ same_again form bytes others image other device spelled is same again =
 
 pub hex_import_of_export_lem : (fill : Bool) (form : Form) (image hex : List ℕ) (base : ℕ)
     (device : Device)
-    → SpellsDevice image device → IsHexExported fill form image base hex
-    → (IsInShape device → (fault : Fault) → IsHexImportFault form device.size base hex fault
-    → fault ≡ Memory)
+    → SpellsDevice image device → (is : IsHexExported fill form image base hex)
+    → (IsInShape device → IsOfKind form device.size is.dump → (fault : Fault)
+    → IsHexImportFault form device.size base hex fault → fault ≡ Memory)
     × ((other : List ℕ) → IsHexImported form device.size base hex other
     → SpellsDevice other (unworn_device device))
 hex_import_of_export_lem fill form image hex base device spelled is =
     let says = says_dump fill form image hex base device spelled is in
     let dump = dump_exported form image is.dump device spelled is.exported in (
-      λ in_shape fault wrong.
+      λ in_shape kind fault wrong.
           hex_lacks form device.size base hex (fits_here fill form image hex base device spelled is)
           is.dump fault says (exported_is form is.dump device image spelled dump)
+          (λ told other. kind told other.1)
           (exported_in_shape form is.dump device image spelled dump in_shape) wrong,
       λ other again.
           same_again form is.dump again.dump image other device spelled dump

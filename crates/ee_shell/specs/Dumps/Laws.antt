@@ -3,10 +3,11 @@ use Rattle.std.specs.Prelude.{◌≡◌, ◌⊎◌, ◌<◌, ℕ, List, length}
 use Rattle.std.specs.List.{All}
 use Rattle.ee_flash.specs.Size.{Size, IsWithinLimits}
 use Rattle.ee_flash.specs.Device.{Device, IsFormed, blank_device}
-use Rattle.ee_shell.specs.Dumps.Dump.{IsDump, IsFirstTorn, IsImport, IsWholePage, dump_length}
+use Rattle.ee_shell.specs.Dumps.Dump.{IsCodable, IsDump, IsFirstTorn, IsImport, IsWholePage}
+use Rattle.ee_interface.specs.CommandLine.Form.{dump_length}
 use Rattle.ee_shell.specs.Dumps.Fault.{HasLowPair}
-use Rattle.ee_shell.specs.declared.dumps.form.Form.{Form}
-use Rattle.ee_shell.specs.declared.dumps.form.Form.TheVariants.{Words}
+use Rattle.ee_interface.specs.declared.command_line.form.Form.{Form}
+use Rattle.ee_interface.specs.declared.command_line.form.Form.TheVariants.{Words}
 
 -- the device with these words that was never used
 abbrev pub unworn_device : Device → Device
@@ -54,10 +55,10 @@ DumpsAreRead =
     (form : Form) (device : Device) (dump : List ℕ) → IsFormed device → IsDump form device dump
     → length dump ≡ dump_length form device.size
 
--- a device has a dump or a torn word
+-- a device has a dump or a torn word, where each number of it has a code if the part wants one
 abbrev pub DumpOrTorn : Type 0
 DumpOrTorn =
-    (form : Form) (device : Device)
+    (form : Form) (device : Device) → IsCodable form device
     → ((dump : List ℕ) × IsDump form device dump)
     ⊎ ((page : ℕ) × (at : ℕ) × IsFirstTorn device page at)
 

@@ -2,8 +2,8 @@
 use Rattle.std.specs.Prelude.{◌≡◌, ◌⊎◌, ◌≤◌, ◌+◌, ◌^◌, ℕ, Bool, true, false, List}
 use Rattle.ee_flash.specs.Size.{Size}
 use Rattle.ee_flash.specs.Device.{Device}
-use Rattle.ee_shell.specs.Dumps.Dump.{dump_length, word_length}
-use Rattle.ee_shell.specs.declared.dumps.form.Form.{Form}
+use Rattle.ee_interface.specs.CommandLine.Form.{dump_length, word_length}
+use Rattle.ee_interface.specs.declared.command_line.form.Form.{Form}
 use Rattle.ee_shell.specs.Dumps.intel_hex.Fault.{IsHexFault}
 use Rattle.ee_shell.specs.Dumps.intel_hex.Text.{IsHexOf}
 use Rattle.ee_shell.specs.Dumps.intel_hex.Written.{hex_text, sparse_text}
@@ -75,7 +75,7 @@ IsHexImportFault form size base text fault =
 abbrev pub IsPlacedFault : Form → Device → ℕ → Fault → Type 0
 IsPlacedFault form device base fault =
     ((¬ PartFits form base device.size) × (fault ≡ Base))
-    ⊎ (PartFits form base device.size × IsDeviceFault device fault)
+    ⊎ (PartFits form base device.size × IsDeviceFault form device fault)
 
 -- why there is no text from an image: it spells no device, or one whose dump is not told
 -- from this address on

@@ -34,6 +34,8 @@ pub enum WriteFault {
     /// The first torn word, by its page, counted from 0 over both sets, and then by its place
     /// there.
     TornWord { page: usize, at: usize },
+    /// Of coded words the first held one, likewise, whose number has none.
+    Uncoded { page: usize, at: usize },
     /// Memory ran out.
     Memory,
 }

@@ -27,7 +27,7 @@ pub fn dumps_are_read()
     ensures { DumpsAreRead }
 {}
 
-/// A device has a dump, or a first torn word.
+/// A device has a dump, or a first torn word; of coded words one all of whose numbers have one.
 pub fn dump_or_torn()
     ensures { DumpOrTorn }
 {}

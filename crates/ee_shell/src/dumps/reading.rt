@@ -1,13 +1,15 @@
 //! Reading a dump.
 ghost use Rattle.std.specs.Prelude.{◌≡◌, ◌≢◌, ◌⊎◌, ◌*◌, ℕ, Err, IfErr, IfOk, MatchResult, length};
 ghost use Rattle.ee_flash.specs.Memory.{device_of, memory_of, unused_memory};
-ghost use Rattle.ee_shell.specs.Dumps.Dump.{IsImport, dump_length};
+ghost use Rattle.ee_shell.specs.Dumps.Dump.{IsImport};
+ghost use Rattle.ee_interface.specs.CommandLine.Form.{dump_length};
 ghost use Rattle.ee_shell.specs.Dumps.Fault.{HasLowPair, IsDumpFault};
 ghost use Rattle.ee_shell.specs.Dumps.Reading.{AreCells, AreWords};
 
 use crate::dumps::word::word_of;
 use crate::dumps::{DumpFault, Form};
 use ee_flash::{Cells, MemFlash, Shape};
+use ee_nor::coded::word_of_reading;
 use ee_nor::is_low;
 use std::alloc::{AllocError, Allocator};
 
@@ -67,6 +69,7 @@ fn read_cells<A: Allocator + Copy>(
     match form {
         Form::Words => Ok(read_words(alloc, dump)?),
         Form::Pairs => read_pairs(alloc, shape, dump),
+        Form::Coded => Ok(read_codes(alloc, shape, dump)?),
     }
 }
 
@@ -78,6 +81,23 @@ fn read_words<A: Allocator + Copy>(alloc: A, dump: &[u8]) -> Result<Cells<A>, Al
     let mut cells = Cells::with_capacity(alloc, words.len())?;
     for bytes in words {
         cells.push(word_of(*bytes))?;
+    }
+    Ok(cells)
+}
+
+/// The words that the bytes spell on a part of this shape, a coded number for each.
+fn read_codes<A: Allocator + Copy>(
+    alloc: A,
+    shape: Shape,
+    dump: &[u8],
+) -> Result<Cells<A>, AllocError>
+    requires { length dump.now ≡ dump_length Form.Coded shape }
+    ensures { IfOk result (λ cells. AreCells Form.Coded shape dump.now cells) }
+{
+    let (numbers, _) = dump.as_chunks::<8>();
+    let mut cells = Cells::with_capacity(alloc, numbers.len())?;
+    for number in numbers {
+        cells.push(word_of_reading(shape, Some(u64::from_le_bytes(*number))))?;
     }
     Ok(cells)
 }

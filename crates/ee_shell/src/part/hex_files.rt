@@ -19,8 +19,8 @@ use std::alloc::{AllocError, Allocator};
 /// # Errors
 ///
 /// The first that applies: `Base`, where `base + 16 × pages × words`, or with twice as many of
-/// pairs, is past `2^32`; `BadLine` of the dump, the first line of the text that is bad; `LowPair`
-/// and `Misplaced`, as in `import_image`. `Memory` can come in place of any answer but `Base`.
+/// pairs, is past `2^32`; `BadLine` of the dump, the first line of the text that is bad; all
+/// others as in `import_image`. `Memory` can come in place of any answer but `Base`.
 pub fn import_hex<A: Allocator + Copy>(
     alloc: A,
     shape: Shape,
@@ -51,8 +51,8 @@ pub fn import_hex<A: Allocator + Copy>(
 /// # Errors
 ///
 /// The first that applies: the image is no device's; `Base`, where `base + 16 × pages × words`, or
-/// with twice as many of pairs, is past `2^32`; `TornWord`, its first torn word. `Memory` can come
-/// in place of any answer.
+/// with twice as many of pairs, is past `2^32`; `TornWord` or `Uncoded`, as in `export_image`.
+/// `Memory` can come in place of any answer.
 pub fn export_hex<A: Allocator + Copy>(
     alloc: A,
     fill: bool,

@@ -1,6 +1,6 @@
 //! What holds of every image and every dump. Each function does nothing: its contract is the law.
 ghost use Rattle.ee_shell.specs.Part.InspectLaws.{DoubtsAreTold, ScanIsToldAsItsFault, UsedSlotsAddUp};
-ghost use Rattle.ee_shell.specs.Part.Laws.{ExportOfImport, HexImportOfExport, ImportOfExport, PairsExportOfImport};
+ghost use Rattle.ee_shell.specs.Part.Laws.{ExportOfImport, HexImportOfExport, ImportOfExport, TornExportOfImport};
 
 /// An image that was exported is imported as it was, with no wear.
 pub fn import_of_export()
@@ -12,9 +12,9 @@ pub fn export_of_import()
     ensures { ExportOfImport }
 {}
 
-/// And so is a dump of pairs, where no word of it is torn.
-pub fn pairs_export_of_import()
-    ensures { PairsExportOfImport }
+/// And so is a dump of pairs or of coded words, where no word of it is torn.
+pub fn torn_export_of_import()
+    ensures { TornExportOfImport }
 {}
 
 /// An image that was exported as Intel HEX is imported as it was, with no wear, from every address.

@@ -5,7 +5,7 @@ use clap::builder::ValueParser;
 use clap::error::ErrorKind;
 use clap::{Arg, ArgAction, ArgMatches, Command};
 use ee_flash::Shape;
-use ee_interface::command_line::HELP;
+use ee_interface::command_line::{Form, HELP};
 use ee_shell::{Job, job};
 use std::alloc::Global;
 use std::process::Abort;
@@ -14,10 +14,10 @@ use std::process::Abort;
 const COMMANDS: &str = "\
 try P W
 format P W IMAGE
-import --pairs P W DUMP IMAGE
-export --pairs IMAGE DUMP
-import-hex --pairs P W BASE DUMP IMAGE
-export-hex --pairs --fill IMAGE BASE DUMP
+import --pairs --coded P W DUMP IMAGE
+export --pairs --coded IMAGE DUMP
+import-hex --pairs --coded P W BASE DUMP IMAGE
+export-hex --pairs --coded --fill IMAGE BASE DUMP
 run --indexed IMAGE SCRIPT
 list IMAGE [SETTINGS]
 get IMAGE SETTINGS NAME
@@ -50,6 +50,10 @@ ee import --pairs 1 6 a.bin a.image
 ee import-hex --pairs 1 256 0807F000 a.hex a.image
 ee export --pairs a.image a.bin
 ee export-hex --pairs a.image 0807f000 a.hex
+ee import --coded 1 6 a.bin a.image
+ee import-hex --coded 1 256 0807F000 a.hex a.image
+ee export --coded a.image a.bin
+ee export-hex --coded a.image 0807f000 a.hex
 ee export-hex --fill a.image 0807f000 a.hex
 ee run a.image a.script
 ee run --indexed a.image a.script
@@ -259,26 +263,30 @@ fn told_of_schemas(job: &Job<'_>, found: &ArgMatches<'_>) -> (&'static str, bool
     }
 }
 
+/// Whether it found the flag of this form, and of no other.
+fn is_of(found: &ArgMatches<'_>, form: Form) -> bool {
+    (found.get_flag("--pairs") == (form == Form::Pairs))
+        & (found.get_flag("--coded") == (form == Form::Coded))
+}
+
 // The same of a job on a part's dump.
 fn told_of_parts(job: &Job<'_>, found: &ArgMatches<'_>) -> (&'static str, bool) {
     match *job {
         Job::Import {
-            pairs,
+            form,
             shape,
             dump,
             image,
         } => (
             "import",
-            (found.get_flag("--pairs") == pairs)
+            is_of(found, form)
                 & fits(found, shape)
                 & has(found, "DUMP", Some(dump))
                 & has(found, "IMAGE", Some(image)),
         ),
-        Job::Export { pairs, image, dump } => (
+        Job::Export { form, image, dump } => (
             "export",
-            (found.get_flag("--pairs") == pairs)
-                & has(found, "IMAGE", Some(image))
-                & has(found, "DUMP", Some(dump)),
+            is_of(found, form) & has(found, "IMAGE", Some(image)) & has(found, "DUMP", Some(dump)),
         ),
         _ => told_of_hex(job, found),
     }
@@ -288,28 +296,28 @@ fn told_of_parts(job: &Job<'_>, found: &ArgMatches<'_>) -> (&'static str, bool) 
 fn told_of_hex(job: &Job<'_>, found: &ArgMatches<'_>) -> (&'static str, bool) {
     match *job {
         Job::ImportHex {
-            pairs,
+            form,
             shape,
             base,
             dump,
             image,
         } => (
             "import-hex",
-            (found.get_flag("--pairs") == pairs)
+            is_of(found, form)
                 & fits(found, shape)
                 & starts(found, base)
                 & has(found, "DUMP", Some(dump))
                 & has(found, "IMAGE", Some(image)),
         ),
         Job::ExportHex {
-            pairs,
+            form,
             fill,
             image,
             base,
             dump,
         } => (
             "export-hex",
-            (found.get_flag("--pairs") == pairs)
+            is_of(found, form)
                 & (found.get_flag("--fill") == fill)
                 & has(found, "IMAGE", Some(image))
                 & starts(found, base)

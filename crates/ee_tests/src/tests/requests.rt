@@ -10,8 +10,8 @@ mod texts;
 
 use crate::tests::same;
 use commands::{
-    Change, DIFFERENCE, DUMP, HEADER, HEX, LISTED, NAMED, PAIRS, PROVED, Replay, SCAN, STALE,
-    STATES, STORED, TEN, Text, WEAR, WEAR_SINCE,
+    CODED, Change, DIFFERENCE, DUMP, HEADER, HEX, LISTED, NAMED, PAIRS, PROVED, Replay, SCAN,
+    STALE, STATES, STORED, TEN, Text, WEAR, WEAR_SINCE,
 };
 use ee_fakes::images::{CERTIFICATE, CLEANED, FORMATTED, SCRIPT, TIDIED, TWO_MOVES};
 use ee_fakes::{FailingReader, Refusing};
@@ -80,6 +80,8 @@ const CALLS: &[(Call, u64)] = &[
     (Call::Text(Text::Export, DUMP), 3),
     (Call::Text(Text::ImportPairs, FORMATTED), 3),
     (Call::Text(Text::ExportPairs, PAIRS), 3),
+    (Call::Text(Text::ImportCoded, FORMATTED), 3),
+    (Call::Text(Text::ExportCoded, CODED), 3),
     (Call::Text(Text::ImportHex, FORMATTED), 4),
     (Call::Text(Text::ExportHex, HEX), 4),
     (Call::Text(Text::Inspect, SCAN), 3),

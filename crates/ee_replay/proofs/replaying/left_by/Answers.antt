@@ -1,4 +1,4 @@
-use Rattle.std.proofs.Common.{◌∙◌, ap, subst, sym}
+use Rattle.std.proofs.Common.{◌∙◌, subst, sym}
 use Rattle.ee_flash.specs.Device.{Device}
 use Rattle.ee_flash.specs.Memory.{device_of}
 use Rattle.ee_core.specs.Finished.{IsStore}

@@ -94,6 +94,14 @@ pub const PAIRS: &[u8] = b"\x01\x00\x00\x00\xaa\xaa\xaa\xaa\xfe\xff\xff\xff\x55\
 \xff\xff\xff\xff\xff\xff\xff\xff\xff\xff\xff\xff\xff\xff\xff\xff\
 \xff\xff\xff\xff\xff\xff\xff\xff\xff\xff\xff\xff\xff\xff\xff\xff";
 
+/// The bytes of that part where it has coded words, by `docs/coded.py`.
+pub const CODED: &[u8] = b"\x01\x00\x56\x73\xaa\xaa\xaa\xaa\x00\x00\xdf\xea\x06\x00\x01\x00\
+\xff\xff\xff\xff\xff\xff\xff\xff\xff\xff\xff\xff\xff\xff\xff\xff\
+\xff\xff\xff\xff\xff\xff\xff\xff\xff\xff\xff\xff\xff\xff\xff\xff\
+\xff\xff\xff\xff\xff\xff\xff\xff\xff\xff\xff\xff\xff\xff\xff\xff\
+\xff\xff\xff\xff\xff\xff\xff\xff\xff\xff\xff\xff\xff\xff\xff\xff\
+\xff\xff\xff\xff\xff\xff\xff\xff\xff\xff\xff\xff\xff\xff\xff\xff";
+
 /// The header of the schema.
 pub const HEADER: &[u8] = b"// Made by `ee header --rust` from a file of settings.
 
@@ -125,6 +133,8 @@ pub enum Text {
     Export,
     ImportPairs,
     ExportPairs,
+    ImportCoded,
+    ExportCoded,
     ImportHex,
     ExportHex,
     Inspect,
@@ -178,6 +188,8 @@ fn text_of<A: Allocator + Copy>(
         Text::Export => export_image(alloc, Form::Words, FORMATTED),
         Text::ImportPairs => import_image(alloc, shape, Form::Pairs, PAIRS),
         Text::ExportPairs => export_image(alloc, Form::Pairs, FORMATTED),
+        Text::ImportCoded => import_image(alloc, shape, Form::Coded, CODED),
+        Text::ExportCoded => export_image(alloc, Form::Coded, FORMATTED),
         Text::ImportHex => import_hex(alloc, shape, Form::Words, BASE, HEX),
         Text::ExportHex => export_hex(alloc, true, Form::Words, FORMATTED, BASE),
         Text::Inspect => inspect_text(alloc, FORMATTED),

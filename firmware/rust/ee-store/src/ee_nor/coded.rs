@@ -13,19 +13,17 @@
 //! `encode` makes a word, `decode` reads one (`specs/Coded/Code.antt`). `Coded` is a device of
 //! words (`ee_flash`) on such a flash, one number a word. The check is the bits 31 to 17, so a run
 //! gives the numbers as they read, in which a look finds an address, and `number` decodes the one
-//! that is found. `EccNor` is the flash as a contract (`specs/Coded/EccNor.antt`): cells, and beside
-//! each number what it reads as. `specs/Coded/Coded.antt` says which word a reading is.
+//! that is found. `EccNor` is the flash as a contract (`specs/Coded/EccNor.antt`): cells, and
+//! beside each number what it reads as. `specs/Coded/Coded.antt` says which word a reading is.
 //!
 //! The mark has the shape of the device, and that of another is torn. So a flash that was written
 //! in another shape has no committed set, and `Coded::of` names that shape where the first page of
-//! a set does. Numbers of something else read as torn: a store is first made only where no more is
-//! written than a first start leaves (`may_be_new`).
+//! a set does, and refuses a store of plain words. Numbers of something else read as torn: a store
+//! is first made only where no more is written than a first start leaves (`may_be_new`).
 //!
-//! **No program uses coded words yet**, and the firmware keeps words and pairs alone. Not here: a
-//! test whether cells hold what something else wrote (a reading doesn't tell, so `of` and `known`
-//! ask for it and `wipe` erases), and numbers that stand in memory. The code doesn't hold where two
-//! bits are corrected, where erases clear cells first, or where cells fade from one to zero by
-//! themselves.
+//! Not here: a test whether cells hold what something else wrote, since a reading doesn't tell
+//! (`of` and `known` ask for it, and `wipe` erases). The code doesn't hold where two bits are
+//! corrected, where erases clear cells first, or where cells fade from one to zero by themselves.
 //!
 //! # What is proved
 //!

@@ -33,7 +33,7 @@
 //!
 //! # What is only tested
 //!
-//! The drivers that meet `Nor`. Nothing drives coded words yet.
+//! The drivers that meet `Nor` and `EccNor`.
 //!
 //! # Read first
 //!

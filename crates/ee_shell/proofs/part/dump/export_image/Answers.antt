@@ -14,7 +14,7 @@ returns-in_err-flash-clause-names g c = λ cause some applies.
     let p = err_from_is_err_and c.from_residual.result c.from_residual.ensures.1 in
     rw p.1
     (rw p.2
-    (one_export_fault c.args.image.now cause c.in_err-flash.field-0.0 some applies
+    (one_export_fault c.args.form c.args.image.now cause c.in_err-flash.field-0.0 some applies
     (inl c.in_err-flash.ensures.fault)))
 
 pub returns-clause-exported : goal.returns-clause-exported

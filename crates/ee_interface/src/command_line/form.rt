@@ -1,6 +1,6 @@
 //! How a part keeps its words.
 ghost use Rattle.std.specs.Prelude.{◌≡◌};
-ghost use Rattle.ee_shell.specs.Dumps.Dump.{dump_length, word_length};
+ghost use Rattle.ee_interface.specs.CommandLine.Form.{dump_length, word_length};
 
 use ee_flash::Shape;
 
@@ -13,6 +13,9 @@ pub enum Form {
     Words,
     /// Each as a number beside its complement, in 16 bytes: a part without (`ee_nor`).
     Pairs,
+    /// Each as a number with a check, in eight bytes: a part with error correction
+    /// (`ee_nor::coded`).
+    Coded,
 }
 
 impl Form {
@@ -28,7 +31,7 @@ impl Form {
         ensures { result ≡ word_length self }
     {
         match self {
-            Form::Words => 8,
+            Form::Words | Form::Coded => 8,
             Form::Pairs => 16,
         }
     }

@@ -1,9 +1,0 @@
-use Rattle.std.proofs.Common.{◌≡◌, ℕ, ◌<◌, false}
-use Rattle.ee_flash.specs.Device.{word_at}
-use Rattle.ee_shell.specs.Dumps.Places.{is_misplaced}
-use Rattle.ee_shell.proofs.dumps.places.misplaced_in.Given as goal
-
--- the words so far are in place
-abbrev pub invariant-loop-at : goal.invariant-loop-at
-invariant-loop-at g l =
-    (k : ℕ) → k < l.at → is_misplaced k (word_at (g.F.Flash.device l.flash) l.page k) ≡ false
