@@ -43,8 +43,8 @@ def read(word, pages, words):
 
 def wrong_words():
     """The rows of the page that say another word than it has, of all, and whether a bit that is
-    turned, another shape, or a header word spelled otherwise makes them torn; and whether the
-    definitions have its rows."""
+    turned, another shape, or a header word spelled otherwise makes them torn; whether the
+    definitions have its rows; and whether each shape's mark has three ones more than the plain."""
     rows = re.findall(r"\| `([0-9a-f]{16})`(?:, (\d+) × (\d+))? \| `([0-9a-f]{16})` \|", PAGE)
     wrong = [f"docs/FORMATS.md has {len(rows)} coded words, and not 5"] * (len(rows) < 5)
     for number, pages, words, word in rows:
@@ -59,7 +59,10 @@ def wrong_words():
             wrong.append(f"docs/FORMATS.md: {number:016x} in a store of another shape")
     if any(read(word_of(value, 0), 1, 256) is not None for value in (1, HALF)):
         wrong.append("docs/FORMATS.md has two words of a number")
+    marks = (written(MARK, pages, words) for pages in range(1, 65) for words in range(5, 513))
+    if min(bin(mark & ~MARK).count("1") for mark in marks) < 3:
+        wrong.append("docs/FORMATS.md has a coded mark that may come to read as the plain one")
     spec = text_of("crates", "ee_nor", "specs", "Coded", "Code.antt")
     if bytes(int(row, 16) for row in re.findall(r"0x([0-9a-f]{2})\s+∷", spec)) != ROWS:
         wrong.append("docs/FORMATS.md has other rows than the definitions")
-    return wrong, 3 * len(rows) + 3
+    return wrong, 3 * len(rows) + 4

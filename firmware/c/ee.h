@@ -46,12 +46,12 @@
  *     ee_rescue                         N + 3 * W        L + 3 * P + 1    P
  *     ee_bad_words                      2 * W            0                0
  *     ee_foreign_word                   3 * W            0                0
- *     ee_other_shape                    2                0                0
+ *     ee_other_shape                    4                0                0
  *     ee_word_of                        1                0                0
  *
  * On pairs a word read or programmed is two numbers, ee_open reads W words more, and ee_start 2 * W. On coded words ee_start reads
- * W words more, and all that answer EE_OTHER_SHAPE two. For each torn word, which a
- * cut left half written, ee_start and ee_open read 17 words more.
+ * W words more, and all that answer EE_OTHER_SHAPE four. For each torn word, which a cut left half written, ee_start and ee_open
+ * read 17 words more.
  *
  * A watchdog waits longer than the longest step, which is an erase. On a part with one bank the core stalls in a step, on a fetch
  * from the flash that is erased: no loop runs there, nor SysTick, unless it stands in RAM. So feed the watchdog in your three
@@ -113,7 +113,8 @@ enum {
      * leaves of a word reads as that word or as torn, also with any one bit turned. A word that no store wrote is torn.
      *
      * This is what the part owes: cells go one way, as of EE_PAIRS, and a word reads as its cells, with one bit turned, or EE_TORN.
-     * A cut erase makes no word whole that an earlier cut had left torn. */
+     * A cut erase makes no word whole that an earlier cut had left torn, and leaves an erased word erased: so a first start that
+     * was cut is made again. */
     EE_CODED = 3
 };
 
@@ -250,8 +251,8 @@ enum {
     EE_DUPLICATE = 14,     /* an address stands twice in the list */
     /* Another call on the store is being made, as where an interrupt breaks into it: this one did nothing. */
     EE_BUSY = 15,
-    /* The flash holds a store of coded words of other `pages` or `page_words`, by the mark in the first page of a set. It comes
-     * before all else that an opening says of the flash. Nothing was written. */
+    /* Of EE_CODED: the flash holds a store of coded words of other `pages` or `page_words`, or one of EE_WORDS, by the mark in the
+     * first page of a set. It comes before all else that an opening says of the flash. Nothing was written. */
     EE_OTHER_SHAPE = 16
 };
 
@@ -383,8 +384,9 @@ ee_result ee_foreign_word(const ee_flash *flash, uint32_t *page, uint32_t *word)
  * failed, EE_WRONG_NUMBER where there is no such word, EE_NULL and EE_WRONG_SHAPE. It takes no store and writes nothing. */
 ee_result ee_word_of(const ee_flash *flash, uint32_t page, uint32_t word, uint64_t *number);
 
-/* The shape for which ee_start and the like answer EE_OTHER_SHAPE. It takes no store and writes nothing. EE_OK; EE_NOTHING where
- * they don't answer that; EE_DRIVER, or EE_NULL and EE_WRONG_SHAPE. Both are written with EE_OK alone. */
+/* The shape for which ee_start and the like answer EE_OTHER_SHAPE: 0 and 0 where the flash holds a store of EE_WORDS. It takes no
+ * store and writes nothing. EE_OK; EE_NOTHING where they don't answer that; EE_DRIVER, or EE_NULL and EE_WRONG_SHAPE. Both are
+ * written with EE_OK alone. */
 ee_result ee_other_shape(const ee_flash *flash, uint32_t *pages, uint32_t *page_words);
 
 /* Helpers, made of the calls above. A program that calls none of them is the same as without them, byte by byte. */
@@ -550,7 +552,7 @@ static inline const char *ee_status_text(ee_result status) {
     case EE_NULL: return "a pointer is NULL";
     case EE_DUPLICATE: return "an address stands twice in the list";
     case EE_BUSY: return "another call on the store is being made";
-    case EE_OTHER_SHAPE: return "the store has other pages or page_words";
+    case EE_OTHER_SHAPE: return "the store has other pages or page_words, or is of words";
     default: return "no status of ee";
     }
 }

@@ -52,7 +52,7 @@ static ee_result copied(const ee_store *from, ee_store *to) {
     return status == EE_NOTHING ? (ee_result)EE_OK : status;
 }
 
-/* Makes a set of coded words of a store of words. EE_NOTHING where there is none. */
+/* Makes a set of coded words of a store of words. */
 static ee_result converted(const ee_flash *flash) {
     half set = {flash, 0, UINT64_MAX};
     ee_flash words = *flash, coded = *flash;
@@ -61,7 +61,6 @@ static ee_result converted(const ee_flash *flash) {
     words.kind = EE_WORDS;
     words.index = coded.index = 0;
     ee_result status = ee_open(&old, &words);
-    if (status == EE_UNFORMATTED || status == EE_NO_LIVE_SET) return EE_NOTHING;
     if (status == EE_OK) status = cleaned(&old);
     if (status != EE_OK) return status;
     /* The other set is blank, and the live one has a generation in its first word. */
@@ -74,10 +73,12 @@ static ee_result converted(const ee_flash *flash) {
 }
 
 ee_result ee_convert(ee_store *store, const ee_flash *flash) {
-    ee_result status = flash && flash->kind != EE_CODED ? (ee_result)EE_WRONG_SHAPE : ee_open(store, flash);
-    if (status == EE_UNFORMATTED || status == EE_NO_LIVE_SET) {
-        status = converted(flash);
-        if (status == EE_OK || status == EE_NOTHING) status = ee_start(store, flash);
+    ee_result status = flash && flash->kind != EE_CODED ? (ee_result)EE_WRONG_SHAPE : ee_start(store, flash);
+    if (status == EE_OTHER_SHAPE) {
+        uint32_t pages, page_words;
+        if (ee_other_shape(flash, &pages, &page_words) != EE_OK) return EE_DRIVER; /* a read failed, or reads otherwise */
+        if (pages == 0) status = converted(flash);
+        if (status == EE_OK) status = ee_start(store, flash);
     }
     return status == EE_OK ? cleaned(store) : status;
 }

@@ -19,8 +19,7 @@ extern "C" {
  *
  * It takes 220 bytes of stack beside those of ee_write. An older firmware can't open what it leaves.
  *
- * EE_OK; what ee_start answers; what ee_open answers for the words, but for EE_UNFORMATTED and EE_NO_LIVE_SET; EE_WRONG_SHAPE
- * also for another kind. Where it is not EE_OK no value is lost.
+ * EE_OK; what ee_start answers, for the words too; EE_WRONG_SHAPE also for another kind. Where it is not EE_OK no value is lost.
  *
  * Left out: a mark that went bad behind this, before the old set was erased. Then the old values would be taken. And an erase
  * of old words that is cut may leave what reads as a coded one, by a chance of 2^-15 for each: no mark, since that of words has

@@ -84,7 +84,7 @@ static uint32_t counted(enum kind kind, uint16_t address, int is_room) {
         [COUNTS] = {n + w, 0, 0},        [RESCUE] = {n + 3 * w, s + 3 * p + 1, p},
         [BAD_WORDS] = {2 * w, 0, 0}};
     uint32_t looked_at = !device.pairs || kind >= FORMAT ? 0 : kind == START ? 2 * w : w;
-    if (device.coded) looked_at = 2 + (kind == START ? w : 0);
+    if (device.coded) looked_at = 4 + (kind == START ? w : 0);
     if (kind <= OPEN) looked_at += 17 * torn_words();
     device.read = device.programmed = device.erased = 0;
     uint32_t status = made(kind, address);

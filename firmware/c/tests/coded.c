@@ -1,6 +1,6 @@
 /* Coded words: what stands in the flash, by a coder that was written of docs/FORMATS.md alone; that a number which is no coded word
- * is torn, and refuses nothing; that no opening, first start or rescue takes a store of another shape for one of its own, and no
- * opening or first start one of words, or data; and that none writes there. */
+ * is torn, and refuses nothing; that no opening, first start or rescue takes a store of another shape for one of its own, or one of
+ * words, and no opening or first start data; and that none writes there. */
 #include "coded.h"
 #include "part.h"
 
@@ -55,6 +55,26 @@ static void torn(void) {
     }
 }
 
+/* Each bit of the mark turned, that also where only some cells were programmed, no coded word, and 0: no set is live, and a rescue
+ * has the value. */
+static void torn_mark(void) {
+    for (int turn = 0; turn < 4000; turn++) {
+        uint32_t value, found[2] = {9, 9};
+        blank(&p, 1 + turn % 2, 8);
+        p.coded = 1;
+        ee_flash flash = flash_of(&p);
+        CHECK(ee_start(&store, &flash) == EE_OK && ee_write(&store, 1, 10) == EE_OK);
+        uint64_t *mark = &p.words[0][1], whole = *mark;
+        if (turn >= 64) *mark |= any_bits();
+        *mark ^= (uint64_t)1 << turn % 64;
+        if (turn % 64 == 63) *mark = turn % 128 == 63 ? 0 : whole ^ MARK;
+        if (*mark == whole) continue;
+        CHECK(ee_open(&store, &flash) == EE_NO_LIVE_SET && ee_start(&store, &flash) == EE_NO_LIVE_SET);
+        CHECK(ee_other_shape(&flash, &found[0], &found[1]) == EE_NOTHING && found[0] == 9 && found[1] == 9);
+        CHECK(ee_rescue(&store, &flash) == EE_OK && ee_read(&store, 1, &value) == EE_OK && value == 10);
+    }
+}
+
 /* Whether each word is erased that a flash has. */
 static int is_blank(const ee_flash *flash) {
     for (uint32_t at = 0; at < 2 * flash->pages * flash->page_words; at++)
@@ -63,8 +83,8 @@ static int is_blank(const ee_flash *flash) {
 }
 
 /* Under this flash nothing opens, and nothing is written; but where all that it sees is blank, it is a new one. Whether it answers
- * EE_OTHER_SHAPE, with the shape. */
-static unsigned refused(ee_flash flash, uint32_t pages, uint32_t page_words) { /* those of the store, 0 where there is none */
+ * EE_OTHER_SHAPE, with the shape: that of a store of coded words, or 0 and 0. */
+static unsigned refused(ee_flash flash, uint32_t pages, uint32_t page_words) {
     part before = p;
     uint32_t found[2] = {9, 9}, count;
     ee_result opened = ee_open(&store, &flash);
@@ -74,7 +94,7 @@ static unsigned refused(ee_flash flash, uint32_t pages, uint32_t page_words) { /
     }
     CHECK(opened != EE_OK && ee_read(&store, 1, found) == EE_NOT_OPEN && ee_start(&store, &flash) == opened);
     unsigned is_other = opened == EE_OTHER_SHAPE;
-    if (pages != 0) CHECK(ee_rescue(&store, &flash) == (is_other ? (ee_result)EE_OTHER_SHAPE : (ee_result)EE_NOTHING));
+    if (pages != 0 || is_other) CHECK(ee_rescue(&store, &flash) == (is_other ? (ee_result)EE_OTHER_SHAPE : (ee_result)EE_NOTHING));
     CHECK((ee_bad_words(&flash, &count) == EE_OTHER_SHAPE) == is_other);
     CHECK((ee_foreign_word(&flash, &count, &count) == EE_OTHER_SHAPE) == is_other);
     CHECK(ee_other_shape(&flash, &found[0], &found[1]) == (is_other ? (ee_result)EE_OK : (ee_result)EE_NOTHING));
@@ -113,20 +133,45 @@ static void other_shapes(void) {
     CHECK(told > openings / 2);
 }
 
-/* Data, and a store of words: a first start makes nothing there. */
+/* Data: a first start makes nothing there. */
 static void data(void) {
-    for (int round = 0; round < 2000; round++) {
+    for (int round = 0; round < 1000; round++) {
         blank(&p, 2, 6);
-        ee_flash flash = flash_of(&p), coded = flash;
+        ee_flash coded = flash_of(&p);
         coded.kind = EE_CODED;
-        if (round % 2) {
-            CHECK(ee_start(&store, &flash) == EE_OK && ee_write(&store, 1, (uint32_t)any_bits()) == EE_OK);
-        } else {
-            uint64_t at = any_bits() % 22;
-            p.words[(at + 2) / 6][(at + 2) % 6] = any_bits() >> 1;
-        }
-        refused(coded, 0, 0);
+        uint64_t at = any_bits() % 22;
+        p.words[(at + 2) / 6][(at + 2) % 6] = any_bits() >> 1;
+        CHECK(refused(coded, 0, 0) == 0);
         CHECK(ee_format(&store, &coded) == EE_OK && ee_write(&store, 1, 10) == EE_OK && ee_start(&store, &coded) == EE_OK);
+    }
+}
+
+/* A store of words is told where one of its marks is word 1 of a set, and so under its own shape; but not by reads that fail. */
+static void of_words(void) {
+    static const uint32_t others[][2] = {{1, 6}, {2, 8}, {3, 6}};
+    for (int round = 0; round < 300; round++) {
+        blank(&p, 2, 6);
+        ee_flash flash = flash_of(&p);
+        CHECK(ee_start(&store, &flash) == EE_OK);
+        for (uint64_t calls = any_bits() % 60; calls > 0; calls--) CHECK(ee_write(&store, 1 + calls % 2, (uint32_t)calls) == EE_OK);
+        for (uint64_t calls = any_bits() % 3; calls > 0; calls--) CHECK(ee_clean(&store) <= EE_NOTHING);
+        flash.kind = EE_CODED;
+        CHECK(refused(flash, 0, 0) == 1);
+        for (unsigned long read = 1; read <= 5; read++) {
+            uint32_t found[2];
+            p.fails_in = p.read + read;
+            CHECK(ee_open(&store, &flash) == (read <= 4 ? EE_DRIVER : EE_OTHER_SHAPE));
+            p.fails_in = p.read + read;
+            CHECK(ee_other_shape(&flash, &found[0], &found[1]) == (read <= 4 ? EE_DRIVER : EE_OK));
+            p.fails_in = p.failed = 0;
+        }
+        for (int i = 0; i < 3; i++) {
+            ee_flash other = flash;
+            p.pages = MOST_PAGES / 2, p.page_words = MOST_WORDS;
+            other.pages = others[i][0], other.page_words = others[i][1];
+            uint32_t second = other.pages;
+            CHECK(refused(other, 0, 0) == (p.words[0][1] == MARK || p.words[second][1] == MARK));
+        }
     }
 }
 
@@ -134,7 +179,9 @@ int main(void) {
     vectors();
     written();
     torn();
+    torn_mark();
     other_shapes();
     data();
+    of_words();
     return 0;
 }

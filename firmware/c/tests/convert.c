@@ -17,7 +17,7 @@ static sim_ecc part;
 static ee_flash words, coded;
 static ee_store store;
 static uint32_t values[ADDRESSES + 1];
-static unsigned long cuts;
+static unsigned long cuts, commits; /* behind so many of these cuts the store was coded */
 
 static uint32_t below(uint32_t limit) {
     static uint64_t dice;
@@ -67,12 +67,28 @@ static void check_converted(void) {
     check_values();
 }
 
+/* What a cut left of a conversion is a store of coded words, or one of words, which none takes for coded ones. */
+static void check_left(void) {
+    sim_ecc left = part;
+    uint32_t pages, page_words;
+    if (ee_open(&store, &coded) == EE_OK) {
+        commits++;
+        check_values();
+    } else {
+        CHECK(ee_start(&store, &coded) == EE_OTHER_SHAPE && ee_rescue(&store, &coded) == EE_OTHER_SHAPE);
+        CHECK(ee_other_shape(&coded, &pages, &page_words) == EE_OK && pages == 0 && page_words == 0);
+        CHECK(memcmp(&part, &left, sizeof part) == 0);
+    }
+    part = left;
+}
+
 /* Cuts of a conversion, so many further ones behind one in this step. 0 where it ended before. */
 static int cut_in(uint32_t step, sim_ecc_tear tear, uint32_t more) {
     sim_ecc_cut(&part, step, tear);
     for (ee_result status; (status = ee_convert(&store, &coded)) != EE_OK; more -= more > 0) {
         CHECK(status == EE_DRIVER && !part.is_on && ee_clean(&store) == EE_NOT_OPEN);
         part.is_on = 1, cuts++;
+        check_left();
         sim_ecc_cut(&part, more ? 1 + below(step + 3) : 0, tear);
     }
     int was_cut = part.cut_in == 0;
@@ -121,6 +137,8 @@ int main(void) {
     CHECK(ee_convert(&store, &words) == EE_WRONG_SHAPE && ee_convert(&store, NULL) == EE_NULL && ee_convert(NULL, &coded) == EE_NULL);
     new_part(1, 8, 1);
     CHECK(ee_convert(&store, &coded) == EE_OK && ee_write(&store, 1, 10) == EE_OK);
-    printf("%lu cuts\n", cuts);
-    return cuts < 10000;
+    coded.page_words = 7;
+    CHECK(ee_convert(&store, &coded) == EE_OTHER_SHAPE);
+    printf("%lu cuts, %lu of them behind the commit\n", cuts, commits);
+    return cuts < 10000 || commits < 500;
 }

@@ -81,7 +81,7 @@ pub trait Driver {
 ///
 /// A number may be programmed by parts of 8, 16 or 32 bits, in any order.
 ///
-/// Only [`Coded`](Kind::Coded) words say the shape of their store, so that an opening under another is told.
+/// Only [`Coded`](Kind::Coded) words say the shape of their store, so that an opening under another, and one of `Words`, is told.
 #[derive(Clone, Copy, Debug, PartialEq, Eq)]
 pub enum Kind {
     /// Words of 64 bits with error correction (ECC), so that one that a cut left half written is told: [`Word::Torn`]. That the
@@ -97,8 +97,8 @@ pub enum Kind {
     PairsClearing,
     /// Words of 64 bits with ECC, each with a check of 15 bits, in as much flash as `Words` and by the same driver. Cells go one
     /// way, as of `Pairs`, and a word reads as they are, with one bit turned by the ECC, or as torn: then none that a cut leaves
-    /// reads as another, and one that no store wrote is torn. That a cut erase makes no word whole which an earlier cut had left
-    /// torn is a premise.
+    /// reads as another, and one that no store wrote is torn. That a cut erase leaves an erased word erased, and makes none whole
+    /// which an earlier cut had left torn, are premises.
     Coded,
 }
 

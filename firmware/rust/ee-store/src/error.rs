@@ -8,12 +8,13 @@ use core::fmt;
 pub enum OpenError<E> {
     /// Sizes of the flash don't fit, or the place of the store in it.
     Unfit(Unfit),
-    /// The flash holds a store of [coded words](crate::Kind::Coded) of this other shape, by the mark in page 0, or in the first
-    /// page of the second set as the driver's shape has it. It comes before all else that an opening says of the flash.
+    /// Of [coded words](crate::Kind::Coded): the flash holds a store of them of this other shape, or with 0 and 0 one of plain
+    /// [words](crate::Kind::Words), by the mark in page 0, or in the first page of the second set as the driver's shape has it.
+    /// It comes before all else that an opening says of the flash.
     OtherShape {
-        /// Pages of each set, 1 to 64.
+        /// Pages of each set, 1 to 64, or 0.
         pages: usize,
-        /// Words of a page, 5 to 512.
+        /// Words of a page, 5 to 512, or 0.
         words: usize,
     },
     /// Every word is erased, so there is no store to open: [`open_or_format`](crate::Store::open_or_format) makes one.
@@ -163,6 +164,7 @@ impl<E> OpenError<E> {
     pub(crate) fn text(&self) -> &'static str {
         match self {
             OpenError::Unfit(unfit) => unfit.text(),
+            OpenError::OtherShape { pages: 0, .. } => "the flash holds a store of plain words",
             OpenError::OtherShape { .. } => "the flash holds a store of another shape",
             OpenError::Unformatted => "the flash is not formatted",
             OpenError::NoLiveSet => "no set of the flash is live",
@@ -225,7 +227,7 @@ impl<E: fmt::Debug> fmt::Display for OpenError<E> {
             OpenError::Foreign { page, at } => {
                 write!(f, "word {at} of page {page} is not the store's")
             }
-            OpenError::OtherShape { pages, words } => {
+            OpenError::OtherShape { pages, words } if *pages > 0 => {
                 write!(f, "{}: pages {pages}, words {words}", self.text())
             }
             OpenError::Driver(error) => fmt::Display::fmt(error, f),

@@ -82,7 +82,7 @@ impl<E: Format> Format for OpenError<E> {
                     *page
                 )
             }
-            OpenError::OtherShape { pages, words } => {
+            OpenError::OtherShape { pages, words } if *pages > 0 => {
                 defmt::write!(
                     f,
                     "{=str}: pages {=usize}, words {=usize}",

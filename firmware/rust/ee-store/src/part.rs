@@ -60,9 +60,10 @@ impl<D: Driver> Part<D> {
         }
     }
 
-    /// The other shape that the mark of a store of coded words says.
+    /// The other shape that the mark of a store of coded words says, or 0 and 0 of plain words. `None` where a read failed, too.
     pub(crate) fn other_shape(&self) -> Option<OtherShape> {
-        Coded::of(self.codes()?).err().map(|it| it.1)
+        let other = Coded::of(self.codes()?).err().map(|it| it.1);
+        other.filter(|_| self.is_on())
     }
 
     /// Whether a first store may be made here: but for words only where no more is written than a first start that was cut

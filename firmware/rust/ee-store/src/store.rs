@@ -54,7 +54,7 @@ const NOWHERE: Layout = Layout {
     current: 0,
 };
 
-// Refuses a part of coded words that hold a store of another shape.
+// Refuses a part of coded words that holds a store of another shape, or of plain words.
 fn refuse_other_shape<D: Driver>(part: &Part<D>) -> Result<(), OpenError<D::Error>> {
     let Some(other) = part.other_shape() else {
         return Ok(());
@@ -174,7 +174,7 @@ impl<D: Driver> Store<D> {
         }
     }
 
-    // Turns the part on, and refuses pairs that no store wrote, and coded words of another shape.
+    // Turns the part on, and refuses pairs that no store wrote, and for coded words another store.
     fn begin(&mut self) -> Result<(), OpenError<D::Error>> {
         let part = &mut self.store.flash;
         part.begin_anew();

@@ -20,6 +20,8 @@ struct Part {
     steps: u32,
     /// The step that is cut.
     cut: Option<u32>,
+    /// The page whose second word fails to be read.
+    dead: Option<usize>,
     dice: u64,
 }
 
@@ -36,6 +38,7 @@ impl Part {
             pages: vec![vec![ERASED; words]; 2 * pages],
             steps: 0,
             cut: None,
+            dead: None,
             dice: seed << 8 | 1,
         }
     }
@@ -90,7 +93,9 @@ impl Driver for Part {
     }
 
     fn word(&self, page: usize, at: usize) -> Result<Word, Down> {
-        Ok(self.ecc.word(self.pages[page][at]))
+        let is_dead = at == 1 && self.dead == Some(page);
+        let word = self.ecc.word(self.pages[page][at]);
+        (!is_dead).then_some(word).ok_or(Down)
     }
 
     fn program(&mut self, page: usize, at: usize, value: u64) -> Result<(), Down> {
@@ -195,14 +200,45 @@ fn another_shape_is_named_before_all_else() {
 #[test]
 fn another_kind_is_refused() {
     for (own, other) in [(Kind::Words, Kind::Coded), (Kind::Coded, Kind::Words)] {
-        let blank = Part::blank(1, 16, 1);
+        let blank = Part::blank(2, 8, 1);
         let mut store = Store::format(blank.under(blank.shape, own)).unwrap();
         for value in 0..40 {
             store.write(FIRST, value).unwrap();
-            let part = store.driver().under(blank.shape, other);
-            let [opened, started, ..] = refusals(&part);
-            assert_eq!([opened, started], [Some(OpenError::NoLiveSet); 2]);
+            let mut part = store.driver().under(blank.shape, other);
+            let refused = refusals(&part);
+            if other == Kind::Words {
+                assert_eq!(refused[..2], [Some(OpenError::NoLiveSet); 2]);
+                continue;
+            }
+            let plain = OpenError::OtherShape { pages: 0, words: 0 };
+            assert_eq!(refused, [Some(plain); 4]);
+            for page in [0, 2] {
+                part.dead = Some(page);
+                let failed = refusals(&part).map(|it| matches!(it, Some(OpenError::Driver(_))));
+                assert_eq!(failed, [true; 4]);
+            }
         }
+    }
+}
+
+#[test]
+fn a_torn_mark_says_no_shape() {
+    let mut store = Store::format(Part::blank(1, 8, 1)).unwrap();
+    store.write(FIRST, 10).unwrap();
+    let mut whole = store.into_driver();
+    let mark = whole.pages[0][1].number;
+    for turn in 0..2000_u32 {
+        let unreached = if turn < 64 { 0 } else { whole.below(u64::MAX) };
+        let mut part = whole.under(whole.shape, Kind::Coded);
+        let number = (mark | unreached) ^ 1 << (turn % 64);
+        if number == mark {
+            continue;
+        }
+        part.pages[0][1] = part.ecc.cells(number);
+        let [opened, started, ..] = refusals(&part);
+        assert_eq!([opened, started], [Some(OpenError::NoLiveSet); 2]);
+        let (store, _) = Store::rescue(&mut part).unwrap();
+        assert_eq!(store.read(FIRST), Ok(Some(10)));
     }
 }
 

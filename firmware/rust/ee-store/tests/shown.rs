@@ -39,6 +39,7 @@ const UNFITS: [Unfit; 8] = [
 fn errors_are_shown() {
     let mut all = vec![
         OpenError::OtherShape { pages: 2, words: 5 },
+        OpenError::OtherShape { pages: 0, words: 0 },
         OpenError::Unformatted,
         OpenError::NoLiveSet,
         OpenError::TwoLive,

@@ -97,12 +97,13 @@ impl Device {
         Some(self.codes_of(flash))
     }
 
-    /// The pages of a set and the words of a page that coded words say, where they are others.
+    /// The pages of a set and the words of a page that coded words say, where they are others: 0 and 0 of plain words.
     pub fn other_shape(&self) -> Option<(usize, usize)> {
         let flash = self.flash().filter(|flash| flash.is_coded())?;
         let device = *self;
         let (_, other) = Coded::of(Codes { device, flash }).err()?;
-        Some((other.pages, other.words))
+        // Where a read failed nothing is known.
+        self.flash().map(|_| (other.pages, other.words))
     }
 
     fn codes_of<'a>(&self, flash: &'a Flash) -> Coded<Codes<'a>> {
