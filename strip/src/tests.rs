@@ -372,8 +372,8 @@ fn sources_with_a_line_more() {
             "use ee_text;",
         ),
         (
-            "ee_program/src/running.rt",
-            "fn form_of(pairs: bool) -> Form {",
+            "ee_interface/src/command_line/words.rt",
+            "fn form_of_flag(word: &str) -> Option<Form>",
             "fn odd<T: Drop>() {}",
         ),
         ("ee/src/main.rt", "use std::env;", "#![feature(odd)]"),
