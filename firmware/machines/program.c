@@ -78,6 +78,7 @@ void reset(void) {
     for (unsigned char *at = data_start; at < data_end; at++) *at = data_from[at - data_start];
     for (unsigned char *at = bss_start; at < bss_end; at++) *at = 0;
     flash = part_flash();
+    flash.kind = KIND;
     while ((call = (enum call)tester->call) != END) tester->status = made(call);
     for (;;) done();
 }
