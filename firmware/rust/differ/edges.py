@@ -20,8 +20,8 @@ def case(name, *pages, script="r 1, r 2, w 1 1, w 1 2, w 1 3, r 1, c, c"):
     """A case of these pages, with blank ones behind them, and each page given as its words."""
     words = len(pages[0])
     count = (len(pages) + 1) // 2
-    rows = [" ".join(["0", *page]) for page in pages]
-    return cases.Case(name, cases.image_text(count, words, rows), [cases.script_text(*script.split(", "))])
+    image = cases.worked.image_of(count, words, [["0", *page] for page in pages])
+    return cases.Case(name, image, [cases.script_text(*script.split(", "))])
 
 
 def slot_cases():
