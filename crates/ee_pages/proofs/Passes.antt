@@ -1,16 +1,17 @@
 -- What a pass over a live set finds out, page by page: how far its slots are used, and which word
 -- may not stand there.
-use Rattle.std.proofs.Common.{◌≡◌, inl, inr, ℕ, ◌+◌, ◌-◌, ◌*◌, ◌<◌, ◌≤◌, Bool, true, false, not, ◌&&◌, ◌||◌, nat_le, nat_eq, List, length, get_or, refl, sym, subst, ap, ◌∙◌, arith}
-use Rattle.std.proofs.lemmas.Bool.{cases_lt, eq-eqb, lt-ltb, ne_eqb, true≢false}
+use Rattle.std.proofs.Common.{◌≡◌, inl, inr, ℕ, ◌+◌, ◌-◌, ◌*◌, ◌<◌, ◌≤◌, Bool, true, false, not, ◌&&◌, ◌||◌, nat_le, nat_eq, min, List, length, get_or, refl, sym, subst, ap, ◌∙◌, arith}
+use Rattle.std.proofs.lemmas.Bool.{cases_lt, eq-eqb, eqb-true, lt-ltb, ne_eqb, true≢false}
 use Rattle.std.proofs.lemmas.Grind.{common_steps}
 use Rattle.std.proofs.lemmas.List.Folds.{list_any_at}
 use Rattle.std.proofs.lemmas.List.Sums.{prefix_len_passes, prefix_len_stops}
 use Rattle.std.proofs.lemmas.Nat.{div-mul-add}
+use Rattle.std.proofs.Math.Nat.{min-eq_left, min-le_left, min-le_right, min-eq_right}
 use Rattle.ee_flash.specs.Device.{Device, IsFormed, word_at}
 use Rattle.ee_flash.specs.Size.{Size}
 use Rattle.ee_flash.specs.declared.word.Word.{Word}
 use Rattle.ee_flash.specs.declared.word.Word.TheVariants.{Erased, Held, Torn}
-use Rattle.ee_pages.specs.Layout.{IsUsedTo}
+use Rattle.ee_pages.specs.Layout.{IsUsedTo, front_to}
 use Rattle.ee_pages.specs.Legal.{fits, holds_slot, is_allowed, is_allowed_at, place_of, slots_before}
 use Rattle.ee_pages.specs.Page.{is_blank, is_written, word_in}
 use Rattle.ee_pages.specs.Sets.{first_page, front, page_of_slot, set_of, slots_of, word_of}
@@ -205,21 +206,43 @@ module _ (device : Device) (side : Side) (page here : ℕ) (formed : IsFormed de
 
 -- ---- a page of a live set, from a place of which on all has to be erased
 
+next_row : (page row : ℕ) → (page + 1) * row ≡ page * row + row
+next_row page row = omega arith
+
 by_full : {P : Type 0} (full : Bool) → (full ≡ true → P) → (full ≡ false → P) → P
 by_full true whole partly = whole refl
 by_full false whole partly = partly refl
+
+all_before : (rows front : ℕ) → nat_eq (min rows front) rows ≡ true → rows ≤ front
+all_before rows front is = subst (λ n. n ≤ front) (eqb-true (min rows front) rows is) (min-le_right rows front)
+
+some_before : (rows front : ℕ) → nat_eq (min rows front) rows ≡ false → front < rows
+some_before rows front isnt = elim (cases_lt front rows) [
+  | inl less ↦ less
+  | inr all ↦
+      absurd (true≢false (sym (eq-eqb (min rows front) rows (min-eq_left all)) ∙ isnt))
+]
 
 -- it is the place behind the used slots, where all slots before the page are used, and else
 -- the page's first word
 module _ (device : Device) (side : Side) (page here : ℕ) (formed : IsFormed device)
     (inside : page < device.size.pages) (here_is : here ≡ first_page device.size side + page)
     (full : Bool)
-    (before : full ≡ true → page * (device.size.words - 4) ≤ front (slots_of (set_of side device)))
-    (past : full ≡ false → front (slots_of (set_of side device)) < page * (device.size.words - 4))
+    (is_full : full ≡ nat_eq (front_to device side page) (page * (device.size.words - 4)))
     (generation end written : ℕ) (to : full ≡ true → IsUsedTo device generation side page end)
     (none : full ≡ false → end ≡ 0) (within : end ≤ device.size.words)
     (behind_it : end ≤ written)
     (blank : (j : ℕ) → end ≤ j → j < written → is_written (word_at device here j) ≡ false) where
+  before : full ≡ true → page * (device.size.words - 4) ≤ front (slots_of (set_of side device))
+  before is =
+      all_before (page * (device.size.words - 4)) (front (slots_of (set_of side device)))
+      (sym is_full ∙ is)
+
+  past : full ≡ false → front (slots_of (set_of side device)) < page * (device.size.words - 4)
+  past isnt =
+      some_before (page * (device.size.words - 4)) (front (slots_of (set_of side device)))
+      (sym is_full ∙ isnt)
+
   used_here : (is : full ≡ true) (j : ℕ) → 4 ≤ j → j < end
       → holds_slot (word_at device here j) ≡ true
   used_here is j from h =
@@ -232,13 +255,13 @@ module _ (device : Device) (side : Side) (page here : ℕ) (formed : IsFormed de
       ap holds_slot (sym (word_here device side page here formed inside here_is end))
       ∙ (to is).unused h
 
-  pub used_reach : full ≡ true
+  used_reach : full ≡ true
       → page * (device.size.words - 4) + (end - 4) ≤ front (slots_of (set_of side device))
   used_reach is =
       reaches device side page here formed inside here_is (before is) end written (to is).from
       within (used_here is) (unused_here is) behind_it blank
 
-  pub used_stop : full ≡ true → end - 4 < device.size.words - 4 → device.size.words ≤ written
+  used_stop : full ≡ true → end - 4 < device.size.words - 4 → device.size.words ≤ written
       → front (slots_of (set_of side device)) ≡ page * (device.size.words - 4) + (end - 4)
   used_stop is few all =
       let short : end < device.size.words = omega (arith, few, (to is).from) in
@@ -267,50 +290,61 @@ module _ (device : Device) (side : Side) (page here : ℕ) (formed : IsFormed de
       (ap is_written (word_here device side page here formed inside here_is written) ∙ is_so)
       (omega (arith, past isnt)))
 
-next_row : (page row : ℕ) → (page + 1) * row ≡ page * row + row
-next_row page row = omega arith
+  pub used_then : device.size.words ≤ written
+      → front_to device side page + (end - 4) ≡ front_to device side (page + 1)
+  used_then all =
+      let rows = page * (device.size.words - 4) in
+      let next = (page + 1) * (device.size.words - 4) in
+      let stops_at = front (slots_of (set_of side device)) in
+      let row = next_row page (device.size.words - 4) in
+      by_full full
+      (λ is. elim (cases_lt (end - 4) (device.size.words - 4)) [
+        | inl few ↦
+            let at = used_stop is few all in
+            omega (
+              arith,
+              min-eq_left (before is),
+              at,
+              min-eq_right {n = stops_at} {m = next} (omega (arith, at, few, row)),
+            )
+        | inr most ↦
+            let reach = used_reach is in
+            omega (
+              arith,
+              min-eq_left (before is),
+              most,
+              within,
+              row,
+              min-eq_left {n = next} {m = stops_at} (omega (arith, reach, most, row)),
+            )
+      ])
+      (λ isnt. omega (
+        arith,
+        none isnt,
+        min-eq_right {n = stops_at} {m = rows} (omega (arith, past isnt)),
+        min-eq_right {n = stops_at} {m = next} (omega (arith, past isnt, row)),
+      ))
 
--- so many slots are used of those before a page, and so many of the page
-module _ (size : Size) (used here page slots front : ℕ) (same : slots ≡ size.words - 4)
-    (most : used ≤ page * (size.words - 4)) (reach : used ≤ front)
-    (stopped : used < page * (size.words - 4) → front ≡ used) (few : here ≤ size.words - 4)
-    (more : nat_eq used (page * slots) ≡ true → page * (size.words - 4) + here ≤ front)
-    (stops_here : nat_eq used (page * slots) ≡ true → here < size.words - 4
-    → front ≡ page * (size.words - 4) + here)
-    (none : nat_eq used (page * slots) ≡ false → here ≡ 0) where
-  rows : page * slots ≡ page * (size.words - 4)
-  rows = ap (λ n. page * n) same
-
-  not_all : used < page * (size.words - 4) → nat_eq used (page * slots) ≡ false
-  not_all less = ne_eqb used (page * slots) (λ e. omega (arith, e, rows, less))
-
-  all : page * (size.words - 4) ≤ used → nat_eq used (page * slots) ≡ true
-  all past = eq-eqb used (page * slots) (omega (arith, rows, past, most))
-
-  pub most_then : used + here ≤ (page + 1) * (size.words - 4)
-  most_then = omega (arith, most, few, next_row page (size.words - 4))
-
-  pub reach_then : used + here ≤ front
-  reach_then = elim (cases_lt used (page * (size.words - 4))) [
-    | inl less ↦ omega (arith, reach, none (not_all less))
-    | inr past ↦ omega (arith, most, past, more (all past))
-  ]
-
-  pub stopped_then : used + here < (page + 1) * (size.words - 4) → front ≡ used + here
-  stopped_then h = elim (cases_lt used (page * (size.words - 4))) [
-    | inl less ↦ omega (arith, stopped less, none (not_all less))
-    | inr past ↦ let e : used ≡ page * (size.words - 4) =
-        omega (arith, most, past) in omega
-        (arith, e, stops_here (all past) (omega (arith, h, e, next_row page (size.words - 4))))
-  ]
-
-  pub last_then : 0 < here → page ≡ page_of_slot size (used + here - 1)
-  last_then some = elim (cases_lt used (page * (size.words - 4))) [
-    | inl less ↦ absurd (omega (arith, some, none (not_all less)))
-    | inr past ↦
-        let e : page * (size.words - 4) + (here - 1) ≡ used + here - 1 =
-        omega (arith, most, past, some) in
-        sym
-        (ap (page_of_slot size) (sym e)
-        ∙ div-mul-add page (size.words - 4) (here - 1) (omega (arith, few, some)))
-  ]
+-- the last of the slots that a page adds is one of its own
+pub last_then : (size : Size) (used here page front : ℕ)
+    → used ≡ min (page * (size.words - 4)) front
+    → used + here ≡ min ((page + 1) * (size.words - 4)) front
+    → 0 < here → page ≡ page_of_slot size (used + here - 1)
+last_then size used here page front at next some =
+    let row = size.words - 4 in
+    let all : page * row ≤ front = elim (cases_lt front (page * row)) [
+      | inr most ↦ most
+      | inl less ↦ absurd (omega (
+        arith,
+        some,
+        at,
+        next,
+        min-eq_right {n = front} {m = page * row} (omega (arith, less)),
+        min-le_right ((page + 1) * row) front,
+      ))
+    ] in
+    let e : page * row + (here - 1) ≡ used + here - 1 =
+    omega (arith, at, min-eq_left all, some) in
+    let few : here - 1 < row =
+    omega (arith, at, min-eq_left all, next, some, min-le_left ((page + 1) * row) front, next_row page row) in
+    sym (ap (page_of_slot size) (sym e) ∙ div-mul-add page row (here - 1) few)

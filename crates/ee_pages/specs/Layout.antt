@@ -1,11 +1,11 @@
 -- What a scan finds, or why it finds nothing.
-use Rattle.std.specs.Prelude.{◌≡◌, ◌<◌, ◌≤◌, ℕ, ◌+◌, ◌-◌, Some, None, true, false, List}
+use Rattle.std.specs.Prelude.{◌≡◌, ◌<◌, ◌≤◌, ℕ, ◌+◌, ◌-◌, ◌*◌, min, Some, None, true, false, List}
 use Rattle.std.specs.List.{All}
 use Rattle.ee_flash.specs.Device.{Device}
 use Rattle.ee_flash.specs.Size.{Size, header_words}
 use Rattle.ee_flash.specs.declared.word.Word.{Word}
 use Rattle.ee_pages.specs.Page.{is_blank}
-use Rattle.ee_pages.specs.Sets.{committed_generation, fill_of, first_page, live_of, page_of_slot, set_of, slots_of, word_of}
+use Rattle.ee_pages.specs.Sets.{committed_generation, fill_of, first_page, front, live_of, page_of_slot, set_of, slots_of, word_of}
 use Rattle.ee_pages.specs.Legal.{IsLive, fits, holds_slot, is_allowed_at, place_of}
 use Rattle.ee_pages.specs.declared.find.Layout.{Layout}
 use Rattle.ee_pages.specs.declared.find.ScanFault.{ScanFault}
@@ -34,6 +34,18 @@ pub record IsFirstForeign (size : Size) (generation : ℕ) (pages : List (List W
   pub pages_before : (k j : ℕ) → k < page → j < size.words
       → is_allowed_at size generation pages k j ≡ true
   pub places_before : (j : ℕ) → j < at → is_allowed_at size generation pages page j ≡ true
+
+-- the first word of a page of the set that may not stand in its place
+pub record IsForeignIn (size : Size) (generation : ℕ) (pages : List (List Word)) (page at : ℕ)
+    : Type 0 where
+  pub place_in_range : at < size.words
+  pub foreign : is_allowed_at size generation pages page at ≡ false
+  pub before : (j : ℕ) → j < at → is_allowed_at size generation pages page j ≡ true
+
+-- how many slots are used of those before a page of the set
+abbrev pub front_to : Device → Side → ℕ → ℕ
+front_to device side page =
+    min (page * (device.size.words - header_words)) (front (slots_of (set_of side device)))
 
 -- why a scan finds nothing; the first of these that applies
 abbrev pub IsScanFault : Device → ScanFault → Type 0

@@ -1,13 +1,13 @@
 //! The scan: where the live set of a legal image is and how far it is used, or why
 //! an image isn't legal.
 ghost use Rattle.std.specs.Bool.{MatchBool};
-ghost use Rattle.std.specs.Prelude.{◌≡◌, ◌≢◌, ◌<◌, ◌≤◌, ◌↔◌, ℕ, ◌+◌, ◌*◌, ◌-◌, IfErr, IfNone, IfOk, IfSome, IsTrue, None, OnOk, Some, false, is_ok, length, slice_index_or, true, List};
+ghost use Rattle.std.specs.Prelude.{◌≡◌, ◌≢◌, ◌<◌, ◌≤◌, ◌↔◌, ℕ, ◌+◌, ◌*◌, ◌-◌, IfErr, IfNone, IfOk, IfSome, IsTrue, None, OnOk, Some, false, is_ok, length, nat_eq, slice_index_or, true, List};
 ghost use Rattle.ee_codec.specs.Reading.{slot_of};
 ghost use Rattle.ee_codec.specs.Words.{IsGeneration};
 ghost use Rattle.ee_flash.specs.Device.{word_at};
 ghost use Rattle.ee_flash.specs.Runs.{AreReadings};
 ghost use Rattle.ee_flash.specs.Size.{header_words, page_count};
-ghost use Rattle.ee_pages.specs.Layout.{IsFirstForeign, IsLayout, IsScanFault, IsUnformatted, IsUsedTo};
+ghost use Rattle.ee_pages.specs.Layout.{IsFirstForeign, IsForeignIn, IsLayout, IsScanFault, IsUnformatted, IsUsedTo, front_to};
 ghost use Rattle.ee_pages.specs.Legal.{IsLegal, fits as may_stand, holds_slot, is_allowed_at, is_element, place_of as place};
 ghost use Rattle.ee_pages.specs.Page.{is_written as written};
 ghost use Rattle.ee_pages.specs.Sets.{front, live_of, page_of_slot, set_of, slots_of, word_of};
@@ -171,27 +171,15 @@ fn used_of_page<F: Flash>(
 ) -> Result<usize, usize>
     requires generation { IsGeneration generation }
     requires page_in_range { page < (F.device flash.now).size.pages }
-    requires before { let device = F.device flash.now in full ≡ true
-        → page * (device.size.words - header_words) ≤ front (slots_of (set_of side device)) }
-    requires behind { let device = F.device flash.now in full ≡ false
-        → front (slots_of (set_of side device)) < page * (device.size.words - header_words) }
-    ensures within { IfOk result (λ used. used ≤ (F.device flash.now).size.words - header_words) }
-    ensures used { let device = F.device flash.now in IfOk result (λ used. full ≡ true
-        → page * (device.size.words - header_words) + used
-        ≤ front (slots_of (set_of side device))) }
-    ensures front { let device = F.device flash.now in IfOk result
-        (λ used. full ≡ true → used < device.size.words - header_words
-        → front (slots_of (set_of side device))
-        ≡ page * (device.size.words - header_words) + used) }
-    ensures none { IfOk result (λ used. full ≡ false → used ≡ 0) }
+    requires full { let device = F.device flash.now in full
+        ≡ nat_eq (front_to device side page) (page * (device.size.words - header_words)) }
+    ensures used { let device = F.device flash.now in IfOk result
+        (λ used. front_to device side page + used ≡ front_to device side (page + 1)) }
     ensures allowed { let device =
         F.device flash.now in OnOk result ((j : ℕ) → j < device.size.words
         → is_allowed_at device.size generation (set_of side device) page j ≡ true) }
-    ensures place_in_range { IfErr result (λ at. at < (F.device flash.now).size.words) }
     ensures foreign { let device = F.device flash.now in IfErr result
-        (λ at. is_allowed_at device.size generation (set_of side device) page at ≡ false) }
-    ensures before { let device = F.device flash.now in IfErr result (λ at. (j : ℕ) → j < at
-        → is_allowed_at device.size generation (set_of side device) page j ≡ true) }
+        (IsForeignIn device.size generation (set_of side device) page) }
 {
     let from = unused_from(flash, side, generation, page, full)?;
     // From there on all have to be erased, the next slot first of all.

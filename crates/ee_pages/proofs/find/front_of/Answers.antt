@@ -1,11 +1,12 @@
 use Rattle.std.proofs.Common.{◌≡◌, inl, inr, ◌+◌, ◌-◌, ◌*◌, true, ap, arith, subst, ◌∙◌}
+use Rattle.std.proofs.Math.Nat.{min-eq_right}
 use Rattle.std.proofs.lemmas.Bool.{cases_lt}
 use Rattle.std.proofs.lemmas.List.Sums.{prefix_len-le-length}
 use Rattle.ee_flash.specs.Size.{Size, slot_count}
 use Rattle.ee_pages.specs.Legal.{is_allowed_at}
 use Rattle.ee_pages.specs.Page.{is_written}
 use Rattle.ee_pages.specs.Sets.{front, page_of_slot, set_of, slots_of}
-use Rattle.ee_pages.proofs.Passes.{last_then, most_then, reach_then, stopped_then}
+use Rattle.ee_pages.proofs.Passes.{last_then}
 use Rattle.ee_pages.proofs.Slots.{length-slots}
 use Rattle.ee_pages.proofs.find.front_of.Goals.{then-here-gt0, else-here-gt0}
 use Rattle.ee_pages.proofs.find.front_of.Goals as goal
@@ -15,24 +16,10 @@ loop-page-preserved g c =
     let device = g.F.Flash.device c.args.flash.now in
     let page = c.loop-page.page in
     let so_far = c.loop-page.invariant in
-    let written = front (slots_of (set_of c.args.side device)) in
     let here = c.in-Ok.ensures in
-    let same : c.words-slots.result - 4 ≡ device.size.words - 4 =
-    ap (λ n. n - 4)
-    (c.words-slots.ensures.value
-    ∙ ap (λ (size : Size). size.words) c.shape-shape.ensures) in
+    let next = ap (λ n. n + c.in-Ok.here) so_far.used ∙ here.used in
     record {
-      most = most_then device.size c.loop-page.used c.in-Ok.here page (c.words-slots.result - 4)
-          written same so_far.most so_far.reaches so_far.stopped here.within here.used here.front
-          here.none;
-      reaches =
-          reach_then device.size c.loop-page.used c.in-Ok.here page (c.words-slots.result - 4)
-          written same so_far.most so_far.reaches so_far.stopped here.within here.used
-          here.front here.none;
-      stopped =
-          stopped_then device.size c.loop-page.used c.in-Ok.here page (c.words-slots.result - 4)
-          written same so_far.most so_far.reaches so_far.stopped here.within here.used
-          here.front here.none;
+      used = next;
       allowed = λ k j h within. elim (cases_lt k page) [
         | inl less ↦ so_far.allowed k j less within
         | inr more ↦
@@ -43,9 +30,8 @@ loop-page-preserved g c =
       ];
       last = elim c.if-here-gt0.branch [
         | then-here-gt0 w ↦ w.last-is
-            ∙ last_then device.size c.loop-page.used c.in-Ok.here page (c.words-slots.result - 4)
-            written same so_far.most so_far.reaches so_far.stopped here.within here.used
-            here.front here.none w.if-here-gt0.true
+            ∙ last_then device.size c.loop-page.used c.in-Ok.here page
+            (front (slots_of (set_of c.args.side device))) so_far.used next w.if-here-gt0.true
         | else-here-gt0 w ↦
             let e : c.loop-page.used - 1 ≡ c.loop-page.used + c.in-Ok.here - 1 =
             omega (arith, w.if-here-gt0.false) in
@@ -67,8 +53,6 @@ pub returns-clause-front : goal.returns-clause-front
 returns-clause-front g c =
     let device = g.F.Flash.device c.args.flash.now in
     let slots = slots_of (set_of c.args.side device) in
-    let so_far = c.loop-page.invariant in
-    let count = length-slots c.args.side device (g.met.F.Flash.formed c.args.flash.now) in
     let end : c.loop-page.page ≡ device.size.pages =
     omega (
       arith,
@@ -79,8 +63,6 @@ returns-clause-front g c =
     ) in
     let rows : c.loop-page.page * (device.size.words - 4) ≡ slot_count device.size =
     ap (λ n. n * (device.size.words - 4)) end in
-    let most = prefix_len-le-length is_written slots in
-    elim (cases_lt c.loop-page.used (c.loop-page.page * (device.size.words - 4))) [
-      | inl less ↦ omega (arith, so_far.stopped less)
-      | inr past ↦ omega (arith, past, so_far.reaches, rows, most, count)
-    ]
+    let count = length-slots c.args.side device (g.met.F.Flash.formed c.args.flash.now) in
+    c.loop-page.invariant.used
+    ∙ min-eq_right {n = front slots} (omega (arith, rows, count, prefix_len-le-length is_written slots))

@@ -1,6 +1,6 @@
 use Rattle.std.proofs.Common.{◌+◌, ◌<◌, ◌≤◌, ap, arith}
 use Rattle.ee_flash.specs.Size.{Size}
-use Rattle.ee_pages.proofs.Passes.{all_allowed, none_allowed, used_reach, used_stop}
+use Rattle.ee_pages.proofs.Passes.{all_allowed, none_allowed, used_then}
 use Rattle.ee_pages.proofs.find.used_of_page.Goals as goal
 
 pub returns-then-written-words-clause-foreign : goal.returns-then-written-words-clause-foreign
@@ -15,37 +15,25 @@ returns-then-written-words-clause-foreign g c =
       c.words.ensures.value,
       ap (λ (size : Size). size.words) c.shape.ensures,
     ) in
-    none_allowed device c.args.side c.args.page (c.first_page.result + c.args.page)
-    (g.met.F.Flash.formed c.args.flash.now) c.requires.page_in_range
-    (ap (λ n. n + c.args.page) c.first_page.ensures)
-    c.args.full c.requires.before c.requires.behind c.args.generation c.in_ok-from.from
-    c.blank_to-written.result from.used from.none from.within blank.from blank.before short
-    (blank.end short)
-
-pub returns-then-written-words-clause-before : goal.returns-then-written-words-clause-before
-returns-then-written-words-clause-before g c =
-    let device = g.F.Flash.device c.args.flash.now in
-    let from = c.in_ok-from.ensures in
-    let blank = c.blank_to-written.ensures in
-    all_allowed device c.args.side c.args.page (c.first_page.result + c.args.page)
-    (g.met.F.Flash.formed c.args.flash.now) c.requires.page_in_range
-    (ap (λ n. n + c.args.page) c.first_page.ensures)
-    c.args.full c.requires.before c.requires.behind c.args.generation c.in_ok-from.from
-    c.blank_to-written.result from.used from.none from.within blank.from blank.before
+    record {
+      place_in_range = short;
+      foreign =
+          none_allowed device c.args.side c.args.page (c.first_page.result + c.args.page)
+          (g.met.F.Flash.formed c.args.flash.now) c.requires.page_in_range
+          (ap (λ n. n + c.args.page) c.first_page.ensures)
+          c.args.full c.requires.full c.args.generation c.in_ok-from.from
+          c.blank_to-written.result from.used from.none from.within blank.from blank.before short
+          (blank.end short);
+      before =
+          all_allowed device c.args.side c.args.page (c.first_page.result + c.args.page)
+          (g.met.F.Flash.formed c.args.flash.now) c.requires.page_in_range
+          (ap (λ n. n + c.args.page) c.first_page.ensures)
+          c.args.full c.requires.full c.args.generation c.in_ok-from.from
+          c.blank_to-written.result from.used from.none from.within blank.from blank.before;
+    }
 
 pub returns-clause-used : goal.returns-clause-used
-returns-clause-used g c = λ is.
-    let device = g.F.Flash.device c.args.flash.now in
-    let from = c.in_ok-from.ensures in
-    let blank = c.blank_to-written.ensures in
-    rw c.saturating_sub.ensures (used_reach device c.args.side c.args.page
-    (c.first_page.result + c.args.page) (g.met.F.Flash.formed c.args.flash.now)
-    c.requires.page_in_range (ap (λ n. n + c.args.page) c.first_page.ensures)
-    c.args.full c.requires.before c.requires.behind c.args.generation c.in_ok-from.from
-    c.blank_to-written.result from.used from.none from.within blank.from blank.before is)
-
-pub returns-clause-front : goal.returns-clause-front
-returns-clause-front g c = λ is few.
+returns-clause-used g c =
     let device = g.F.Flash.device c.args.flash.now in
     let from = c.in_ok-from.ensures in
     let blank = c.blank_to-written.ensures in
@@ -56,12 +44,11 @@ returns-clause-front g c = λ is few.
       c.words.ensures.value,
       ap (λ (size : Size). size.words) c.shape.ensures,
     ) in
-    rw c.saturating_sub.ensures (used_stop device c.args.side c.args.page
+    rw c.saturating_sub.ensures (used_then device c.args.side c.args.page
     (c.first_page.result + c.args.page) (g.met.F.Flash.formed c.args.flash.now)
     c.requires.page_in_range (ap (λ n. n + c.args.page) c.first_page.ensures)
-    c.args.full c.requires.before c.requires.behind c.args.generation c.in_ok-from.from
-    c.blank_to-written.result from.used from.none from.within blank.from blank.before is
-    (omega (arith, few, c.saturating_sub.ensures)) long)
+    c.args.full c.requires.full c.args.generation c.in_ok-from.from
+    c.blank_to-written.result from.used from.none from.within blank.from blank.before long)
 
 pub returns-clause-allowed : goal.returns-clause-allowed
 returns-clause-allowed g c = λ j h.
@@ -78,6 +65,6 @@ returns-clause-allowed g c = λ j h.
     all_allowed device c.args.side c.args.page (c.first_page.result + c.args.page)
     (g.met.F.Flash.formed c.args.flash.now) c.requires.page_in_range
     (ap (λ n. n + c.args.page) c.first_page.ensures)
-    c.args.full c.requires.before c.requires.behind c.args.generation c.in_ok-from.from
+    c.args.full c.requires.full c.args.generation c.in_ok-from.from
     c.blank_to-written.result from.used from.none from.within blank.from blank.before j
     (omega (arith, h, long))
