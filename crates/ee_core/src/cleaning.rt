@@ -7,7 +7,7 @@ ghost use Rattle.ee_pages.specs.Layout.{IsLayout};
 ghost use Rattle.ee_pages.specs.Page.{is_blank};
 ghost use Rattle.ee_pages.specs.Sets.{first_page as first_of, other as other_of, pending_of, set_of};
 ghost use Rattle.ee_core.specs.CallSteps.{ErasesPage};
-ghost use Rattle.ee_core.specs.Calls.{ErasesLowest, KeepsAllButLowest};
+ghost use Rattle.ee_core.specs.Calls.{CleansPage};
 ghost use Rattle.ee_core.specs.Finished.{IsMarked};
 ghost use Rattle.ee_core.specs.StepLists.{steps_of_clean};
 ghost use Rattle.ee_flash.specs.Taking.{Takes};
@@ -21,24 +21,10 @@ pub fn clean<F: Flash>(flash: &mut F, layout: &Layout) -> Result<bool, Cut>
     requires layout { IsLayout (F.device flash.old) layout.now }
     ensures keeps { KeepsLiveSet (F.device flash.old) (F.device flash.new)
         layout.now.side layout.now.generation }
-    ensures none { result ≡ Ok false
-        → (pending_of (set_of (other_of layout.now.side) (F.device flash.old)) ≡ 0)
-        × (F.device flash.new ≡ F.device flash.old) }
-    ensures one { result ≡ Ok true
-        → (pending_of (set_of (other_of layout.now.side) (F.device flash.new)) + 1
-        ≡ pending_of (set_of (other_of layout.now.side) (F.device flash.old))) }
-    ensures lowest { result ≡ Ok true → ErasesLowest (F.device flash.old) (F.device flash.new) }
+    ensures cleans { CleansPage result (F.device flash.old) (F.device flash.new)
+        layout.now.side }
     ensures marked { IsMarked (F.device flash.old) layout.now.side
         → OnOk result (IsMarked (F.device flash.new) layout.now.side) }
-    ensures some { OnErr result
-        (0 < pending_of (set_of (other_of layout.now.side) (F.device flash.old))) }
-    ensures cut { OnErr result
-        ((pending_of (set_of (other_of layout.now.side) (F.device flash.new))
-        ≡ pending_of (set_of (other_of layout.now.side) (F.device flash.old)))
-        ⊎ (pending_of (set_of (other_of layout.now.side) (F.device flash.new)) + 1
-        ≡ pending_of (set_of (other_of layout.now.side) (F.device flash.old)))) }
-    ensures others { OnErr result (IsOn (F.device flash.old)
-        → KeepsAllButLowest (F.device flash.old) (F.device flash.new)) }
     ensures steps { Takes result (steps_of_clean (F.device flash.old))
         (F.device flash.old) (F.device flash.new) }
     ensures power { Ends result (F.device flash.old) (F.device flash.new) }

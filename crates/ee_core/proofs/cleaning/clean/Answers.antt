@@ -14,17 +14,11 @@ use Rattle.ee_core.proofs.cleaning.clean.Goals as goal
 pub returns-in_default-clause-keeps : goal.returns-in_default-clause-keeps
 returns-in_default-clause-keeps g c = search (rules, keeps_same)
 
-pub returns-in_default-clause-none : goal.returns-in_default-clause-none
-returns-in_default-clause-none g c = search (rules, keeps_same, not_both_ok, goes_on_same)
-
-pub returns-in_default-clause-one : goal.returns-in_default-clause-one
-returns-in_default-clause-one g c = search (rules, keeps_same, not_both_ok, goes_on_same)
-
-pub returns-in_default-clause-lowest : goal.returns-in_default-clause-lowest
-returns-in_default-clause-lowest g c = search (rules, keeps_same, not_both_ok, goes_on_same)
+pub returns-in_default-clause-cleans : goal.returns-in_default-clause-cleans
+returns-in_default-clause-cleans g c = search rules
 
 pub returns-in_default-clause-marked : goal.returns-in_default-clause-marked
-returns-in_default-clause-marked g c = search (rules, keeps_same, not_both_ok, goes_on_same)
+returns-in_default-clause-marked g c = search rules
 
 pub returns-in_default-clause-power : goal.returns-in_default-clause-power
 returns-in_default-clause-power g c = search (rules, keeps_same, not_both_ok, goes_on_same)
@@ -55,19 +49,17 @@ returns g c =
     c.in_ok-erase_other.ensures.steps.done in
     record {
       keeps = kept_side_is_live old new layout.side layout.generation live left.keeps;
-      none = λ is. absurd (not_both_ok _ is refl);
-      one = λ is. left.one_less;
-      lowest =
-          λ is. erases_lowest old new layout.side c.other.result layout.generation c.in-Some.page
-          live.live c.other.ensures found.page found.not_blank found.lowest left.others
-          left.wear left.blank live
-          (kept_side_is_live old new layout.side layout.generation live left.keeps);
+      cleans = record {
+        one_less = left.one_less;
+        lowest =
+            erases_lowest old new layout.side c.other.result layout.generation c.in-Some.page
+            live.live c.other.ensures found.page found.not_blank found.lowest left.others
+            left.wear left.blank live
+            (kept_side_is_live old new layout.side layout.generation live left.keeps);
+      };
       marked =
           cleaned_marked layout.side c.in-Some.page old new live.formed left.keeps.same_size
           left.keeps.same_set left.others left.blank;
-      some = tt;
-      cut = tt;
-      others = tt;
       steps = takes_ok taken;
       power = ends_taken _ _ (takes_ok taken);
     }
@@ -90,18 +82,16 @@ returns-in_err-erase_other g c =
     record {
       keeps =
           kept_side_is_live old new layout.side layout.generation c.requires.layout.live cut.keeps;
-      none = λ is. absurd (not_ok is is_err.1);
-      one = λ is. absurd (not_ok is is_err.1);
-      lowest = λ is. absurd (not_ok is is_err.1);
+      cleans = rw is_err.1 (record {
+        some =
+            subst (λ (set : Side). 0 < pending_of (set_of set old)) c.other.ensures found.some;
+        left = cut.cut;
+        lowest =
+            λ on. keeps_all_but_lowest old new layout.side c.other.result layout.generation
+            c.in-Some.page c.requires.layout.live.live c.other.ensures found.page
+            found.not_blank found.lowest cut.others (cut.wear on) cut.partly;
+      });
       marked = λ marked. never_on_ok _ _ failed;
-      some = always_on_err c.from_residual.result
-          (subst (λ (set : Side). 0 < pending_of (set_of set old)) c.other.ensures found.some);
-      cut = always_on_err c.from_residual.result cut.cut;
-      others =
-          always_on_err c.from_residual.result
-          (λ on. keeps_all_but_lowest old new layout.side c.other.result layout.generation
-          c.in-Some.page c.requires.layout.live.live c.other.ensures found.page
-          found.not_blank found.lowest cut.others (cut.wear on) cut.partly);
       steps = steps;
       power = ends_taken _ _ steps;
     }

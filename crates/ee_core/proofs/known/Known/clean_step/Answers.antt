@@ -51,7 +51,7 @@ returns-in-Err-clause-cleans g c =
     record {
       cut = cut_taken steps;
       steps = steps;
-      some = omega (arith, ended.some, waited);
-      state_is = state_left old new layout.side layout.generation live ended.keeps ended.cut;
-      lowest = ended.others on;
+      some = omega (arith, ended.cleans.some, waited);
+      state_is = state_left old new layout.side layout.generation live ended.keeps ended.cleans.left;
+      lowest = ended.cleans.lowest on;
     }
