@@ -54,6 +54,7 @@ mod Premises
 mod Powered
 mod Startable
 mod Cuts
+mod OneMark
 mod CutMarks
 mod CutMoves
 mod MapMoves

@@ -1,14 +1,14 @@
 -- What a cut leaves, word for word, of a call that would leave a picture.
-use Rattle.std.specs.Prelude.{◌≡◌, ◌≢◌, ◌<◌, ◌≤◌, ◌⊎◌, ℕ, ◌+◌, ◌-◌, true, List, ◌++◌, length}
+use Rattle.std.specs.Prelude.{◌≡◌, ◌≢◌, ◌<◌, ◌≤◌, ◌⊎◌, ℕ, ◌+◌, ◌-◌, true, Result, OnErr, OnOk, List, ◌++◌, length}
 use Rattle.ee_flash.specs.Device.{Device, page_at, word_at}
 use Rattle.ee_flash.specs.Step.{IsPartlyErased}
 use Rattle.ee_flash.specs.declared.word.Word.{Word}
 use Rattle.ee_flash.specs.declared.word.Word.TheVariants.{Torn}
-use Rattle.ee_pages.specs.Page.{is_blank, place_of_mark}
+use Rattle.ee_pages.specs.Page.{is_blank, is_marked, place_of_mark}
 use Rattle.ee_pages.specs.declared.side.Side.{Side}
 use Rattle.ee_pages.specs.declared.state.Mark.{Mark}
 use Rattle.ee_pages.specs.Sets.{other, page_of_slot}
-use Rattle.ee_core.specs.CallSteps.{Holds, opened_set}
+use Rattle.ee_core.specs.CallSteps.{Holds, IsSameBut, KeepsMarks, SetsMark, Stays, opened_set}
 use Rattle.ee_core.specs.Picture.{IsDrawn, Picture, blank_picture, filled_set, is_used, marked_word, picture_of, retired_pages}
 use Rattle.ee_core.specs.State.{Wears, WearsTo, not_blank_from, not_blank_in}
 
@@ -83,3 +83,15 @@ abbrev pub SetsPartly : ℕ → Mark → Device → Device → Type 0
 SetsPartly page mark old new =
     PutsPartly page (place_of_mark mark) (marked_word mark (word_at old page (place_of_mark mark)))
     old new
+
+-- Setting a mark of this page ends so: beside the live set no page is changed but this one, and no
+-- mark is lost. It is set, or power was cut, and it wasn't set before.
+pub record MarksOnePage {T E : Type 0} (result : Result T E) (old new : Device) (side : Side)
+    (generation page : ℕ) (mark : Mark) : Type 0 where
+  pub stays : Stays old new side generation
+  pub others : IsSameBut page old new
+  pub marks : KeepsMarks old new
+  pub marked : OnOk result (is_marked new page mark ≡ true)
+  pub sets : OnOk result (SetsMark page mark old new)
+  pub begun : OnErr result (SetsPartly page mark old new)
+  pub fails : OnErr result (¬ (is_marked old page mark ≡ true))

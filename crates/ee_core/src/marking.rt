@@ -4,14 +4,14 @@ ghost use Rattle.std.specs.Prelude.{◌≡◌, ◌<◌, ◌≤◌, ◌+◌, ◌-
 ghost use Rattle.ee_flash.specs.Power.{Ends};
 ghost use Rattle.ee_flash.specs.Device.{page_at};
 ghost use Rattle.ee_pages.specs.Layout.{IsLayout};
-ghost use Rattle.ee_pages.specs.Page.{is_blank, is_marked};
+ghost use Rattle.ee_pages.specs.Page.{is_blank};
 ghost use Rattle.ee_pages.specs.Pushing.{IsMarkBehind};
 ghost use Rattle.ee_pages.specs.Laws.{IsPageOf};
 ghost use Rattle.ee_pages.specs.Sets.{first_page as first, other as other_of};
 ghost use Rattle.ee_core.specs.Finished.{IsLiveMarked, IsMarked, IsOldMarked, last_used};
-ghost use Rattle.ee_core.specs.Cuts.{IsDrawnPartly, SetsPartly};
+ghost use Rattle.ee_core.specs.Cuts.{IsDrawnPartly, MarksOnePage};
 ghost use Rattle.ee_core.specs.Openings.{ShowsCutMarks, ShowsMarks};
-ghost use Rattle.ee_core.specs.CallSteps.{IsSameBut, IsSameSet, KeepsMarks, SetsMark, Stays};
+ghost use Rattle.ee_core.specs.CallSteps.{IsSameSet, KeepsMarks, Stays};
 ghost use Rattle.ee_core.specs.Picture.{IsDrawn, marked_to, picture_of, retired_pages};
 ghost use Rattle.ee_core.specs.StepLists.{steps_to_finish, steps_to_mark, steps_to_mark_live, steps_to_retire};
 ghost use Rattle.ee_flash.specs.Taking.{Takes};
@@ -124,16 +124,10 @@ pub(crate) fn mark_live<F: Flash>(
     requires from { first (F.device flash.old).size layout.now.side ≤ page }
     requires behind { IsMarkBehind (F.device flash.old) layout.now.side
         (page - first (F.device flash.old).size layout.now.side) kind }
-    ensures stays { Stays (F.device flash.old)
-        (F.device flash.new) layout.now.side layout.now.generation }
-    ensures others { IsSameBut page (F.device flash.old) (F.device flash.new) }
-    ensures marks { KeepsMarks (F.device flash.old) (F.device flash.new) }
-    ensures marked { OnOk result (is_marked (F.device flash.new) page kind ≡ true) }
-    ensures sets { OnOk result (SetsMark page kind (F.device flash.old) (F.device flash.new)) }
-    ensures begun { OnErr result (SetsPartly page kind (F.device flash.old) (F.device flash.new)) }
+    ensures marks { MarksOnePage result (F.device flash.old) (F.device flash.new)
+        layout.now.side layout.now.generation page kind }
     ensures steps { Takes result (steps_to_mark (F.device flash.old) kind page)
         (F.device flash.old) (F.device flash.new) }
-    ensures fails { OnErr result (¬ (is_marked (F.device flash.old) page kind ≡ true)) }
 {
     mark(flash, page, kind)?;
     Ok(())
@@ -144,18 +138,10 @@ fn mark_old<F: Flash>(flash: &mut F, layout: &Layout, page: usize) -> Result<(),
     requires layout { IsLayout (F.device flash.old) layout.now }
     requires page { IsPageOf (F.device flash.old).size (other_of layout.now.side) page }
     requires not_blank { is_blank (page_at (F.device flash.old) page) ≡ false }
-    ensures stays { Stays (F.device flash.old)
-        (F.device flash.new) layout.now.side layout.now.generation }
-    ensures others { IsSameBut page (F.device flash.old) (F.device flash.new) }
-    ensures marks { KeepsMarks (F.device flash.old) (F.device flash.new) }
-    ensures marked { OnOk result (is_marked (F.device flash.new) page Mark.Erasing ≡ true) }
-    ensures sets { OnOk result
-        (SetsMark page Mark.Erasing (F.device flash.old) (F.device flash.new)) }
-    ensures begun { OnErr result
-        (SetsPartly page Mark.Erasing (F.device flash.old) (F.device flash.new)) }
+    ensures marks { MarksOnePage result (F.device flash.old) (F.device flash.new)
+        layout.now.side layout.now.generation page Mark.Erasing }
     ensures steps { Takes result (steps_to_mark (F.device flash.old) Mark.Erasing page)
         (F.device flash.old) (F.device flash.new) }
-    ensures fails { OnErr result (¬ (is_marked (F.device flash.old) page Mark.Erasing ≡ true)) }
 {
     mark(flash, page, Mark::Erasing)?;
     Ok(())

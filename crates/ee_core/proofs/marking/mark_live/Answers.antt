@@ -1,10 +1,8 @@
 use Rattle.ee_core.proofs.Words.{◌≡◌, ◌<◌, true}
 use Rattle.ee_core.proofs.Sets.{page_count, is_marked, marking}
-use Rattle.ee_core.proofs.AfterCalls.{never_on_ok, not_ok, same_but}
-use Rattle.ee_core.proofs.Drawings.{sets_mark}
-use Rattle.ee_core.proofs.Marks.{live_mark_stays, mark_keeps_marks, marked_after, marks, page_in_device, proper_live}
-use Rattle.ee_core.proofs.Cuts.{mark_partly}
-use Rattle.ee_core.proofs.Making.{always_on_err}
+use Rattle.ee_core.proofs.AfterCalls.{not_ok}
+use Rattle.ee_core.proofs.Marks.{live_mark_stays, marks, page_in_device, proper_live}
+use Rattle.ee_core.proofs.OneMark.{mark_cut, mark_set}
 use Rattle.ee_core.proofs.Taken.{completes_unless, stops_unless, takes_err, takes_ok}
 use Rattle.ee_core.proofs.marking.mark_live.Goals as goal
 
@@ -24,21 +22,15 @@ returns-in_err-mark g c =
     let unset : ¬ (is_marked old c.args.page c.args.kind ≡ true) =
     λ set. not_ok (c.mark.ensures.present set).0 c.in_err-mark.was in
     record {
-      stays =
-          live_mark_stays c.args.page c.args.kind old new layout.side layout.generation
-          c.requires.layout.live c.requires.from c.requires.behind left;
-      others = same_but c.args.page c.args.kind old new left;
-      marks = mark_keeps_marks c.args.page c.args.kind old new left;
-      marked = never_on_ok _ _ failed;
-      sets = never_on_ok _ _ failed;
-      begun =
-          always_on_err _
-          (mark_partly c.args.page c.args.kind old new formed h
-          (λ set. (c.mark.ensures.present set).1) c.in_err-mark.ensures.cut);
+      marks =
+          mark_cut c.args.page c.args.kind old new layout.side layout.generation formed h
+          (live_mark_stays c.args.page c.args.kind old new layout.side layout.generation
+          c.requires.layout.live c.requires.from c.requires.behind left) left
+          (λ set. (c.mark.ensures.present set).1) c.from_residual.result failed unset
+          c.in_err-mark.ensures.cut;
       steps = takes_err _ failed
           (stops_unless (is_marked old c.args.page c.args.kind) (marking c.args.page c.args.kind)
           unset c.in_err-mark.ensures.cut);
-      fails = always_on_err _ unset;
     }
 
 pub returns : goal.returns
@@ -57,19 +49,13 @@ returns g c =
     λ (set : is_marked old c.args.page c.args.kind ≡ true).
     (c.in_ok-mark.ensures.present set).1 in
     record {
-      stays =
-          live_mark_stays c.args.page c.args.kind old new layout.side layout.generation
-          c.requires.layout.live c.requires.from c.requires.behind left;
-      others = same_but c.args.page c.args.kind old new left;
-      marks = mark_keeps_marks c.args.page c.args.kind old new left;
-      marked =
-          marked_after c.args.page c.args.kind old new formed h proper same c.in_ok-mark.ensures.on
-          c.in_ok-mark.ensures.done;
-      sets = sets_mark c.args.page c.args.kind old new formed h same c.in_ok-mark.ensures.done;
-      begun = tt;
+      marks =
+          mark_set c.args.page c.args.kind old new layout.side layout.generation formed h
+          (live_mark_stays c.args.page c.args.kind old new layout.side layout.generation
+          c.requires.layout.live c.requires.from c.requires.behind left) left same
+          proper c.in_ok-mark.ensures.on c.in_ok-mark.ensures.done;
       steps = takes_ok
           (completes_unless (is_marked old c.args.page c.args.kind)
           (marking c.args.page c.args.kind) old same c.in_ok-mark.ensures.on
           c.in_ok-mark.ensures.done);
-      fails = tt;
     }

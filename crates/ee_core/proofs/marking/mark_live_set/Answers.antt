@@ -40,22 +40,22 @@ pages-preserved g c =
     record {
       stays =
           stays_both old mid new layout.side layout.generation c.pages.invariant.stays
-          c.mark_live.ensures.stays;
+          c.mark_live.ensures.marks.stays;
       valid =
           valid_more (first_page old.size layout.side) c.pages.page mid new from
-          c.pages.invariant.valid c.mark_live.ensures.marks c.in_ok-mark_live.ensures.marked;
+          c.pages.invariant.valid c.mark_live.ensures.marks.marks c.in_ok-mark_live.ensures.marks.marked;
       drawn =
           valid_next layout.side old c.first_page-first.result c.first_page-first.ensures mid new
           c.pages.page
           (g.met.F.Flash.formed c.pages.flash) c.pages.invariant.stays.keeps.same_size
-          c.mark_live.ensures.stays.keeps.same_size c.pages.auto.page behind
-          c.in_ok-mark_live.ensures.sets c.pages.invariant.drawn;
+          c.mark_live.ensures.marks.stays.keeps.same_size c.pages.auto.page behind
+          c.in_ok-mark_live.ensures.marks.sets c.pages.invariant.drawn;
       other =
           other_stays layout.side old c.first_page-first.result c.first_page-first.ensures mid new
           c.pages.page
           (g.met.F.Flash.formed c.pages.flash) (g.met.F.Flash.formed c.mark_live.new.flash)
-          c.pages.invariant.stays.keeps.same_size c.mark_live.ensures.stays.keeps.same_size
-          c.pages.auto.page behind c.mark_live.ensures.others c.pages.invariant.other;
+          c.pages.invariant.stays.keeps.same_size c.mark_live.ensures.marks.stays.keeps.same_size
+          c.pages.auto.page behind c.mark_live.ensures.marks.others c.pages.invariant.other;
       steps =
           each_next (mark_words Valid) (mark_below Valid) old mid new c.first_page-first.result
           c.pages.page c.pages.auto.page c.pages.invariant.steps c.in_ok-mark_live.ensures.steps.done;
@@ -105,27 +105,27 @@ returns-in_err-mark_live g c =
     let inside : k < mid.size.pages =
     omega (arith, before, last_in_range layout old c.requires, counted) in
     let unmarked : ¬ IsLiveMarked old layout.side =
-    λ marked. c.in_err-mark_live.ensures.fails
+    λ marked. c.in_err-mark_live.ensures.marks.fails
     (still_valid layout.side old mid c.first_page-first.result c.pages.page
     c.first_page-first.ensures marked c.pages.auto.page
     (omega (arith, last, c.first_page-first.ensures, c.pages-test.true)) c.pages.invariant.steps) in
     record {
-      stays = stays_both _ _ _ _ _ c.pages.invariant.stays c.mark_live.ensures.stays;
+      stays = stays_both _ _ _ _ _ c.pages.invariant.stays c.mark_live.ensures.marks.stays;
       marked = never_on_ok _ _ failed;
       live_pages = never_on_ok _ _ failed;
       old_pages = never_on_ok _ _ failed;
       begun = always_on_err _
           (valid_partly layout.side mid new k (last_used old layout.side)
           (picture_of layout.side old) (g.met.F.Flash.formed c.pages.flash)
-          c.mark_live.ensures.stays.keeps.same_size inside before
-          (subst (λ n. SetsPartly n Valid mid new) at c.in_err-mark_live.ensures.begun)
+          c.mark_live.ensures.marks.stays.keeps.same_size inside before
+          (subst (λ n. SetsPartly n Valid mid new) at c.in_err-mark_live.ensures.marks.begun)
           c.pages.invariant.drawn);
       old_pages_stay = always_on_err _
           (other_stays layout.side old c.first_page-first.result c.first_page-first.ensures mid new
           c.pages.page (g.met.F.Flash.formed c.pages.flash)
           (g.met.F.Flash.formed c.mark_live.new.flash)
-          sizes c.mark_live.ensures.stays.keeps.same_size c.pages.auto.page inside
-          c.mark_live.ensures.others c.pages.invariant.other);
+          sizes c.mark_live.ensures.marks.stays.keeps.same_size c.pages.auto.page inside
+          c.mark_live.ensures.marks.others c.pages.invariant.other);
       steps = takes_err _ failed
           (live_stops layout.side old mid new c.first_page-first.result c.pages.page
           (last_used old layout.side) c.first_page-first.ensures c.pages.auto.page
@@ -164,24 +164,24 @@ returns-in_err-mark_live-2 g c =
     (flat_map (steps_to_mark old Valid) (range_with_len c.first_page-first.result n)) old mid)
     reached c.pages.invariant.steps in
     let unmarked : ¬ IsLiveMarked old layout.side =
-    λ marked. c.in_err-mark_live-2.ensures.fails
+    λ marked. c.in_err-mark_live-2.ensures.marks.fails
     (still_active layout.side old mid c.first_page-first.result layout.current
     c.first_page-first.ensures marked (omega (arith, last, c.first_page-first.ensures)) so_far) in
     record {
-      stays = stays_both _ _ _ _ _ c.pages.invariant.stays c.mark_live-2.ensures.stays;
+      stays = stays_both _ _ _ _ _ c.pages.invariant.stays c.mark_live-2.ensures.marks.stays;
       marked = never_on_ok _ _ failed;
       live_pages = never_on_ok _ _ failed;
       old_pages = never_on_ok _ _ failed;
       begun = always_on_err _
           (active_partly layout.side mid new (last_used old layout.side)
           (picture_of layout.side old) (g.met.F.Flash.formed c.pages.flash)
-          c.mark_live-2.ensures.stays.keeps.same_size below
-          (subst (λ n. SetsPartly n Active mid new) at c.in_err-mark_live-2.ensures.begun) drawn);
+          c.mark_live-2.ensures.marks.stays.keeps.same_size below
+          (subst (λ n. SetsPartly n Active mid new) at c.in_err-mark_live-2.ensures.marks.begun) drawn);
       old_pages_stay = always_on_err _
           (other_stays layout.side old c.first_page-first.result c.first_page-first.ensures mid new
           layout.current (g.met.F.Flash.formed c.pages.flash)
           (g.met.F.Flash.formed c.mark_live-2.new.flash)
-          sizes c.mark_live-2.ensures.stays.keeps.same_size from behind c.mark_live-2.ensures.others
+          sizes c.mark_live-2.ensures.marks.stays.keeps.same_size from behind c.mark_live-2.ensures.marks.others
           c.pages.invariant.other);
       steps = takes_err _ failed
           (live_stops_then layout.side old mid new c.first_page-first.result layout.current
@@ -197,7 +197,7 @@ returns g c =
     let mid = g.F.Flash.device c.pages.flash in
     let new = g.F.Flash.device c.mark_live-2.new.flash in
     let layout = c.args.layout.now in
-    let done = c.in_ok-mark_live-2.ensures in
+    let done = c.in_ok-mark_live-2.ensures.marks in
     let sizes = c.pages.invariant.stays.keeps.same_size in
     let formed = g.met.F.Flash.formed c.pages.flash in
     let last = last_is layout old c.requires in
@@ -239,6 +239,6 @@ returns g c =
           (subst
           (λ n. Completes
           (flat_map (steps_to_mark old Valid) (range_with_len c.first_page-first.result n)) old mid)
-          reached c.pages.invariant.steps) done.steps.done);
+          reached c.pages.invariant.steps) c.in_ok-mark_live-2.ensures.steps.done);
       fails = tt;
     }

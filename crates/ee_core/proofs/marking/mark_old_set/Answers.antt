@@ -27,12 +27,12 @@ pages-preserved g c =
     c.pages-2.ensures.value ∙ ap (λ (size : Size). size.pages) c.shape.ensures in
     let step : MarksPage mid new side generation c.pages.page = elim c.if-not-is_blank.branch [
       | then-not-is_blank+in_ok-mark_old w ↦
-          let left = w.in_ok-mark_old.ensures in
+          let left = w.in_ok-mark_old.ensures.marks in
           rw w.flash-is
           (marks_one mid _ side generation c.pages.page
           (sym c.is_blank.ensures ∙ w.if-not-is_blank.true) left.stays left.marks
           left.others left.marked left.sets
-          left.steps.done)
+          w.in_ok-mark_old.ensures.steps.done)
       | else-not-is_blank w ↦ rw w.flash-is
           (marks_none mid side generation c.pages.page c.pages.invariant.stays.keeps.live
           (sym c.is_blank.ensures ∙ w.if-not-is_blank.false))
@@ -62,15 +62,15 @@ returns-in_err-mark_old g c =
     let formed = g.met.F.Flash.formed c.pages.flash in
     let written : is_blank (page_at mid c.pages.page) ≡ false =
     sym c.is_blank.ensures ∙ c.if-not-is_blank.true in
-    let left = c.mark_old.ensures in
+    let left = c.mark_old.ensures.marks in
     let unmarked : ¬ IsOldMarked old (other side) =
-    λ marked. c.in_err-mark_old.ensures.fails
+    λ marked. c.in_err-mark_old.ensures.marks.fails
     (retired_still side generation old _ _ first pages mid c.pages.page formed
     c.pages.auto.page c.pages-test.true c.pages.invariant written marked) in
     let cut =
     marked_cut side generation old _ _ first pages mid c.pages.page formed c.pages.auto.page
     c.pages-test.true c.pages.invariant new (g.met.F.Flash.formed c.mark_old.new.flash)
-    written left.stays left.others c.in_err-mark_old.ensures.begun in
+    written left.stays left.others c.in_err-mark_old.ensures.marks.begun in
     record {
       stays = stays_both old mid new side generation c.pages.invariant.stays left.stays;
       marks = λ page mark was. left.marks page mark (c.pages.invariant.marks page mark was);

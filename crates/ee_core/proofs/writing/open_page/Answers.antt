@@ -34,7 +34,7 @@ mark_live-requires-2-clause-behind g c =
     c.requires.free (g.F.Flash.device c.args.flash.now).size.words refl c.args.page
     c.requires.page c.if-page-layout.false in
     next_behind (g.F.Flash.device c.args.flash.now) c.args.layout.now c.requires.layout
-    c.requires.free _ refl turned.0 turned.1 _ c.mark_live.ensures.stays
+    c.requires.free _ refl turned.0 turned.1 _ c.mark_live.ensures.marks.stays
 
 pub returns-in_err-mark_live : goal.returns-in_err-mark_live
 returns-in_err-mark_live g c =
@@ -50,7 +50,7 @@ returns-in_err-mark_live g c =
     further old layout c.requires.layout c.requires.free _ refl turned.0 turned.1 in
     let last = last_is old layout c.requires.layout c.requires.free _ refl in
     let here : layout.current ≡ first_page old.size layout.side + k = c.requires.layout.current in
-    let first = c.mark_live.ensures in
+    let first = c.mark_live.ensures.marks in
     let failed = c.from_residual.ensures.0 in
     record {
       stays = first.stays;
@@ -67,7 +67,7 @@ returns-in_err-mark_live g c =
           first.stays.keeps.same_size
           (omega (arith, next, page_in_range old layout.fill c.requires.free))
           (λ page below. c.requires.marked.live.valid page (subst (λ n. page < n) last below))
-          (subst (λ n. SetsPartly n Valid old new) here c.in_err-mark_live.ensures.begun)));
+          (subst (λ n. SetsPartly n Valid old new) here c.in_err-mark_live.ensures.marks.begun)));
       steps = takes_err _ failed
           (turn_stops old layout.side layout.fill layout.current here next new
           c.in_err-mark_live.ensures.steps.cut);
@@ -90,8 +90,8 @@ returns-in_err-mark_live-2 g c =
     let here : layout.current ≡ first_page old.size layout.side + k = c.requires.layout.current in
     let there : layout.current + 1 ≡ first_page old.size layout.side + (k + 1) =
     omega (arith, here) in
-    let first = c.mark_live.ensures in
-    let second = c.mark_live-2.ensures in
+    let first = c.mark_live.ensures.marks in
+    let second = c.mark_live-2.ensures.marks in
     let same =
     first_other old layout c.requires.layout c.requires.free _ refl _ first.stays
     first.others in
@@ -112,8 +112,8 @@ returns-in_err-mark_live-2 g c =
           first.stays.keeps.live.formed first.stays.keeps.same_size second.stays.keeps.same_size
           (omega (arith, next, page_in_range old layout.fill c.requires.free))
           (λ page below. c.requires.marked.live.valid page (subst (λ n. page < n) last below))
-          (subst (λ n. SetsMark n Valid old mid) here c.in_ok-mark_live.ensures.sets)
-          (subst (λ n. SetsPartly n Active mid new) there c.in_err-mark_live-2.ensures.begun)));
+          (subst (λ n. SetsMark n Valid old mid) here c.in_ok-mark_live.ensures.marks.sets)
+          (subst (λ n. SetsPartly n Active mid new) there c.in_err-mark_live-2.ensures.marks.begun)));
       steps = takes_err _ failed
           (turn_stops_then old layout.side layout.fill layout.current here next mid new
           c.in_ok-mark_live.ensures.steps.done first.others
@@ -137,8 +137,8 @@ returns g c =
     let here : layout.current ≡ first_page old.size layout.side + k = c.requires.layout.current in
     let there : layout.current + 1 ≡ first_page old.size layout.side + (k + 1) =
     omega (arith, here) in
-    let first = c.mark_live.ensures in
-    let second = c.mark_live-2.ensures in
+    let first = c.mark_live.ensures.marks in
+    let second = c.mark_live-2.ensures.marks in
     let same =
     first_other old layout c.requires.layout c.requires.free _ refl _ first.stays
     first.others in
@@ -151,16 +151,16 @@ returns g c =
       ready =
           ready_now old layout c.requires.layout c.requires.free _ refl turned.0 turned.1 mid new
           (second.stays.keeps.same_size ∙ first.stays.keeps.same_size) c.requires.marked.live
-          first.marks second.marks c.in_ok-mark_live.ensures.marked
-          c.in_ok-mark_live-2.ensures.marked;
+          first.marks second.marks c.in_ok-mark_live.ensures.marks.marked
+          c.in_ok-mark_live-2.ensures.marks.marked;
       drawn =
           subst (λ n. IsDrawn layout.side new (marked_to n (picture_of layout.side old))) (sym next)
           (opens_next layout.side old mid new k c.requires.layout.live.formed
           first.stays.keeps.live.formed first.stays.keeps.same_size second.stays.keeps.same_size
           (omega (arith, next, page_in_range old layout.fill c.requires.free))
           (λ page below. c.requires.marked.live.valid page (subst (λ n. page < n) last below))
-          (subst (λ n. SetsMark n Valid old mid) here c.in_ok-mark_live.ensures.sets)
-          (subst (λ n. SetsMark n Active mid new) there c.in_ok-mark_live-2.ensures.sets));
+          (subst (λ n. SetsMark n Valid old mid) here c.in_ok-mark_live.ensures.marks.sets)
+          (subst (λ n. SetsMark n Active mid new) there c.in_ok-mark_live-2.ensures.marks.sets));
       begun = tt;
       steps = takes_ok
           (turn_done old layout.side layout.fill layout.current here next mid new
@@ -177,7 +177,7 @@ mark_live-requires-2-clause-from g c =
       arith,
       c.requires.layout.current,
       ap (λ (size : Size). first_page size c.args.layout.now.side)
-          c.mark_live.ensures.stays.keeps.same_size,
+          c.mark_live.ensures.marks.stays.keeps.same_size,
     )
 
 pub mark_live-requires-2-clause-layout : goal.mark_live-requires-2-clause-layout
