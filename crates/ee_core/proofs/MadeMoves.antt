@@ -1,5 +1,5 @@
 -- What a transfer that changes need makes of a store, by what it did to the sets.
-use Rattle.std.proofs.Common.{◌+◌, ap, arith, subst, List}
+use Rattle.std.proofs.Common.{ap, arith, subst, List}
 use Rattle.ee_flash.specs.Device.{Device, IsFormed}
 use Rattle.ee_flash.specs.Taking.{Completes, StopsAmong}
 use Rattle.ee_pages.specs.Layout.{IsLayout}

@@ -1,9 +1,8 @@
-use Rattle.ee_core.proofs.Words.{◌<◌, refl, subst, ◌∙◌, err_from_is_err_and, rules}
+use Rattle.ee_core.proofs.Words.{◌<◌, subst, ◌∙◌, err_from_is_err_and, rules}
 use Rattle.ee_core.proofs.Sets.{kept_side_is_live, pending_of, set_of, Side}
-use Rattle.ee_core.proofs.AfterCalls.{goes_on_same, never_on_ok, not_both_ok, not_ok}
+use Rattle.ee_core.proofs.AfterCalls.{goes_on_same, never_on_ok, not_both_ok}
 use Rattle.ee_core.proofs.LowestPending.{erases_lowest, keeps_all_but_lowest}
 use Rattle.ee_core.proofs.KeptMarks.{cleaned_marked}
-use Rattle.ee_core.proofs.Making.{always_on_err}
 use Rattle.ee_core.proofs.MovingFacts.{keeps_same}
 use Rattle.ee_core.proofs.ClearedPages.{clean_is, clean_none}
 use Rattle.ee_core.proofs.PublicSteps.{clean_of}
