@@ -81,7 +81,7 @@ coded_below payload bare =
     λ same. omega (arith, coded_ones payload bare, ap count_ones same, ones-ones 64) in
     omega (arith, fits, apart)
 
-own_payload : (size : Size) (payload number : ℕ) → payload ≡ payload_of_number size number
+pub own_payload : (size : Size) (payload number : ℕ) → payload ≡ payload_of_number size number
     → number_of_payload payload ≡ number → held_payload size (Some payload) ≡ Held number
 own_payload size payload number is back =
     let own = is ∙ ap (payload_of_number size) (sym back) in

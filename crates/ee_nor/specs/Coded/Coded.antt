@@ -16,10 +16,13 @@ use Rattle.ee_nor.specs.Coded.Laws.{HasOnes}
 abbrev pub is_slot_number : ℕ → Bool
 is_slot_number number = nat_lt (number % 2 ^ 32) (2 ^ 17) && nat_lt 0 (number % 2 ^ 16)
 
--- the payload of a shape's mark: its pages and its words, beside kind 1 and address 0, which no
--- other number has
+-- the value of a shape's mark: its pages and its words
+abbrev pub mark_value : Size → ℕ
+mark_value size = size.pages * 2 ^ 16 + size.words
+
+-- the mark's payload: beside its value kind 1 and address 0, which no other number has
 abbrev pub mark_payload : Size → ℕ
-mark_payload size = (size.pages * 2 ^ 16 + size.words) * 2 ^ 17 + 2 ^ 16
+mark_payload size = mark_value size * 2 ^ 17 + 2 ^ 16
 
 -- The payload of a number on a device of this shape. Of a slot's it is value, kind and address. A
 -- header's has address 0: the mark, of which both halves are the same, says the shape; of any other
