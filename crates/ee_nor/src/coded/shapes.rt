@@ -55,7 +55,7 @@ fn value_held<N: EccNor>(nor: &N) -> u32
     if named_second > 0 {
         return named_second;
     }
-    // Of each coded mark three ones or more are no ones of the plain one, so no cut of one makes it.
+    // Of each coded mark three ones or more are no ones of the plain one: no cut of one makes it.
     if named == 0 && (first == MARK || second == MARK) {
         0
     } else {

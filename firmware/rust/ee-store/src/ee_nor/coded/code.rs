@@ -2,8 +2,8 @@
 // SPDX-License-Identifier: MIT OR Apache-2.0
 //! A payload as a coded word, and back.
 
-/// Eight bits for each number of ones: seven for half of it, rounded up, of which each has a one that
-/// the next lacks, and two that each later one lacks; and its lowest bit.
+/// Eight bits for each number of ones: the row of half of it, rounded up, and its lowest bit. A row
+/// has a one that the next lacks, and two that each later one lacks.
 const WEIGHTS: [u8; 57] = [
     0xfe, 0xf7, 0xf6, 0xb7, 0xb6, 0x9f, 0x9e, 0xdb, 0xda, 0xeb, 0xea, 0x6f, 0x6e, 0x7d, 0x7c, 0x3d,
     0x3c, 0xb9, 0xb8, 0xf1, 0xf0, 0x73, 0x72, 0x57, 0x56, 0xc7, 0xc6, 0xcd, 0xcc, 0x8d, 0x8c, 0x95,
