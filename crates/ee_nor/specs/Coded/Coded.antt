@@ -6,9 +6,8 @@ use Rattle.ee_flash.specs.Numbers.{IsSlotNumber, header_half}
 use Rattle.ee_flash.specs.Size.{Size}
 use Rattle.ee_flash.specs.declared.word.Word.{Word}
 use Rattle.ee_flash.specs.declared.word.Word.TheVariants.{Erased, Held, Torn}
-use Rattle.ee_nor.specs.Coded.Code.{IsPayload, codeword, decoded}
+use Rattle.ee_nor.specs.Coded.Code.{HasOnes, IsPayload, codeword, decoded}
 use Rattle.ee_nor.specs.Coded.EccNor.{EccDevice, EccNumber, ecc_in, ecc_page}
-use Rattle.ee_nor.specs.Coded.Laws.{HasOnes}
 
 -- ---- numbers of a store
 

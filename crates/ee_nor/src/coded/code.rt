@@ -1,7 +1,8 @@
-//! A payload as a coded word, and back.
+//! The check of a payload, which is one number of 49 bits: a value of 32, below it a kind of one bit,
+//! below it an address of 16. In a coded word the check of 15 bits stands between the value and the
+//! kind, so all three can be read where they stand.
 ghost use Rattle.std.specs.Prelude.{◌≡◌, ◌<◌, ◌+◌, ◌*◌, ◌/◌, ◌%◌, ◌^◌};
-ghost use Rattle.ee_nor.specs.Coded.Code.{IsPayload, codeword, decoded, mixed_bits, weight_row};
-ghost use Rattle.ee_nor.specs.Coded.Laws.{EraseMakesNoNumber, ErasedIsNone, IsFarFromOthers, ReadsAsWritten, TornIsTold};
+ghost use Rattle.ee_nor.specs.Coded.Code.{codeword, mixed_bits, weight_row};
 
 /// Eight bits for each number of ones: the row of half of it, rounded up, and its lowest bit. A row
 /// has a one that the next lacks, and two that each later one lacks.
@@ -11,42 +12,6 @@ const WEIGHTS: [u8; 57] = [
     0x94, 0x93, 0x92, 0x1b, 0x1a, 0x59, 0x58, 0x69, 0x68, 0x65, 0x64, 0x27, 0x26, 0x07, 0x06, 0x43,
     0x42, 0xc1, 0xc0, 0xa1, 0xa0, 0x31, 0x30, 0x11, 0x10,
 ];
-
-/// The coded word of a payload, which is one number of 49 bits: a value of 32, below it a kind of
-/// one bit, below it an address of 16. The check of 15 bits stands between the value and the kind,
-/// so all three can be read where they stand.
-///
-/// Source: ours.
-pub fn encode(payload: u64) -> u64
-    requires { IsPayload payload }
-    ensures word { result ≡ codeword payload }
-    ensures none_is_near_another { IsFarFromOthers payload result }
-{
-    let value = (payload >> 17) as u32;
-    let low = (payload & 0x1_ffff) as u32;
-    u64::from(value) * 0x1_0000_0000 + u64::from(low_half(low, value))
-}
-
-/// The payload of a word. `None` of a word that isn't coded: it is torn or erased, or no store
-/// wrote it.
-///
-/// Source: ours.
-pub fn decode(word: u64) -> Option<u64>
-    ensures value { result ≡ decoded word }
-    ensures reads_as_written { ReadsAsWritten word result }
-    ensures torn_is_told { TornIsTold word result }
-    ensures erase_makes_no_number { EraseMakesNoNumber word result }
-    ensures erased_is_none { ErasedIsNone word result }
-{
-    let value = (word >> 32) as u32;
-    let low = (word & 0xffff_ffff) as u32;
-    let rest = low & 0x1_ffff;
-    if low_half(rest, value) == low {
-        Some(u64::from(value) * 0x2_0000 + u64::from(rest))
-    } else {
-        None
-    }
-}
 
 /// The low half of the word of a value and the 17 bits below it, which stand as they are in it.
 #[tactic(auto, using(crate::proofs::CodedLemmas::Spelling::few_ones, crate::proofs::CodedLemmas::Spelling::spelled, crate::proofs::CodedLemmas::Tables::row_small))]

@@ -1,8 +1,10 @@
 //! A number of a store as a coded word, and the word that a number of the flash is.
 ghost use Rattle.std.specs.Prelude.{◌≡◌, ◌<◌, ◌+◌, ◌*◌, ◌/◌, ◌%◌, ◌^◌, ◌==◌, ◌⊎◌, if◌then◌else◌, Some};
 ghost use Rattle.ee_flash.specs.Device.{all_ones};
+ghost use Rattle.ee_flash.specs.Size.{IsWithinLimits};
 ghost use Rattle.ee_flash.specs.declared.word.Word.TheVariants.{Erased, Torn};
 ghost use Rattle.ee_nor.specs.Coded.Coded.{coded_number as coded_number_of, held_payload, is_slot_number, mark_value as mark_value_of, payload_of_number, word_read};
+ghost use Rattle.ee_nor.specs.Coded.Laws.{IsFarFromOthers, IsTold};
 
 use crate::coded::code::low_half;
 use ee_flash::{Shape, Word};
@@ -18,7 +20,9 @@ pub(crate) const MARK: u64 = 0xAAAA_AAAA_AAAA_AAAA;
 ///
 /// Source: ours.
 pub fn coded_number(shape: Shape, number: u64) -> u64
-    ensures { result ≡ coded_number_of shape number }
+    ensures word { result ≡ coded_number_of shape number }
+    ensures none_is_near_another { IsWithinLimits shape
+        → IsFarFromOthers (payload_of_number shape number) result }
 {
     let (low, value) = payload_of(shape, number);
     u64::from(value) * 0x1_0000_0000 + u64::from(low_half(low, value))
@@ -30,7 +34,8 @@ pub fn coded_number(shape: Shape, number: u64) -> u64
 ///
 /// Source: ours.
 pub fn word_of_reading(shape: Shape, reading: Option<u64>) -> Word
-    ensures { result ≡ word_read shape reading }
+    ensures word { result ≡ word_read shape reading }
+    ensures told { IsTold shape reading result }
 {
     let Some(number) = reading else {
         return Word::Torn;
