@@ -53,18 +53,21 @@
  * cores of 32 bits write such a number with less code. */
 #define UNREAD UINT64_C(0x100000001)
 
-/* The mark of a store of plain words. */
-#define PLAIN_MARK UINT64_C(0xAAAAAAAAAAAAAAAA)
+/* The mark: what the header words that say active, valid and erasing hold once they are
+ * programmed. */
+#define MARK UINT64_C(0xAAAAAAAAAAAAAAAA)
 
-/* Seven bits for each half weight: a row has a one that the next lacks, and two that each later
- * one lacks. */
-static const uint8_t WEIGHT_ROWS[29] = {
-    0x7f, 0x7b, 0x5b, 0x4f, 0x6d, 0x75, 0x37, 0x3e, 0x1e, 0x5c, 0x78, 0x39, 0x2b, 0x63, 0x66, 0x46,
-    0x4a, 0x49, 0x0d, 0x2c, 0x34, 0x32, 0x13, 0x03, 0x21, 0x60, 0x50, 0x18, 0x08
+/* Eight bits for each number of ones: the row of half of it, rounded up, and its lowest bit. A row
+ * has a one that the next lacks, and two that each later one lacks. */
+static const uint8_t WEIGHTS[57] = {
+    0xfe, 0xf7, 0xf6, 0xb7, 0xb6, 0x9f, 0x9e, 0xdb, 0xda, 0xeb, 0xea, 0x6f, 0x6e, 0x7d, 0x7c, 0x3d,
+    0x3c, 0xb9, 0xb8, 0xf1, 0xf0, 0x73, 0x72, 0x57, 0x56, 0xc7, 0xc6, 0xcd, 0xcc, 0x8d, 0x8c, 0x95,
+    0x94, 0x93, 0x92, 0x1b, 0x1a, 0x59, 0x58, 0x69, 0x68, 0x65, 0x64, 0x27, 0x26, 0x07, 0x06, 0x43,
+    0x42, 0xc1, 0xc0, 0xa1, 0xa0, 0x31, 0x30, 0x11, 0x10
 };
 
 /* Both halves of the mark, and the high half of all that stands in a header. */
-#define HEADER_HALF UINT64_C(0xAAAAAAAA)
+#define HEADER_HALF UINT32_C(0xAAAAAAAA)
 
 /* How many addresses a span has at the most. */
 #define SPAN 16u
@@ -74,10 +77,6 @@ static const uint8_t WEIGHT_ROWS[29] = {
 
 /* The words of a page's header, below its slots. */
 #define HEADER_WORDS 4u
-
-/* The mark: what the header words that say active, valid and erasing hold once they are
- * programmed. */
-#define MARK UINT64_C(0xAAAAAAAAAAAAAAAA)
 
 /* What a receive word is without its generation. */
 #define RECEIVE UINT64_C(0xAAAAAAAA00000000)
@@ -599,32 +598,28 @@ static inline MaybeShape maybe_shape_none(void) {
     return (MaybeShape){ .some = false, .value = { .pages = 0u, .words = 0u } };
 }
 
-static inline MaybeOtherShape maybe_other_shape_some(OtherShape value) {
-    return (MaybeOtherShape){ .some = true, .value = value };
-}
-
 static inline MaybeOtherShape maybe_other_shape_none(void) {
     return (MaybeOtherShape){ .some = false, .value = { .pages = 0u, .words = 0u } };
+}
+
+static inline MaybeOtherShape maybe_other_shape_some(OtherShape value) {
+    return (MaybeOtherShape){ .some = true, .value = value };
 }
 
 static inline MaybeU64 maybe_u64_some(uint64_t value) {
     return (MaybeU64){ .some = true, .value = value };
 }
 
-static inline MaybeU64 maybe_u64_none(void) {
-    return (MaybeU64){ .some = false, .value = 0u };
-}
-
 static inline Word word_torn(void) {
     return (Word){ .tag = Word_Torn, .held = 0u };
 }
 
-static inline Word word_erased(void) {
-    return (Word){ .tag = Word_Erased, .held = 0u };
-}
-
 static inline Word word_held(uint64_t held) {
     return (Word){ .tag = Word_Held, .held = held };
+}
+
+static inline Word word_erased(void) {
+    return (Word){ .tag = Word_Erased, .held = 0u };
 }
 
 static inline MaybeSaidValue maybe_said_value_none(void) {
@@ -826,11 +821,17 @@ static inline uint16_t u16_wrapping_sub(uint16_t a, uint16_t b) {
     return (uint16_t)((uint32_t)a - b);
 }
 
-/* By hand. How many ones a number has: of each two bits, each four, each eight, and all. */
-EE_IN_PLACE uint32_t u32_count_ones(uint32_t number) {
-    const uint32_t twos = number - ((number >> 1u) & UINT32_C(0x55555555));
-    const uint32_t fours = (twos & UINT32_C(0x33333333)) + ((twos >> 2u) & UINT32_C(0x33333333));
-    return ((fours + (fours >> 4u)) & UINT32_C(0x0f0f0f0f)) * UINT32_C(0x01010101) >> 24u;
+/* By hand. How many ones a number has: of each two bits and each four of both halves, and of
+ * all. */
+EE_IN_PLACE uint32_t fours_of(uint32_t half) {
+    const uint32_t twos = half - ((half >> 1u) & UINT32_C(0x55555555));
+    return (twos & UINT32_C(0x33333333)) + ((twos >> 2u) & UINT32_C(0x33333333));
+}
+
+EE_IN_PLACE uint32_t u64_count_ones(uint64_t number) {
+    const uint32_t fours = fours_of((uint32_t)(number >> 32u)) + fours_of((uint32_t)number);
+    const uint32_t eights = (fours & UINT32_C(0x0f0f0f0f)) + ((fours >> 4u) & UINT32_C(0x0f0f0f0f));
+    return eights * UINT32_C(0x01010101) >> 24u;
 }
 
 /* By hand. The lesser of two numbers. */
@@ -910,7 +911,7 @@ static uint32_t keep(uint64_t *numbers_items, uint32_t numbers_len, uint32_t cou
 EE_APART void live_batch_new(LiveBatch *made);
 static void next_batch(const Device *flash, const Layout *layout, MaybeAddress after,
         LiveBatch *batch);
-static uint16_t batch_number_of(MaybeAddress after);
+static uint16_t number_of(MaybeAddress after);
 static void gather(const Device *flash, Side side, uint16_t above, Batch *nearest);
 static void gather_page(const Device *flash, Side side, uint32_t page, uint16_t above,
         Batch *nearest);
@@ -1178,22 +1179,20 @@ static MaybeIndex low_in_window(const uint64_t *numbers_items, uint32_t numbers_
         uint32_t count);
 static MaybeIndex low_read(const Numbers *nor, uint32_t page, uint32_t from, uint32_t count);
 static bool is_low(uint64_t number, uint64_t check);
-static uint64_t encode(uint64_t payload);
-EE_IN_PLACE MaybeU64 decode(uint64_t word);
-static uint32_t low_half(uint32_t value, uint32_t low);
+static uint32_t low_half(uint32_t low, uint32_t value);
 static uint32_t parity_bits(uint32_t value, uint32_t low);
-static uint32_t weight_row_of(uint32_t half_weight);
+static uint32_t weight_of(uint32_t ones);
 static uint64_t words_coded_number(Shape shape, uint64_t number);
 static Word word_of_reading(Shape shape, MaybeU64 reading);
+static Word erased_or_torn(uint64_t number);
 static uint64_t without_check(uint64_t number);
-static Word word_of_payload(Shape shape, uint64_t payload);
-EE_IN_PLACE uint64_t payload_of(Shape shape, uint64_t number);
-static uint64_t mark_payload(Shape shape);
-static uint64_t words_number_of(uint64_t payload);
+static Word header_word(Shape shape, uint32_t low, uint32_t value);
+EE_IN_PLACE U32AndU32 payload_of(Shape shape, uint64_t number);
+static bool is_slot_half(uint32_t low);
+static uint32_t mark_value(Shape shape);
 EE_IN_PLACE MaybeOtherShape other_shape(const EccNumbers *nor);
-static bool holds_plain_words(const EccNumbers *nor);
-static MaybeOtherShape shape_named(const EccNumbers *nor);
-EE_APART MaybeOtherShape other_named(const EccNumbers *nor, uint32_t page);
+EE_APART uint32_t value_held(const EccNumbers *nor);
+static uint32_t value_named(uint64_t number);
 EE_IN_PLACE MaybeShape shape_of_mark(uint64_t number);
 static uint64_t coded_number(const EccNumbers *self, uint64_t reading);
 static uint64_t coded_in_clear(const EccNumbers *self, uint64_t reading);
@@ -2208,13 +2207,13 @@ EE_APART void live_batch_new(LiveBatch *made) {
 static void next_batch(const Device *flash, const Layout *layout, MaybeAddress after,
         LiveBatch *batch) {
     batch_take_out(&batch->found);
-    gather(flash, layout->side, batch_number_of(after), &batch->found);
+    gather(flash, layout->side, number_of(after), &batch->found);
     batch->through = batch_last_if_full(&batch->found);
     batch_keep_living(&batch->found);
 }
 
 /* The number above which a batch begins. */
-static uint16_t batch_number_of(MaybeAddress after) {
+static uint16_t number_of(MaybeAddress after) {
     if (!after.some) {
         return 0u;
     }
@@ -4737,32 +4736,11 @@ static bool is_low(uint64_t number, uint64_t check) {
 
 /* ---- coded/code.rs: A payload as a coded word, and back. */
 
-/* The coded word of a payload, which is one number of 49 bits: a value of 32, below it a kind of
- * one bit, below it an address of 16. The check of 15 bits stands between the value and the kind,
- * so all three can be read where they stand. */
-static uint64_t encode(uint64_t payload) {
-    const uint32_t value = (uint32_t)(payload >> 17u);
-    const uint32_t low = (uint32_t)(payload & UINT64_C(0x1FFFF));
-    return (uint64_t)value * UINT64_C(0x100000000) + (uint64_t)low_half(value, low);
-}
-
-/* The payload of a word. `None` of a word that isn't coded: it is torn or erased, or no store
- * wrote it. */
-EE_IN_PLACE MaybeU64 decode(uint64_t word) {
-    const uint32_t value = (uint32_t)(word >> 32u);
-    const uint32_t low = (uint32_t)(word & UINT64_C(0xFFFFFFFF));
-    const uint32_t rest = low & UINT32_C(0x1FFFF);
-    if (low_half(value, rest) == low) {
-        return maybe_u64_some((uint64_t)value * UINT64_C(0x20000) + (uint64_t)rest);
-    }
-    return maybe_u64_none();
-}
-
-/* The low half of the word of a value and the 17 bits below it. */
-static uint32_t low_half(uint32_t value, uint32_t low) {
+/* The low half of the word of a value and the 17 bits below it, which stand as they are in it. */
+static uint32_t low_half(uint32_t low, uint32_t value) {
     const uint32_t rest = parity_bits(value, low) * UINT32_C(0x20000) + low;
-    const uint32_t ones = u32_count_ones(value) + u32_count_ones(rest);
-    return weight_row_of((ones + 1u) / 2u) * UINT32_C(0x2000000) + ones % 2u * UINT32_C(0x1000000) + rest;
+    const uint32_t ones = u64_count_ones((uint64_t)value * UINT64_C(0x100000000) + (uint64_t)rest);
+    return weight_of(ones) * UINT32_C(0x1000000) + rest;
 }
 
 /* Seven bits of parity: each bit of the payload alone turns others of them, and two or more. */
@@ -4775,9 +4753,9 @@ static uint32_t parity_bits(uint32_t value, uint32_t low) {
     return (mixed_5 >> 21u) & 127u;
 }
 
-/* The row of a half weight. */
-static uint32_t weight_row_of(uint32_t half_weight) {
-    return (uint32_t)WEIGHT_ROWS[(uint32_t)half_weight];
+/* The row of half a number of ones, rounded up, and the number's lowest bit. */
+static uint32_t weight_of(uint32_t ones) {
+    return (uint32_t)WEIGHTS[(uint32_t)ones];
 }
 
 /* ---- coded/words.rs: A number of a store as a coded word, and the word that a number of the
@@ -4786,7 +4764,10 @@ static uint32_t weight_row_of(uint32_t half_weight) {
 /* The coded word of a number on a device of this shape: of a number that a store writes, else of
  * some other. The mark says the shape. */
 static uint64_t words_coded_number(Shape shape, uint64_t number) {
-    return encode(payload_of(shape, number));
+    const U32AndU32 low_and_value = payload_of(shape, number);
+    const uint32_t low = low_and_value.first;
+    const uint32_t value = low_and_value.second;
+    return (uint64_t)value * UINT64_C(0x100000000) + (uint64_t)low_half(low, value);
 }
 
 /* The word that a reading is on a device of this shape: torn where there is none, erased where it
@@ -4797,60 +4778,67 @@ static Word word_of_reading(Shape shape, MaybeU64 reading) {
         return word_torn();
     }
     const uint64_t number = reading.value;
+    const uint32_t value = (uint32_t)(number >> 32u);
+    const uint32_t low = (uint32_t)(number & UINT64_C(0xFFFFFFFF));
+    const uint32_t rest = low & UINT32_C(0x1FFFF);
+    if (low_half(rest, value) != low) {
+        return erased_or_torn(number);
+    }
+    /* A slot's number stands in its word as it is, so nothing more is asked of it. */
+    if ((rest & 0xFFFFu) > 0u) {
+        return word_held(without_check(number));
+    }
+    return header_word(shape, rest, value);
+}
+
+/* The word of a number that isn't coded. */
+static Word erased_or_torn(uint64_t number) {
     if (number == UINT64_MAX) {
         return word_erased();
-    }
-    const MaybeU64 maybe_decode = decode(number);
-    if (maybe_decode.some) {
-        const uint64_t payload = maybe_decode.value;
-        return word_of_payload(shape, payload);
     }
     return word_torn();
 }
 
 /* A number of the flash with zeros where a coded word has its check. */
 static uint64_t without_check(uint64_t number) {
-    return (number >> 32u) * UINT64_C(0x100000000) + (number & UINT64_C(0x1FFFF));
+    return number - (number & UINT64_C(0xFFFFFFFF)) + (number & UINT64_C(0x1FFFF));
 }
 
-/* The word of a payload: held where it is a number's. */
-static Word word_of_payload(Shape shape, uint64_t payload) {
-    const uint64_t number = words_number_of(payload);
-    if (payload_of(shape, number) == payload) {
-        return word_held(number);
+/* The word of a payload with no address, which is a value and the 17 bits below it: held where it
+ * is a number's. */
+static Word header_word(Shape shape, uint32_t low, uint32_t value) {
+    if (low > 0u) {
+        if (value == mark_value(shape)) {
+            return word_held(MARK);
+        }
+        return word_torn();
     }
-    return word_torn();
+    if (is_slot_half(value) || value == HEADER_HALF) {
+        return word_torn();
+    }
+    return word_held((uint64_t)HEADER_HALF * UINT64_C(0x100000000) + (uint64_t)value);
 }
 
-/* The payload of a number. */
-EE_IN_PLACE uint64_t payload_of(Shape shape, uint64_t number) {
-    const uint64_t value = number >> 32u;
-    const uint64_t low = number & UINT64_C(0xFFFFFFFF);
-    if (low < UINT64_C(0x20000) && (low & 0xFFFFu) > 0u) {
-        return value * UINT64_C(0x20000) + low;
+/* The payload of a number: the 17 bits below its value, and the value. */
+EE_IN_PLACE U32AndU32 payload_of(Shape shape, uint64_t number) {
+    const uint32_t low = (uint32_t)(number & UINT64_C(0xFFFFFFFF));
+    if (is_slot_half(low)) {
+        return (U32AndU32){ .first = low, .second = (uint32_t)(number >> 32u) };
     }
     if (low == HEADER_HALF) {
-        return mark_payload(shape);
+        return (U32AndU32){ .first = UINT32_C(0x10000), .second = mark_value(shape) };
     }
-    return low * UINT64_C(0x20000);
+    return (U32AndU32){ .first = 0u, .second = low };
 }
 
-/* The payload of the mark. */
-static uint64_t mark_payload(Shape shape) {
-    return ((uint64_t)shape.pages * UINT64_C(0x10000) + (uint64_t)shape.words) * UINT64_C(0x20000) + UINT64_C(0x10000);
+/* Whether a number is a slot's, by its low half. */
+static bool is_slot_half(uint32_t low) {
+    return low < UINT32_C(0x20000) && (low & 0xFFFFu) > 0u;
 }
 
-/* The number that a payload is of, if it is of any. */
-static uint64_t words_number_of(uint64_t payload) {
-    const uint64_t value = payload >> 17u;
-    const uint64_t low = payload & UINT64_C(0x1FFFF);
-    if (low == 0u) {
-        return HEADER_HALF * UINT64_C(0x100000000) + value;
-    }
-    if (low == UINT64_C(0x10000)) {
-        return HEADER_HALF * UINT64_C(0x100000000) + HEADER_HALF;
-    }
-    return value * UINT64_C(0x100000000) + low;
+/* The value of the mark. */
+static uint32_t mark_value(Shape shape) {
+    return (uint32_t)shape.pages * UINT32_C(0x10000) + (uint32_t)shape.words;
 }
 
 /* ---- coded/shapes.rs: The store that a flash holds, where it is none of coded words of the
@@ -4858,68 +4846,54 @@ static uint64_t words_number_of(uint64_t payload) {
 
 /* The other shape of the store that a flash holds. */
 EE_IN_PLACE MaybeOtherShape other_shape(const EccNumbers *nor) {
-    const MaybeOtherShape maybe_named = shape_named(nor);
-    if (maybe_named.some) {
-        return maybe_other_shape_some(maybe_named.value);
+    const uint32_t held = value_held(nor);
+    if (held == mark_value(nor->shape)) {
+        return maybe_other_shape_none();
     }
-    if (holds_plain_words(nor)) {
-        return maybe_other_shape_some((OtherShape){ .pages = 0u, .words = 0u });
-    }
-    return maybe_other_shape_none();
+    return maybe_other_shape_some((OtherShape){ .pages = (uint32_t)(held >> 16u),
+            .words = (uint32_t)(held & 0xFFFFu) });
 }
 
-/* Whether the flash holds a store of plain words. Of each coded mark three ones or more are no
- * ones of the plain one, so no cut of one makes it. */
-static bool holds_plain_words(const EccNumbers *nor) {
-    const uint64_t own = words_coded_number(nor->shape, PLAIN_MARK);
+/* The value of the mark of the other store that a flash holds, 0 of one of plain words, whose mark
+ * has none; the value of the device's own where it holds no other. */
+EE_APART uint32_t value_held(const EccNumbers *nor) {
+    const uint32_t own = mark_value(nor->shape);
     const MaybeU64 maybe_read = ecc_numbers_read(nor, 0u, 1u);
     const uint64_t first = maybe_read.some ? maybe_read.value : 0u;
     const MaybeU64 maybe_read_2 = ecc_numbers_read(nor, nor->shape.pages, 1u);
     const uint64_t second = maybe_read_2.some ? maybe_read_2.value : 0u;
-    return (first == PLAIN_MARK || second == PLAIN_MARK) && first != own && second != own;
+    const uint32_t named = value_named(first);
+    const uint32_t named_second = value_named(second);
+    if (named > 0u && named != own) {
+        return named;
+    }
+    if (named_second > 0u) {
+        return named_second;
+    }
+    /* Of each coded mark three ones or more are no ones of the plain one: no cut of one makes
+     * it. */
+    if (named == 0u && (first == MARK || second == MARK)) {
+        return 0u;
+    }
+    return own;
 }
 
-/* The other shape that the first page of a set names. */
-static MaybeOtherShape shape_named(const EccNumbers *nor) {
-    const MaybeOtherShape maybe_other_named = other_named(nor, 0u);
-    if (maybe_other_named.some) {
-        return maybe_other_shape_some(maybe_other_named.value);
+/* The value of the mark that a number of the flash is, 0 where it is none. */
+static uint32_t value_named(uint64_t number) {
+    const MaybeShape maybe_shape_of_mark = shape_of_mark(number);
+    if (maybe_shape_of_mark.some) {
+        const Shape shape = maybe_shape_of_mark.value;
+        return mark_value(shape);
     }
-    return other_named(nor, nor->shape.pages);
-}
-
-/* The other shape whose mark stands in word 1 of a page. */
-EE_APART MaybeOtherShape other_named(const EccNumbers *nor, uint32_t page) {
-    const MaybeU64 maybe_number = ecc_numbers_read(nor, page, 1u);
-    if (!maybe_number.some) {
-        return maybe_other_shape_none();
-    }
-    const uint64_t number = maybe_number.value;
-    const MaybeShape maybe_named = shape_of_mark(number);
-    if (!maybe_named.some) {
-        return maybe_other_shape_none();
-    }
-    const Shape named = maybe_named.value;
-    const Shape shape = nor->shape;
-    const uint32_t pages = named.pages;
-    const uint32_t words = named.words;
-    if (pages == shape.pages && words == shape.words) {
-        return maybe_other_shape_none();
-    }
-    return maybe_other_shape_some((OtherShape){ .pages = pages, .words = words });
+    return 0u;
 }
 
 /* The shape whose mark a number of the flash is. */
 EE_IN_PLACE MaybeShape shape_of_mark(uint64_t number) {
-    const MaybeU64 maybe_payload = decode(number);
-    if (!maybe_payload.some) {
+    const uint32_t value = (uint32_t)(number >> 32u);
+    if ((uint64_t)low_half(UINT32_C(0x10000), value) != (number & UINT64_C(0xFFFFFFFF))) {
         return maybe_shape_none();
     }
-    const uint64_t payload = maybe_payload.value;
-    if ((payload & UINT64_C(0x1FFFF)) != UINT64_C(0x10000)) {
-        return maybe_shape_none();
-    }
-    const uint64_t value = payload >> 17u;
     return shape_new((uint32_t)(value >> 16u), (uint32_t)(value & 0xFFFFu));
 }
 

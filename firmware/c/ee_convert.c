@@ -64,7 +64,9 @@ static ee_result converted(const ee_flash *flash) {
     if (status == EE_OK) status = cleaned(&old);
     if (status != EE_OK) return status;
     /* The other set is blank, and the live one has a generation in its first word. */
-    if (ee_word_of(&words, 0, 0, &first) != EE_OK || first != UINT64_MAX) set.first = flash->pages;
+    status = ee_word_of(&words, 0, 0, &first);
+    if (status != EE_OK && status != EE_TORN) return status;
+    if (status == EE_TORN || first != UINT64_MAX) set.first = flash->pages;
     coded.context = &set, coded.word = half_word, coded.program = half_program, coded.erase = half_erase, coded.words = 0;
     status = ee_format(&made, &coded);
     if (status == EE_OK) status = copied(&old, &made);

@@ -20,7 +20,7 @@ static ee_result read_head(const ee_store *store, ee_record record, uint32_t *he
 static uint32_t length_in(uint32_t head) { return head & 0xffff; }
 
 /* How many words a record of so many bytes has. */
-static uint32_t words_with(uint32_t length) { return FIRST_OF_BYTES + (length + 3) / 4; }
+static uint32_t words_with(uint32_t length) { return (4 * FIRST_OF_BYTES + length + 3) / 4; }
 
 /* The turn of a word, 0 or 1, by the bits of a head. */
 static uint32_t turn_in(uint32_t turns, uint32_t word) { return turns >> (16 + word % 16) & 1; }

@@ -2,7 +2,9 @@ pub mod Bits
 pub mod Tables
 pub mod Near
 pub mod Spelling
+pub mod Weights
 pub mod Numbers
+pub mod Payloads
 pub mod Marks
 pub mod Steps
 pub mod CodeRuns

@@ -240,8 +240,8 @@ class Inference(Patterns):
             return it.e.ty
         if of_type.name in ("slice", "array") and name == "first":
             return Type("Option", [Type("ref", [of_type.args[0]])])
-        if of_type.name == "u32" and name == "count_ones":
-            return of_type
+        if of_type.name == "u64" and name == "count_ones":
+            return Type("u32")
         if of_type.name in ("u16", "u32") and name == "wrapping_sub" or (
                 of_type.name == "u32" and name == "wrapping_add") or (
                 of_type.name == "usize" and name in ("saturating_sub", "min")):

@@ -21,7 +21,7 @@ DEVICE = {f"{owner}_{name}": name for owner in ("device", "numbers", "ecc_number
           for name in ("word", "run", "number", "in_clear", "read", "window", "program", "erase", "is_on")}
 OWN = {"u32_saturating_sub": "saturating_sub", "u32_wrapping_sub": "wrapping_sub",
        "u32_wrapping_add": "wrapping_add", "u16_wrapping_sub": "wrapping_sub", "u32_least": "min",
-       "u32_count_ones": "count_ones",
+       "u64_count_ones": "count_ones",
        "copy_within": "copy_within", "get": "get"}
 # Methods that give a field, where they have no argument.
 FIELDS = {"shape", "pages", "words", "get", "len", "count"}

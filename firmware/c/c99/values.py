@@ -251,7 +251,7 @@ class Values(Cases):
         if it.name in ("iter", "iter_mut", "enumerate"):
             return self.value(it.e)
         if it.name in OWN:
-            name = f"{known(it.ty).name}_{OWN[it.name]}"
+            name = f"{known(it.e.ty).name}_{OWN[it.name]}"
             name = name.replace("usize", "u32")
             args = ", ".join(self.value(part).text for part in (it.e, *it.args))
             return Piece(f"{name}({args})")

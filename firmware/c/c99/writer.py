@@ -22,7 +22,7 @@ RESERVED = {"open", "remove", "read", "write", "close", "start", "format", "mark
 INLINE = {"state_is_blank": "always", "is_erased": "never", "fill_from_window": "never",
           "known_move_value": "always", "store_write": "never", "store_write_several": "never",
           "next_shown": "always", "index_cursor_next": "always", "lent_cursor_next": "always",
-          "said_by": "always", "payload_of": "always", "other_named": "never", "other_shape": "always"}
+          "said_by": "always", "payload_of": "always", "value_held": "never", "other_shape": "always"}
 # The sources' marks of where a function's code stands, in C.
 MARKS = {"always": "EE_IN_PLACE", "never": "EE_APART", None: "static"}
 LOOPS = {"for", "while", "whilelet", "loop"}

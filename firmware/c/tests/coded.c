@@ -157,12 +157,12 @@ static void of_words(void) {
         for (uint64_t calls = any_bits() % 3; calls > 0; calls--) CHECK(ee_clean(&store) <= EE_NOTHING);
         flash.kind = EE_CODED;
         CHECK(refused(flash, 0, 0) == 1);
-        for (unsigned long read = 1; read <= 5; read++) {
+        for (unsigned long read = 1; read <= 3; read++) {
             uint32_t found[2];
             p.fails_in = p.read + read;
-            CHECK(ee_open(&store, &flash) == (read <= 4 ? EE_DRIVER : EE_OTHER_SHAPE));
+            CHECK(ee_open(&store, &flash) == (read <= 2 ? EE_DRIVER : EE_OTHER_SHAPE));
             p.fails_in = p.read + read;
-            CHECK(ee_other_shape(&flash, &found[0], &found[1]) == (read <= 4 ? EE_DRIVER : EE_OK));
+            CHECK(ee_other_shape(&flash, &found[0], &found[1]) == (read <= 2 ? EE_DRIVER : EE_OK));
             p.fails_in = p.failed = 0;
         }
         for (int i = 0; i < 3; i++) {

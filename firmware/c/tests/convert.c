@@ -1,5 +1,5 @@
 /* A store of words becomes one of coded words, over flash with error correction: power is cut in each step of that, in each way, and
- * again and again at random, and each time all values are there; then the store is used, with cuts. */
+ * again and again at random, or a read fails, and each time all values are there; then the store is used, with cuts. */
 #include "../ee_convert.c"
 #include "../sim/sim_ecc.c"
 
@@ -97,6 +97,29 @@ static int cut_in(uint32_t step, sim_ecc_tear tear, uint32_t more) {
     return was_cut;
 }
 
+static uint32_t read_that_fails, (*word_of_part)(void *, uint32_t, uint32_t, uint64_t *);
+
+static uint32_t word_or_failure(void *context, uint32_t page, uint32_t place, uint64_t *value) {
+    if (read_that_fails != 0 && --read_that_fails == 0) return 77;
+    return word_of_part(context, page, place, value);
+}
+
+/* Each read of a conversion fails in turn: it ends there, and one that follows goes on. */
+static uint32_t fail_in_reads(void) {
+    const sim_ecc before = part;
+    for (uint32_t read = 1;; read++) {
+        part = before, word_of_part = coded.word;
+        coded.word = word_or_failure, read_that_fails = read;
+        const ee_result status = ee_convert(&store, &coded);
+        const int failed = read_that_fails == 0;
+        coded.word = word_of_part, read_that_fails = 0;
+        CHECK(status == (failed ? EE_DRIVER : EE_OK) && (!failed || ee_clean(&store) == EE_NOT_OPEN));
+        CHECK(ee_convert(&store, &coded) == EE_OK);
+        check_converted();
+        if (!failed) return read - 1;
+    }
+}
+
 /* The store goes on, with cuts. */
 static void use(sim_ecc_tear tear) {
     for (int call = 0; call < 60; call++) {
@@ -119,10 +142,12 @@ static void use(sim_ecc_tear tear) {
 
 int main(void) {
     static const uint32_t shapes[][2] = {{1, 5}, {1, 6}, {1, 24}, {2, 8}, {3, 7}};
+    unsigned long failures = 0;
     for (uint64_t seed = 0; seed < 60; seed++) {
         const uint32_t *shape = shapes[seed % 5];
         make_words(shape[0], shape[1], seed);
         sim_ecc before = part;
+        failures += fail_in_reads();
         uint32_t kept[ADDRESSES + 1];
         memcpy(kept, values, sizeof kept);
         for (int tear = SIM_ECC_CELLS; tear <= SIM_ECC_WHOLE; tear++)
@@ -139,6 +164,6 @@ int main(void) {
     CHECK(ee_convert(&store, &coded) == EE_OK && ee_write(&store, 1, 10) == EE_OK);
     coded.page_words = 7;
     CHECK(ee_convert(&store, &coded) == EE_OTHER_SHAPE);
-    printf("%lu cuts, %lu of them behind the commit\n", cuts, commits);
-    return cuts < 10000 || commits < 500;
+    printf("%lu cuts, %lu of them behind the commit; %lu failed reads\n", cuts, commits, failures);
+    return cuts < 10000 || commits < 500 || failures < 2000;
 }

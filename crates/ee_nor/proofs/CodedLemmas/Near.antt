@@ -1,11 +1,11 @@
 -- Of two codeword words each has two ones or more that the other lacks.
 use Rattle.std.proofs.Common.{◌≡◌, ◌≢◌, ℕ, zero, suc, ◌+◌, ◌*◌, ◌-◌, ◌/◌, ◌%◌, ◌^◌, ◌<◌, ◌≤◌, refl, sym, ap, ◌∙◌, arith, inl, inr}
-use Rattle.std.specs.Prelude.{count_ones, bit_and, bit_xor, Option, Some, None}
+use Rattle.std.specs.Prelude.{count_ones, bit_and, bit_xor, Some, None}
 use Rattle.std.proofs.lemmas.Bool.{cases_eq, cases_lt, cases_order, eq-eqb, ne_eqb}
 use Rattle.std.proofs.lemmas.Nat.{and_comm, and_mask, ones-le, ones_cat, xor_lt}
 use Rattle.std.specs.Int.Count.{ones-ones}
-use Rattle.ee_nor.specs.Coded.Laws.{EraseMakesNoNumber, ErasedIsNone, HasOnes, IsFarFromOthers, MayReadAs, ReadsAsWritten, TornIsTold}
-use Rattle.ee_nor.specs.Coded.Code.{IsPayload, payload_in, check_bits, codeword, decoded, overall_parity, half_weight, ones_lost, parity_bits, weight_row}
+use Rattle.ee_nor.specs.Coded.Laws.{IsFarFromOthers}
+use Rattle.ee_nor.specs.Coded.Code.{HasOnes, IsPayload, MayReadAs, payload_in, check_bits, codeword, decoded, overall_parity, half_weight, ones_lost, parity_bits, weight_row}
 use Rattle.ee_nor.proofs.CodedLemmas.Bits.{gains, lost_block, lost_by, xor_lost, xor_same}
 use Rattle.ee_nor.proofs.CodedLemmas.Tables.{far, places_fit, places_xor, row_fits, row_lost}
 
@@ -207,11 +207,6 @@ decoded_again payload bare =
     (ap codeword back)))
     (ap Some back)
 
-pub reads_as_written : (word : ℕ) (result : Option ℕ) → result ≡ decoded word
-    → ReadsAsWritten word result
-reads_as_written word result is payload bare same =
-    is ∙ ap decoded same ∙ decoded_again payload bare
-
 held_is_coded : (word held : ℕ) → word < 2 ^ 64 → decoded word ≡ Some held
     → (word ≡ codeword held) × IsPayload held
 held_is_coded word held fits is = elim (cases_eq word (codeword (payload_in word))) [
@@ -244,23 +239,24 @@ told number left read held bare fits read_fits none turned is =
 none_lost : (word other : ℕ) → HasOnes word other → ones_lost other word ≡ 0
 none_lost word other has = omega (arith, ap count_ones (and_comm other word ∙ has))
 
-pub torn_is_told : (word : ℕ) (result : Option ℕ) → word < 2 ^ 64 → result ≡ decoded word
-    → TornIsTold word result
-torn_is_told word result word_fits is payload left held bare fits has turned held_is =
-    told payload left word held bare fits word_fits (none_lost left (codeword payload) has) turned
-    (sym is ∙ held_is)
+-- a word that was cut on its way to a payload, read with one bit turned at most
+pub torn_payload : (payload left read held : ℕ) → IsPayload payload → left < 2 ^ 64
+    → HasOnes left (codeword payload) → MayReadAs left read → read < 2 ^ 64
+    → decoded read ≡ Some held → held ≡ payload
+torn_payload payload left read held bare fits has turned read_fits is =
+    told payload left read held bare fits read_fits (none_lost left (codeword payload) has) turned is
 
-pub erase_makes_no_number : (word : ℕ) (result : Option ℕ) → word < 2 ^ 64 → result ≡ decoded word
-    → EraseMakesNoNumber word result
-erase_makes_no_number word result word_fits is payload before left held bare before_fits fits has
-    still turned held_is =
+-- one that was cut in an erase behind that
+pub erased_payload : (payload before left read held : ℕ) → IsPayload payload → before < 2 ^ 64
+    → left < 2 ^ 64 → HasOnes before (codeword payload) → HasOnes left before
+    → MayReadAs left read → read < 2 ^ 64 → decoded read ≡ Some held → held ≡ payload
+erased_payload payload before left read held bare before_fits fits has still turned read_fits is =
     let way = lost_by 64 (codeword payload) before left (coded_fits payload bare) before_fits in
-    told payload left word held bare fits word_fits
+    told payload left read held bare fits read_fits
     (omega (arith, way, none_lost before (codeword payload) has, none_lost left before still))
-    turned
-    (sym is ∙ held_is)
+    turned is
 
-erased_as_none : (read : ℕ) → read < 2 ^ 64 → MayReadAs (2 ^ 64 - 1) read → decoded read ≡ None
+pub erased_as_none : (read : ℕ) → read < 2 ^ 64 → MayReadAs (2 ^ 64 - 1) read → decoded read ≡ None
 erased_as_none read fits turned = elim (cases_eq read (codeword (payload_in read))) [
   | inl same ↦
       let bare = beside_is_bare read fits in
@@ -277,7 +273,3 @@ erased_as_none read fits turned = elim (cases_eq read (codeword (payload_in read
       ))
   | inr other ↦ rw (ne_eqb read (codeword (payload_in read)) other) refl
 ]
-
-pub erased_is_none : (word : ℕ) (result : Option ℕ) → word < 2 ^ 64 → result ≡ decoded word
-    → ErasedIsNone word result
-erased_is_none word result fits is turned = is ∙ erased_as_none word fits turned

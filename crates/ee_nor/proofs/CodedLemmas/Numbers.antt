@@ -8,14 +8,15 @@ use Rattle.std.proofs.lemmas.Nat.{and_assoc, and_comm, and_mask}
 use Rattle.ee_flash.specs.Device.{all_ones}
 use Rattle.ee_flash.specs.Numbers.{IsSlotNumber, IsStoreNumber, header_half}
 use Rattle.ee_flash.specs.Size.{IsWithinLimits, Size}
+use Rattle.ee_flash.specs.declared.word.Word.{Word}
 use Rattle.ee_flash.specs.declared.word.Word.TheVariants.{Erased, Held, Torn}
 use Rattle.ee_nor.specs.Coded.Clear.{number_cases}
-use Rattle.ee_nor.specs.Coded.Code.{IsPayload, codeword, decoded, payload_in}
+use Rattle.ee_nor.specs.Coded.Code.{HasOnes, IsPayload, codeword, decoded, payload_in}
 use Rattle.ee_nor.specs.Coded.Coded.{IsOverCoded, coded_number, coded_word, held_payload, mark_payload, number_of_payload, payload_of_number, word_of_ecc, word_read}
 use Rattle.ee_nor.specs.Coded.EccNor.{EccNumber, IsReadingOf}
 use Rattle.ee_nor.specs.Coded.Formed.{coded_cases}
-use Rattle.ee_nor.specs.Coded.Laws.{HasOnes}
-use Rattle.ee_nor.proofs.CodedLemmas.Near.{coded_fits, coded_ones, decoded_again, erase_makes_no_number, torn_is_told}
+use Rattle.ee_nor.specs.Coded.Laws.{IsTold}
+use Rattle.ee_nor.proofs.CodedLemmas.Near.{coded_fits, coded_ones, decoded_again, erased_as_none, erased_payload, torn_payload}
 
 -- ---- a number and its payload
 
@@ -81,7 +82,7 @@ coded_below payload bare =
     λ same. omega (arith, coded_ones payload bare, ap count_ones same, ones-ones 64) in
     omega (arith, fits, apart)
 
-own_payload : (size : Size) (payload number : ℕ) → payload ≡ payload_of_number size number
+pub own_payload : (size : Size) (payload number : ℕ) → payload ≡ payload_of_number size number
     → number_of_payload payload ≡ number → held_payload size (Some payload) ≡ Held number
 own_payload size payload number is back =
     let own = is ∙ ap (payload_of_number size) (sym back) in
@@ -117,9 +118,9 @@ program_cut size number cells (Some read) limits fits store cells_fit reads has 
       | inr (inl held) ↦
           let reading = reads read refl in
           let read_fits = reading.fits in
-          let same = torn_is_told read (decoded read) (omega (arith, read_fits)) refl
-          (payload_of_number size number) cells (payload_in read) (payload_fits size number limits fits)
-          (omega (arith, cells_fit)) has reading.near (read_payload read held.1) in
+          let same = torn_payload (payload_of_number size number) cells read (payload_in read)
+          (payload_fits size number limits fits) (omega (arith, cells_fit)) has reading.near
+          (omega (arith, read_fits)) (read_payload read held.1) in
           inr (inl (held.3 ∙ ap Held (ap number_of_payload same ∙ number_again size number store)))
       | inr (inr torn) ↦ inr (inr torn)
     ]
@@ -137,9 +138,9 @@ had_ones before cells read fits cells_fit reading over has is =
       | inr other ↦
           let read_fits = reading.fits in
           let whole : before ≡ all_ones = over (λ payload bare bits.
-          let same = erase_makes_no_number read (decoded read) (omega (arith, read_fits)) refl
-          payload before cells (payload_in read) bare (omega (arith, fits))
-          (omega (arith, cells_fit)) bits has reading.near (read_payload read is) in
+          let same = erased_payload payload before cells read (payload_in read) bare
+          (omega (arith, fits)) (omega (arith, cells_fit)) bits has reading.near
+          (omega (arith, read_fits)) (read_payload read is) in
           other (subst (λ (number : ℕ). bit_and before number ≡ number)
           (sym (is ∙ ap codeword same)) bits)) in
           absurd (other (ap (λ (number : ℕ). bit_and number read) whole ∙ all_over read read_fits))
@@ -180,3 +181,44 @@ over_kept before left fits has over none =
     let both : bit_and left all_ones ≡ all_ones =
     ap (λ (k : ℕ). bit_and left k) (sym whole) ∙ has ∙ whole in
     sym (and_comm left all_ones ∙ all_over left fits) ∙ both
+
+-- ---- what a reading tells
+
+-- of a reading that is held as a number, the payload
+held_payload_is : (size : Size) (read number : ℕ) → coded_word size read ≡ Held number
+    → (decoded read ≡ Some (payload_in read))
+    × (coded_number size number ≡ codeword (payload_in read))
+held_payload_is size read number is = elim (coded_cases size read) [
+  | inl erased ↦ let none = erased.1 in absurd (cc (is, none))
+  | inr (inl held) ↦
+      let same : number_of_payload (payload_in read) ≡ number = let also = held.3 in cc (is, also) in (
+        read_payload read held.1,
+        ap codeword (ap (payload_of_number size) (sym same) ∙ sym held.2),
+      )
+  | inr (inr torn) ↦ absurd (cc (is, torn))
+]
+
+pub reading_told : (size : Size) (reading : Option ℕ) (word : Word) → word ≡ word_read size reading
+    → IsTold size reading word
+reading_told size reading word is = record {
+  reads_as_written = λ number limits store fits reads.
+      is ∙ ap (word_read size) reads ∙ reads_back size number limits fits store;
+  torn_is_told = λ payload left read number bare fits has turned read_fits reads held.
+      let found =
+      held_payload_is size read number (sym (is ∙ ap (word_read size) reads) ∙ held) in
+      found.1 ∙ ap codeword
+      (torn_payload payload left read (payload_in read) bare (omega (arith, fits)) has turned
+      (omega (arith, read_fits)) found.0);
+  erase_makes_no_number =
+      λ payload before left read number bare before_fits fits has still turned read_fits reads held.
+      let found =
+      held_payload_is size read number (sym (is ∙ ap (word_read size) reads) ∙ held) in
+      found.1 ∙ ap codeword
+      (erased_payload payload before left read (payload_in read) bare (omega (arith, before_fits))
+      (omega (arith, fits)) has still turned (omega (arith, read_fits)) found.0);
+  erased_is_none = λ read number turned read_fits reads held.
+      let found =
+      held_payload_is size read number (sym (is ∙ ap (word_read size) reads) ∙ held) in
+      let none = erased_as_none read (omega (arith, read_fits)) turned in
+      absurd (cc (found.0, none));
+}

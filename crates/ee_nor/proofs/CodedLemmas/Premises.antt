@@ -6,8 +6,8 @@ use Rattle.ee_flash.specs.Device.{all_ones}
 use Rattle.ee_flash.specs.Numbers.{IsStoreNumber}
 use Rattle.ee_flash.specs.Size.{IsWithinLimits, Size}
 use Rattle.ee_flash.specs.declared.word.Word.TheVariants.{Held, Torn}
+use Rattle.ee_nor.specs.Coded.Code.{HasOnes}
 use Rattle.ee_nor.specs.Coded.Coded.{coded_number, coded_word, word_read}
-use Rattle.ee_nor.specs.Coded.Laws.{HasOnes}
 use Rattle.ee_nor.proofs.CodedLemmas.Numbers.{reads_back}
 
 module _ (size : Size) (number : ℕ) (limits : IsWithinLimits size) (fits : number ≤ all_ones)

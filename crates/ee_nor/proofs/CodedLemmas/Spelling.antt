@@ -5,9 +5,14 @@ use Rattle.std.proofs.lemmas.Nat.{ones-le, ones_cat}
 use Rattle.ee_nor.specs.Coded.Code.{codeword, half_weight, mixed_bits, parity_bits, weight_row}
 
 pub few_ones : (value bits low : ℕ) → value < 2 ^ 32 → bits < 2 ^ 7 → low < 2 ^ 17
-    → count_ones value + count_ones (bits * 2 ^ 17 + low) ≤ 56
+    → count_ones (value * 2 ^ 32 + (bits * 2 ^ 17 + low)) ≤ 56
 few_ones value bits low fits bits_fit low_fits =
-    omega (arith, ones-le 32 value fits, ones-le 24 (bits * 2 ^ 17 + low) (omega arith))
+    omega (
+      arith,
+      ones_cat 32 value (bits * 2 ^ 17 + low) (omega arith),
+      ones-le 32 value fits,
+      ones-le 24 (bits * 2 ^ 17 + low) (omega arith),
+    )
 
 module _ (value low : ℕ) (fits : value < 2 ^ 32) (low_fits : low < 2 ^ 17) where
   abbrev number : ℕ
@@ -22,24 +27,24 @@ module _ (value low : ℕ) (fits : value < 2 ^ 32) (low_fits : low < 2 ^ 17) whe
 
   pub spelled : (bits : ℕ) → bits ≡ mixed_bits value low / 2 ^ 21 % 2 ^ 7
       → value * 2 ^ 32
-      + (weight_row ((count_ones value + count_ones (bits * 2 ^ 17 + low) + 1) / 2) * 2 ^ 25
-      + (count_ones value + count_ones (bits * 2 ^ 17 + low)) % 2 * 2 ^ 24 + (bits * 2 ^ 17 + low))
+      + (weight_row ((count_ones (value * 2 ^ 32 + (bits * 2 ^ 17 + low)) + 1) / 2) * 2 ^ 25
+      + count_ones (value * 2 ^ 32 + (bits * 2 ^ 17 + low)) % 2 * 2 ^ 24 + (bits * 2 ^ 17 + low))
       ≡ codeword number
   unfolding codeword
   spelled bits is =
       let same : bits ≡ parity_bits number = is ∙ sym places_are in
       let bits_fit : bits < 2 ^ 7 = omega arith in
-      let ones : count_ones value + count_ones (bits * 2 ^ 17 + low)
+      let rest : ℕ = bits * 2 ^ 17 + low in
+      let ones : count_ones (value * 2 ^ 32 + rest)
       ≡ count_ones number + count_ones (parity_bits number) =
       omega (
         arith,
+        ones_cat 32 value rest (omega arith),
         ones_cat 17 bits low low_fits,
         ones_cat 17 value low low_fits,
-        ap count_ones
-            same,
+        ap count_ones same,
       ) in
-      let half : (count_ones value + count_ones (bits * 2 ^ 17 + low) + 1) / 2 ≡ half_weight
-      number =
+      let half : (count_ones (value * 2 ^ 32 + rest) + 1) / 2 ≡ half_weight number =
       omega (arith, ones) in
       let rows = ap weight_row half in
       omega (arith, rows, ones, same)

@@ -58,7 +58,7 @@ number_cases size number = elim (cases_lt (number % 2 ^ 32) (2 ^ 17)) [
 ]
 
 -- a payload with an address is a slot number's
-slot_of_payload : (payload : ℕ) → 0 < payload % 2 ^ 16
+pub slot_of_payload : (payload : ℕ) → 0 < payload % 2 ^ 16
     → number_of_payload payload ≡ payload / 2 ^ 17 * 2 ^ 32 + payload % 2 ^ 17
 unfolding number_of_payload
 slot_of_payload payload some =

@@ -1,10 +1,18 @@
 -- A payload of 49 bits as a word with a check of 15, so that of any two words each has two ones or
 -- more that the other lacks.
-use Rattle.std.specs.Prelude.{◌<◌, ◌==◌, if◌then◌else◌, Option, Some, None, ℕ, ◌+◌, ◌*◌, ◌-◌, ◌/◌, ◌%◌, ◌^◌, List, [], ◌∷◌, count_ones, bit_and, bit_xor, slice_index}
+use Rattle.std.specs.Prelude.{◌≡◌, ◌<◌, ◌≤◌, ◌==◌, if◌then◌else◌, Option, Some, None, ℕ, ◌+◌, ◌*◌, ◌-◌, ◌/◌, ◌%◌, ◌^◌, List, [], ◌∷◌, count_ones, bit_and, bit_xor, slice_index}
 
 -- how many ones of a number another lacks
 abbrev pub ones_lost : ℕ → ℕ → ℕ
 ones_lost number other = count_ones number - count_ones (bit_and number other)
+
+-- one number has every one of another
+abbrev pub HasOnes : ℕ → ℕ → Type 0
+HasOnes number other = bit_and number other ≡ other
+
+-- how a number may read: as it is, or with one bit turned
+abbrev pub MayReadAs : ℕ → ℕ → Type 0
+MayReadAs number read = count_ones (bit_xor number read) ≤ 1
 
 -- ---- the check
 

@@ -6,9 +6,8 @@ use Rattle.ee_flash.specs.Numbers.{IsSlotNumber, header_half}
 use Rattle.ee_flash.specs.Size.{Size}
 use Rattle.ee_flash.specs.declared.word.Word.{Word}
 use Rattle.ee_flash.specs.declared.word.Word.TheVariants.{Erased, Held, Torn}
-use Rattle.ee_nor.specs.Coded.Code.{IsPayload, codeword, decoded}
+use Rattle.ee_nor.specs.Coded.Code.{HasOnes, IsPayload, codeword, decoded}
 use Rattle.ee_nor.specs.Coded.EccNor.{EccDevice, EccNumber, ecc_in, ecc_page}
-use Rattle.ee_nor.specs.Coded.Laws.{HasOnes}
 
 -- ---- numbers of a store
 
@@ -16,10 +15,13 @@ use Rattle.ee_nor.specs.Coded.Laws.{HasOnes}
 abbrev pub is_slot_number : ℕ → Bool
 is_slot_number number = nat_lt (number % 2 ^ 32) (2 ^ 17) && nat_lt 0 (number % 2 ^ 16)
 
--- the payload of a shape's mark: its pages and its words, beside kind 1 and address 0, which no
--- other number has
+-- the value of a shape's mark: its pages and its words
+abbrev pub mark_value : Size → ℕ
+mark_value size = size.pages * 2 ^ 16 + size.words
+
+-- the mark's payload: beside its value kind 1 and address 0, which no other number has
 abbrev pub mark_payload : Size → ℕ
-mark_payload size = (size.pages * 2 ^ 16 + size.words) * 2 ^ 17 + 2 ^ 16
+mark_payload size = mark_value size * 2 ^ 17 + 2 ^ 16
 
 -- The payload of a number on a device of this shape. Of a slot's it is value, kind and address. A
 -- header's has address 0: the mark, of which both halves are the same, says the shape; of any other

@@ -5,7 +5,7 @@ use Rattle.std.specs.List.{All}
 use Rattle.ee_flash.specs.Size.{Size, IsWithinLimits, page_count}
 use Rattle.ee_flash.specs.Device.{all_ones}
 use Rattle.ee_flash.specs.Step.{one_more}
-use Rattle.ee_nor.specs.Coded.Laws.{HasOnes, MayReadAs}
+use Rattle.ee_nor.specs.Coded.Code.{HasOnes, MayReadAs}
 
 -- ---- the device
 

@@ -1,5 +1,5 @@
 -- What the mark says of the shape that a flash was written in.
-use Rattle.std.specs.Prelude.{◌≡◌, ◌≢◌, ◌⊎◌, ℕ, ◌+◌, ◌*◌, ◌^◌, Some, unwrap_or}
+use Rattle.std.specs.Prelude.{◌≡◌, ◌≢◌, ◌⊎◌, ℕ, ◌+◌, ◌*◌, ◌/◌, ◌%◌, ◌^◌, Some, unwrap_or}
 use Rattle.ee_flash.specs.Numbers.{header_half}
 use Rattle.ee_flash.specs.Size.{IsWithinLimits, Size, size_of}
 use Rattle.ee_flash.specs.declared.word.Word.TheVariants.{Torn}
@@ -11,6 +11,10 @@ use Rattle.ee_nor.specs.Coded.EccNor.{EccDevice, ecc_at}
 pub record IsMarkOf (number : ℕ) (size : Size) : Type 0 where
   pub within_limits : IsWithinLimits size
   pub is_mark : number ≡ codeword (mark_payload size)
+
+-- the size whose mark has this value
+abbrev pub size_named : ℕ → Size
+size_named value = size_of (value / 2 ^ 16) (value % 2 ^ 16)
 
 -- The mark of one shape is torn on a device of another.
 abbrev pub OtherMarkIsTorn : Type 0

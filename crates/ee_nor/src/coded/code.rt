@@ -1,60 +1,27 @@
-//! A payload as a coded word, and back.
+//! The check of a payload, which is one number of 49 bits: a value of 32, below it a kind of one bit,
+//! below it an address of 16. In a coded word the check of 15 bits stands between the value and the
+//! kind, so all three can be read where they stand.
 ghost use Rattle.std.specs.Prelude.{◌≡◌, ◌<◌, ◌+◌, ◌*◌, ◌/◌, ◌%◌, ◌^◌};
-ghost use Rattle.ee_nor.specs.Coded.Code.{IsPayload, codeword, decoded, mixed_bits, weight_row};
-ghost use Rattle.ee_nor.specs.Coded.Laws.{EraseMakesNoNumber, ErasedIsNone, IsFarFromOthers, ReadsAsWritten, TornIsTold};
+ghost use Rattle.ee_nor.specs.Coded.Code.{codeword, mixed_bits, weight_row};
 
-/// Seven bits for each half weight: a row has a one that the next lacks, and two that each later
-/// one lacks.
-const WEIGHT_ROWS: [u8; 29] = [
-    0x7f, 0x7b, 0x5b, 0x4f, 0x6d, 0x75, 0x37, 0x3e, 0x1e, 0x5c, 0x78, 0x39, 0x2b, 0x63, 0x66, 0x46,
-    0x4a, 0x49, 0x0d, 0x2c, 0x34, 0x32, 0x13, 0x03, 0x21, 0x60, 0x50, 0x18, 0x08,
+/// Eight bits for each number of ones: the row of half of it, rounded up, and its lowest bit. A row
+/// has a one that the next lacks, and two that each later one lacks.
+const WEIGHTS: [u8; 57] = [
+    0xfe, 0xf7, 0xf6, 0xb7, 0xb6, 0x9f, 0x9e, 0xdb, 0xda, 0xeb, 0xea, 0x6f, 0x6e, 0x7d, 0x7c, 0x3d,
+    0x3c, 0xb9, 0xb8, 0xf1, 0xf0, 0x73, 0x72, 0x57, 0x56, 0xc7, 0xc6, 0xcd, 0xcc, 0x8d, 0x8c, 0x95,
+    0x94, 0x93, 0x92, 0x1b, 0x1a, 0x59, 0x58, 0x69, 0x68, 0x65, 0x64, 0x27, 0x26, 0x07, 0x06, 0x43,
+    0x42, 0xc1, 0xc0, 0xa1, 0xa0, 0x31, 0x30, 0x11, 0x10,
 ];
 
-/// The coded word of a payload, which is one number of 49 bits: a value of 32, below it a kind of
-/// one bit, below it an address of 16. The check of 15 bits stands between the value and the kind,
-/// so all three can be read where they stand.
-///
-/// Source: ours.
-pub fn encode(payload: u64) -> u64
-    requires { IsPayload payload }
-    ensures word { result ≡ codeword payload }
-    ensures none_is_near_another { IsFarFromOthers payload result }
-{
-    let value = (payload >> 17) as u32;
-    let low = (payload & 0x1_ffff) as u32;
-    u64::from(value) * 0x1_0000_0000 + u64::from(low_half(value, low))
-}
-
-/// The payload of a word. `None` of a word that isn't coded: it is torn or erased, or no store
-/// wrote it.
-///
-/// Source: ours.
-pub fn decode(word: u64) -> Option<u64>
-    ensures value { result ≡ decoded word }
-    ensures reads_as_written { ReadsAsWritten word result }
-    ensures torn_is_told { TornIsTold word result }
-    ensures erase_makes_no_number { EraseMakesNoNumber word result }
-    ensures erased_is_none { ErasedIsNone word result }
-{
-    let value = (word >> 32) as u32;
-    let low = (word & 0xffff_ffff) as u32;
-    let rest = low & 0x1_ffff;
-    if low_half(value, rest) == low {
-        Some(u64::from(value) * 0x2_0000 + u64::from(rest))
-    } else {
-        None
-    }
-}
-
-/// The low half of the word of a value and the 17 bits below it.
+/// The low half of the word of a value and the 17 bits below it, which stand as they are in it.
 #[tactic(auto, using(crate::proofs::CodedLemmas::Spelling::few_ones, crate::proofs::CodedLemmas::Spelling::spelled, crate::proofs::CodedLemmas::Tables::row_small))]
-fn low_half(value: u32, low: u32) -> u32
+pub(crate) fn low_half(low: u32, value: u32) -> u32
     requires { low < 2 ^ 17 }
     ensures { value * 2 ^ 32 + result ≡ codeword (value * 2 ^ 17 + low) }
 {
     let rest = parity_bits(value, low) * 0x2_0000 + low;
-    let ones = value.count_ones() + rest.count_ones();
-    weight_row_of((ones + 1) / 2) * 0x200_0000 + ones % 2 * 0x100_0000 + rest
+    let ones = (u64::from(value) * 0x1_0000_0000 + u64::from(rest)).count_ones();
+    weight_of(ones) * 0x100_0000 + rest
 }
 
 /// Seven bits of parity: each bit of the payload alone turns others of them, and two or more.
@@ -71,11 +38,10 @@ fn parity_bits(value: u32, low: u32) -> u32
     (mixed >> 21) & 127
 }
 
-/// The row of a half weight.
-#[tactic(auto, unfolding(crate::specs::Coded::Code::weight_row))]
-fn weight_row_of(half_weight: u32) -> u32
-    requires { half_weight < 29 }
-    ensures { result ≡ weight_row half_weight }
+/// The row of half a number of ones, rounded up, and the number's lowest bit.
+fn weight_of(ones: u32) -> u32
+    requires { ones < 57 }
+    ensures { result ≡ weight_row ((ones + 1) / 2) * 2 + ones % 2 }
 {
-    u32::from(WEIGHT_ROWS[half_weight as usize])
+    u32::from(WEIGHTS[ones as usize])
 }

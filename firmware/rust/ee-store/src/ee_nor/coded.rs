@@ -52,5 +52,5 @@ mod words;
 pub use code::{decode, encode};
 pub use coded::Coded;
 pub use ecc_nor::EccNor;
-pub use shapes::OtherShape;
+pub use shapes::{OtherShape, shape_of_mark};
 pub use words::{coded_number, word_of_reading};

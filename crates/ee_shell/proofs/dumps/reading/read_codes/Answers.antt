@@ -6,7 +6,7 @@ use Rattle.ee_shell.proofs.dumps.reading.read_codes.Goals as goal
 
 pub push-requires : goal.push-requires
 push-requires g c =
-    subst IsBelowAllOnes (sym c.word_of_reading.ensures)
+    subst IsBelowAllOnes (sym c.word_of_reading.ensures.word)
     (coded_below c.args.shape c.from_le_bytes.result (search rules))
 
 pub loop-number-preserved : goal.loop-number-preserved
@@ -14,7 +14,7 @@ loop-number-preserved g c =
     one_code_more c.args.shape c.as_chunks.result.0.now c.loop-number.number-index
     c.from_le_bytes.result c.loop-number.cells c.push.new.self c.word_of_reading.result
     c.loop-number.invariant c.loop-number-test.true (search rules) (search rules)
-    c.word_of_reading.ensures (search rules)
+    c.word_of_reading.ensures.word (search rules)
 
 pub returns : goal.returns
 returns g c =

@@ -2,11 +2,13 @@
 // SPDX-License-Identifier: MIT OR Apache-2.0
 //! A payload as a coded word, and back.
 
-/// Seven bits for each half weight: a row has a one that the next lacks, and two that each later
-/// one lacks.
-const WEIGHT_ROWS: [u8; 29] = [
-    0x7f, 0x7b, 0x5b, 0x4f, 0x6d, 0x75, 0x37, 0x3e, 0x1e, 0x5c, 0x78, 0x39, 0x2b, 0x63, 0x66, 0x46,
-    0x4a, 0x49, 0x0d, 0x2c, 0x34, 0x32, 0x13, 0x03, 0x21, 0x60, 0x50, 0x18, 0x08,
+/// Eight bits for each number of ones: the row of half of it, rounded up, and its lowest bit. A row
+/// has a one that the next lacks, and two that each later one lacks.
+const WEIGHTS: [u8; 57] = [
+    0xfe, 0xf7, 0xf6, 0xb7, 0xb6, 0x9f, 0x9e, 0xdb, 0xda, 0xeb, 0xea, 0x6f, 0x6e, 0x7d, 0x7c, 0x3d,
+    0x3c, 0xb9, 0xb8, 0xf1, 0xf0, 0x73, 0x72, 0x57, 0x56, 0xc7, 0xc6, 0xcd, 0xcc, 0x8d, 0x8c, 0x95,
+    0x94, 0x93, 0x92, 0x1b, 0x1a, 0x59, 0x58, 0x69, 0x68, 0x65, 0x64, 0x27, 0x26, 0x07, 0x06, 0x43,
+    0x42, 0xc1, 0xc0, 0xa1, 0xa0, 0x31, 0x30, 0x11, 0x10,
 ];
 
 /// The coded word of a payload, which is one number of 49 bits: a value of 32, below it a kind of
@@ -15,7 +17,7 @@ const WEIGHT_ROWS: [u8; 29] = [
 pub fn encode(payload: u64) -> u64 {
     let value = (payload >> 17) as u32;
     let low = (payload & 0x1_ffff) as u32;
-    u64::from(value) * 0x1_0000_0000 + u64::from(low_half(value, low))
+    u64::from(value) * 0x1_0000_0000 + u64::from(low_half(low, value))
 }
 
 /// The payload of a word. `None` of a word that isn't coded: it is torn or erased, or no store
@@ -24,18 +26,18 @@ pub fn decode(word: u64) -> Option<u64> {
     let value = (word >> 32) as u32;
     let low = (word & 0xffff_ffff) as u32;
     let rest = low & 0x1_ffff;
-    if low_half(value, rest) == low {
+    if low_half(rest, value) == low {
         Some(u64::from(value) * 0x2_0000 + u64::from(rest))
     } else {
         None
     }
 }
 
-/// The low half of the word of a value and the 17 bits below it.
-fn low_half(value: u32, low: u32) -> u32 {
+/// The low half of the word of a value and the 17 bits below it, which stand as they are in it.
+pub(crate) fn low_half(low: u32, value: u32) -> u32 {
     let rest = parity_bits(value, low) * 0x2_0000 + low;
-    let ones = value.count_ones() + rest.count_ones();
-    weight_row_of((ones + 1) / 2) * 0x200_0000 + ones % 2 * 0x100_0000 + rest
+    let ones = (u64::from(value) * 0x1_0000_0000 + u64::from(rest)).count_ones();
+    weight_of(ones) * 0x100_0000 + rest
 }
 
 /// Seven bits of parity: each bit of the payload alone turns others of them, and two or more.
@@ -48,7 +50,7 @@ fn parity_bits(value: u32, low: u32) -> u32 {
     (mixed >> 21) & 127
 }
 
-/// The row of a half weight.
-fn weight_row_of(half_weight: u32) -> u32 {
-    u32::from(WEIGHT_ROWS[half_weight as usize])
+/// The row of half a number of ones, rounded up, and the number's lowest bit.
+fn weight_of(ones: u32) -> u32 {
+    u32::from(WEIGHTS[ones as usize])
 }

@@ -2,13 +2,10 @@
 // SPDX-License-Identifier: MIT OR Apache-2.0
 //! The store that a flash holds, where it is none of coded words of the device's shape.
 
-use crate::ee_nor::coded::code::decode;
+use crate::ee_nor::coded::code::low_half;
 use crate::ee_nor::coded::ecc_nor::EccNor;
-use crate::ee_nor::coded::words::coded_number;
+use crate::ee_nor::coded::words::{MARK, mark_value};
 use crate::ee_flash::Shape;
-
-/// The mark of a store of plain words.
-const PLAIN_MARK: u64 = 0xAAAA_AAAA_AAAA_AAAA;
 
 /// The shape of the store that a flash holds, where that is none of coded words of the device's
 /// shape. Both are 0 of a store of plain words, whose mark says no shape.
@@ -22,57 +19,51 @@ pub struct OtherShape {
 
 /// The other shape of the store that a flash holds.
 pub(crate) fn other_shape<N: EccNor>(nor: &N) -> Option<OtherShape> {
-    if let Some(named) = shape_named(nor) {
-        return Some(named);
+    let held = value_held(nor);
+    if held == mark_value(nor.shape()) {
+        return None;
     }
-    if holds_plain_words(nor) {
-        return Some(OtherShape { pages: 0, words: 0 });
-    }
-    None
+    Some(OtherShape {
+        pages: (held >> 16) as usize,
+        words: (held & 0xffff) as usize,
+    })
 }
 
-/// Whether the flash holds a store of plain words. Of each coded mark three ones or more are no
-/// ones of the plain one, so no cut of one makes it.
-fn holds_plain_words<N: EccNor>(nor: &N) -> bool {
-    let own = coded_number(nor.shape(), PLAIN_MARK);
+/// The value of the mark of the other store that a flash holds, 0 of one of plain words, whose mark
+/// has none; the value of the device's own where it holds no other.
+fn value_held<N: EccNor>(nor: &N) -> u32 {
+    let own = mark_value(nor.shape());
     let first = nor.read(0, 1).unwrap_or(0);
     let second = nor.read(nor.shape().pages(), 1).unwrap_or(0);
-    (first == PLAIN_MARK || second == PLAIN_MARK) && first != own && second != own
-}
-
-/// The other shape that the first page of a set names.
-fn shape_named<N: EccNor>(nor: &N) -> Option<OtherShape> {
-    match other_named(nor, 0) {
-        Some(other) => Some(other),
-        None => other_named(nor, nor.shape().pages()),
+    let named = value_named(first);
+    let named_second = value_named(second);
+    if named > 0 && named != own {
+        return named;
+    }
+    if named_second > 0 {
+        return named_second;
+    }
+    // Of each coded mark three ones or more are no ones of the plain one: no cut of one makes it.
+    if named == 0 && (first == MARK || second == MARK) {
+        0
+    } else {
+        own
     }
 }
 
-/// The other shape whose mark stands in word 1 of a page.
-fn other_named<N: EccNor>(nor: &N, page: usize) -> Option<OtherShape> {
-    let Some(number) = nor.read(page, 1) else {
-        return None;
-    };
-    let Some(named) = shape_of_mark(number) else {
-        return None;
-    };
-    let shape = nor.shape();
-    let (pages, words) = (named.pages(), named.words());
-    if pages == shape.pages() && words == shape.words() {
-        None
-    } else {
-        Some(OtherShape { pages, words })
+/// The value of the mark that a number of the flash is, 0 where it is none.
+fn value_named(number: u64) -> u32 {
+    match shape_of_mark(number) {
+        Some(shape) => mark_value(shape),
+        None => 0,
     }
 }
 
 /// The shape whose mark a number of the flash is.
-fn shape_of_mark(number: u64) -> Option<Shape> {
-    let Some(payload) = decode(number) else {
-        return None;
-    };
-    if payload & 0x1_ffff != 0x1_0000 {
+pub fn shape_of_mark(number: u64) -> Option<Shape> {
+    let value = (number >> 32) as u32;
+    if u64::from(low_half(0x1_0000, value)) != number & 0xffff_ffff {
         return None;
     }
-    let value = payload >> 17;
     Shape::new((value >> 16) as usize, (value & 0xffff) as usize)
 }

@@ -16,7 +16,7 @@ program-requires-clause-below_all_ones g c =
     let below = c.requires.below_all_ones in
     let size = (g.N.EccNor.ecc c.args.self.now.nor).size in
     let limits = (g.met.N.EccNor.formed c.args.self.now.nor).within_limits in
-    let is = c.coded_number-number.ensures
+    let is = c.coded_number-number.ensures.word
     ∙ ap (λ (size : Size). coded_number size c.args.value) c.shape.ensures in
     rw is
     (coded_below (payload_of_number size c.args.value) (payload_fits size c.args.value limits
@@ -26,7 +26,7 @@ pub invariant_of-self : goal.invariant_of-self
 invariant_of-self g c =
     let below = c.requires.below_all_ones in
     let formed = g.met.N.EccNor.formed in
-    let is = c.coded_number-number.ensures
+    let is = c.coded_number-number.ensures.word
     ∙ ap (λ (size : Size). coded_number size c.args.value) c.shape.ensures in
     record {
       safe = safe_programmed _ _ c.args.page c.args.at c.args.value
@@ -40,7 +40,7 @@ invariant_of-self g c =
 pub returns-clause-done : goal.returns-clause-done
 returns-clause-done g c =
     let below = c.requires.below_all_ones in
-    let is = c.coded_number-number.ensures
+    let is = c.coded_number-number.ensures.word
     ∙ ap (λ (size : Size). coded_number size c.args.value) c.shape.ensures in
     on_ok_weaker c.program.result
     (done_word _ c.args.page c.args.at (g.met.N.EccNor.formed c.args.self.now.nor)
@@ -51,7 +51,7 @@ pub returns-clause-cut : goal.returns-clause-cut
 returns-clause-cut g c =
     let below = c.requires.below_all_ones in
     let formed = g.met.N.EccNor.formed in
-    let is = c.coded_number-number.ensures
+    let is = c.coded_number-number.ensures.word
     ∙ ap (λ (size : Size). coded_number size c.args.value) c.shape.ensures in
     on_err_weaker c.program.result
     (program_left _ _ c.args.page c.args.at c.args.value (formed c.args.self.now.nor)

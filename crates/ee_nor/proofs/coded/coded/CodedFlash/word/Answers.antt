@@ -14,5 +14,5 @@ pub returns-clause-below_all_ones : goal.returns-clause-below_all_ones
 returns-clause-below_all_ones g c =
     there_below (g.N.EccNor.ecc c.args.self.now.nor) c.args.page c.args.at _
     (g.met.N.EccNor.formed c.args.self.now.nor) c.requires.page_in_range
-    (c.word_of_reading.ensures
+    (c.word_of_reading.ensures.word
     ∙ (λ i. word_read (c.shape.ensures i) (c.read.ensures i)))
