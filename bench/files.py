@@ -39,6 +39,7 @@ INPUTS = {
     "pairs": PAIRS,
     "pairs-hex": hex_of(PAIRS, 0x0807F000),
     "coded": CODED,
+    "xcube": worked.example("xcube").files["dump"],
 }
 # The commands that write an image, and those that don't. Each of the first changes the image.
 WRITERS = {
@@ -49,6 +50,7 @@ WRITERS = {
     "import": "import 1 6 dump image",
     "import --pairs": "import --pairs 1 6 pairs image",
     "import --coded": "import --coded 1 6 coded image",
+    "import-xcube": "import-xcube 1 8 xcube image",
     "import-hex": "import-hex 1 6 0807f000 hex image",
     "import-hex --pairs": "import-hex --pairs 1 6 0807f000 pairs-hex image",
     "unset": "unset image settings volume",

@@ -27,6 +27,7 @@ import P W dump new
 export-hex image BASE hex
 export-hex --fill image BASE hex
 import-hex P W BASE hex new
+import-xcube P W dump new
 export --pairs image dump
 import --pairs P W dump new
 export-hex --pairs image BASE hex

@@ -18,6 +18,7 @@ Run = namedtuple("Run", "name start script step")
 
 # The commands that change the image that they name first.
 CHANGERS = ("run", "clean", "rescue", "forget-all", "set", "unset", "apply", "tidy")
+IMPORTS = ("import", "import-hex", "import-xcube")
 
 
 def steps_of(transcript):
@@ -76,7 +77,7 @@ def runs_of(worked):
                 yield Run(f"{worked.name}, {words[3]} on {words[2]}", start, script, step)
         if step.status == 0 and words[0] == "ee" and words[1] in CHANGERS:
             images[words[2]] = None
-        elif step.status == 0 and words[:2] in (["ee", "import"], ["ee", "import-hex"]):
+        elif step.status == 0 and words[:2] in [["ee", name] for name in IMPORTS]:
             images[words[-1]] = None
 
 

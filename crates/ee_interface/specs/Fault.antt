@@ -4,7 +4,7 @@ use Rattle.ee_text.specs.Line.{line_of}
 use Rattle.ee_interface.specs.declared.fault.File.{File}
 use Rattle.ee_interface.specs.declared.fault.File.TheVariants.{Image, Before, Script, Certificate, Settings, Dump, Values}
 use Rattle.ee_interface.specs.declared.fault.Fault.{Fault}
-use Rattle.ee_interface.specs.declared.fault.Fault.TheVariants.{CannotRead, TooLong, CannotWriteImage, ImageChanged, CannotWriteDump, CannotWriteOutput, OutputIsWritten, BadLine, BadShape, Unformatted, NoLiveSet, TwoLive, Foreign, SettingsText, BadName, BadField, BadRange, SameAddress, UnknownName, OutOfRange, Full, Spent, Absent, HoldsValues, NothingToRescue, NotFitting, WrongStart, NotRising, WrongFrom, NotForced, OtherShape, Backwards, NoSizeEnough, DumpLength, DumpOfWords, DumpOfPairs, DumpOfCoded, LowPair, Misplaced, TornWord, Uncoded, Base, ValuesText, BadValue, UnknownValue, ValueOutOfRange, FullAt, SpentAt, ValuesDiffer, Memory}
+use Rattle.ee_interface.specs.declared.fault.Fault.TheVariants.{CannotRead, TooLong, CannotWriteImage, ImageChanged, CannotWriteDump, CannotWriteOutput, OutputIsWritten, BadLine, BadShape, Unformatted, NoLiveSet, TwoLive, Foreign, SettingsText, BadName, BadField, BadRange, SameAddress, UnknownName, OutOfRange, Full, Spent, Absent, HoldsValues, NothingToRescue, NotFitting, WrongStart, NotRising, WrongFrom, NotForced, OtherShape, Backwards, NoSizeEnough, DumpLength, DumpOfWords, DumpOfPairs, DumpOfCoded, LowPair, Misplaced, DumpUnused, DumpNoCrc, DumpFull, TornWord, Uncoded, Base, ValuesText, BadValue, UnknownValue, ValueOutOfRange, FullAt, SpentAt, ValuesDiffer, Memory}
 use Rattle.ee_image.specs.declared.fault.ImageFault.{ImageFault}
 use Rattle.ee_image.specs.declared.fault.ImageFault.TheVariants as image
 use Rattle.ee_pages.specs.declared.find.ScanFault.{ScanFault}
@@ -73,6 +73,9 @@ cause (DumpOfCoded pages words) =
     codes "dump of coded words " ++ decimal pages ++ codes " " ++ decimal words
 cause (LowPair page at) = codes "dump pair " ++ decimal page ++ codes " " ++ decimal at
 cause (Misplaced page at) = codes "dump shape " ++ decimal page ++ codes " " ++ decimal at
+cause DumpUnused = codes "dump no page in use"
+cause DumpNoCrc = codes "dump no crc fits"
+cause DumpFull = codes "dump full"
 cause (TornWord page at) = codes "torn word " ++ decimal page ++ codes " " ++ decimal at
 cause (Uncoded page at) = codes "uncoded word " ++ decimal page ++ codes " " ++ decimal at
 cause Base = codes "base"
@@ -108,6 +111,7 @@ status (NotForced stretch) = 4
 status OtherShape = 4
 status (Backwards page) = 4
 status NoSizeEnough = 4
+status DumpFull = 4
 status (TornWord page at) = 4
 status (Uncoded page at) = 4
 status Base = 4

@@ -131,6 +131,12 @@ pub enum Fault {
     LowPair { page: usize, at: usize },
     /// The first word of the dump that no store of the shape has there, by its page and its place.
     Misplaced { page: usize, at: usize },
+    /// No page of the dump is one that X-CUBE-EEPROM uses.
+    DumpUnused,
+    /// Words of the dump's pages are written, and none of them is an element of X-CUBE-EEPROM.
+    DumpNoCrc,
+    /// More addresses have a value in the dump than a store of the shape has slots.
+    DumpFull,
     /// The first torn word of the image, by its page and its place: no dump has one.
     TornWord { page: usize, at: usize },
     /// The first held word of the image whose number has no coded word, by its page and its place.
@@ -222,6 +228,9 @@ impl Fault {
             Fault::DumpOfCoded { .. } => "dump of coded words ",
             Fault::LowPair { .. } => "dump pair ",
             Fault::Misplaced { .. } => "dump shape ",
+            Fault::DumpUnused => "dump no page in use",
+            Fault::DumpNoCrc => "dump no crc fits",
+            Fault::DumpFull => "dump full",
             Fault::TornWord { .. } => "torn word ",
             Fault::Uncoded { .. } => "uncoded word ",
             Fault::Base => "base",
@@ -432,6 +441,8 @@ pub fn status_of(fault: &Fault) -> u8
         | Fault::DumpOfCoded { .. }
         | Fault::LowPair { .. }
         | Fault::Misplaced { .. }
+        | Fault::DumpUnused
+        | Fault::DumpNoCrc
         | Fault::ValuesText
         | Fault::BadValue(_) => 3,
         Fault::OutputIsWritten
@@ -450,6 +461,7 @@ pub fn status_of(fault: &Fault) -> u8
         | Fault::OtherShape
         | Fault::Backwards(_)
         | Fault::NoSizeEnough
+        | Fault::DumpFull
         | Fault::TornWord { .. }
         | Fault::Uncoded { .. }
         | Fault::Base

@@ -17,6 +17,7 @@ use ee_shell::by_name::{
     tidy_image, unset_setting, verify_values,
 };
 use ee_shell::part::{Form, export_hex, export_image, import_hex, import_image, inspect_text};
+use ee_shell::xcube::import_xcube;
 use std::alloc::Global;
 use std::os::unix::fs::MetadataExt;
 use std::rt::Files;
@@ -61,6 +62,9 @@ pub(crate) fn work<R: FileLocks + Input + Print + AllocGlobal>(
             base,
             dump,
         } => export_hex_file(rt, is_dry, form, fill, image, base, dump),
+        Job::ImportXcube { shape, dump, image } => {
+            import_xcube_file(rt, is_dry, shape, dump, image)
+        }
         Job::Inspect { image } => tell_inside(rt, image),
         Job::Run {
             indexed,
@@ -201,6 +205,19 @@ fn export_hex_file<R: FileLocks + Print + AllocGlobal>(
     let text = read_file(rt, File::Image, image)?;
     let lines = export_hex(rt.alloc(), fill, form, &text, base);
     write_dump(rt, is_dry, dump, lines)
+}
+
+/// Writes the image of a store with the values of a part of X-CUBE-EEPROM, from its bytes.
+fn import_xcube_file<R: FileLocks + Print + AllocGlobal>(
+    rt: &R,
+    is_dry: bool,
+    shape: Shape,
+    dump: &str,
+    image: &str,
+) -> Result<(), Fault> {
+    let bytes = read_file(rt, File::Dump, dump)?;
+    let imported = import_xcube(rt.alloc(), shape, &bytes);
+    write_new(rt, is_dry, image, imported, b"imported\n")
 }
 
 /// Prints what stands in an image, whatever it is.

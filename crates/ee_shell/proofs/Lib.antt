@@ -1,3 +1,4 @@
 pub mod ByNameLemmas
 pub mod PartLemmas
 pub mod DumpsLemmas
+pub mod XcubeLemmas

@@ -1,6 +1,7 @@
 pub mod ByName
 pub mod Part
 pub mod Dumps
+pub mod Xcube
 pub use Rattle.ee_image_store.specs.Machine
 pub use Rattle.ee_image_store.specs.Erases
 pub use Rattle.ee_image_store.specs.Steps

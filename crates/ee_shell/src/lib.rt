@@ -1,9 +1,9 @@
 //! The commands of `ee` over bytes: what they give, and the first fault for which they give
 //! nothing. The program opens files and prints; it decides nothing.
 //!
-//! Here are those that take settings (`by_name`) and those between images and real parts (`part`,
-//! over `dumps`). Those that answer a script are `ee_replay`'s, all others `ee_commands`', passed
-//! on under this name.
+//! Here are those that take settings (`by_name`), those between images and real parts (`part`, over
+//! `dumps`), and the import of ST's X-CUBE-EEPROM (`xcube`). Those that answer a script are
+//! `ee_replay`'s, all others `ee_commands`', passed on under this name.
 //!
 //! # What a contract sees
 //!
@@ -22,6 +22,7 @@
 //! word is torn and none tells another shape or form (`laws`). `inspect_text` tells what the image shows, and doubts an address exactly
 //! where a torn slot may have spoken of it last (`inspected`). Of each command the first fault that
 //! applies is told, and none is passed over (`fault`, `names`).
+//! `import_xcube` gives a store with exactly the values of a dump of ST's library (`imported`).
 //!
 //! # What is only tested
 //!
@@ -36,6 +37,7 @@ pub mod by_name;
 pub mod dumps;
 pub mod laws;
 pub mod part;
+pub mod xcube;
 
 pub use by_name::{
     Language, Verified, apply_values, get_setting, header_text, list_text, set_setting, stale_text,
@@ -52,3 +54,4 @@ pub use ee_interface::command_line::{
 pub use ee_interface::{Fault, File, ReplayFault, fault_line, status_of};
 pub use ee_replay::{Replayed, replay, replay_indexed, replay_reader, try_script};
 pub use part::{Form, export_hex, export_image, import_hex, import_image, inspect_text};
+pub use xcube::import_xcube;

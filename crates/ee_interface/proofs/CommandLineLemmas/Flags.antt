@@ -1,9 +1,9 @@
 -- What words are no flag, and how many there are behind a command that has none.
-use Rattle.std.proofs.Common.{◌∷◌, ◌≡◌, ◌≢◌, ◌≤◌, ◌∙◌, ℕ, Bool, true, false, List, length, get_or, ap, arith, inl, refl, rules, subst, sym, codes, decimal}
+use Rattle.std.proofs.Common.{[], ◌∷◌, ◌≡◌, ◌≢◌, ◌≤◌, ◌∙◌, ℕ, Bool, true, false, List, length, get_or, ap, arith, inl, refl, rules, subst, sym, codes, decimal}
 use Rattle.ee_flash.specs.Size.{IsWithinLimits, Size}
 use Rattle.ee_text.specs.Field.{Lacks}
 use Rattle.ee_text.proofs.Public.{Lacks-decimal, Lacks-parts}
-use Rattle.ee_interface.specs.CommandLine.Job.{AreWordsOf, HaveNoForm, IsNoForm, IsPlain, Row, with_flag, with_form}
+use Rattle.ee_interface.specs.CommandLine.Job.{AreWordsOf, HaveNoForm, IsNoForm, IsPlain, IsRow, Row, with_flag, with_form}
 use Rattle.ee_interface.specs.declared.command_line.form.Form.{Form}
 use Rattle.ee_interface.specs.declared.command_line.form.Form.TheVariants.{Words, Pairs, Coded}
 
@@ -17,6 +17,13 @@ size_is_no_form size within =
 pub short : (command : List ℕ) (others : List (List ℕ)) (row : Row) → IsPlain command
     → AreWordsOf (command ∷ others) row → length others ≤ 4
 short command others row plain spelled = search rules
+
+-- the words behind `header`
+pub header_words : (words : List (List ℕ)) (row : Row) → IsRow row
+    → AreWordsOf (codes "header" ∷ words) row
+    → (rust : Bool) × (settings : List ℕ) × (settings ≢ codes "--rust")
+    × (words ≡ with_flag rust (codes "--rust") (settings ∷ []))
+header_words words row fits spelled = search rules
 
 apart : codes "--pairs" ≢ codes "--coded"
 apart is = absurd (omega (arith, ap (λ (l : List ℕ). get_or l 2 0) is))

@@ -19,6 +19,7 @@ pub data Row : Type 0 where
   Export : Form → List ℕ → List ℕ → Row
   ImportHex : Form → Size → ℕ → List ℕ → List ℕ → Row
   ExportHex : Form → Bool → List ℕ → ℕ → List ℕ → Row
+  ImportXcube : Size → List ℕ → List ℕ → Row
   Inspect : List ℕ → Row
   Run : Bool → List ℕ → List ℕ → Row
   Get : List ℕ → List ℕ → List ℕ → Row
@@ -49,6 +50,7 @@ row_of (job.Import form size dump image) = Import form size dump.now image.now
 row_of (job.Export form image dump) = Export form image.now dump.now
 row_of (job.ImportHex form size base dump image) = ImportHex form size base dump.now image.now
 row_of (job.ExportHex form fill image base dump) = ExportHex form fill image.now base dump.now
+row_of (job.ImportXcube size dump image) = ImportXcube size dump.now image.now
 row_of (job.Inspect image) = Inspect image.now
 row_of (job.Run indexed image script) = Run indexed image.now script.now
 row_of (job.Get image settings name) = Get image.now settings.now name.now
@@ -112,6 +114,7 @@ IsRow (ImportHex form size base dump image) =
     IsWithinLimits size × IsBase base × EndsWithin form size base
 IsRow (ExportHex form fill image base dump) =
     IsNoForm image × image ≢ codes "--fill" × IsBase base
+IsRow (ImportXcube size dump image) = IsWithinLimits size
 IsRow (Inspect image) = Unit {0}
 IsRow (Run indexed image script) = image ≢ codes "--indexed"
 IsRow (Get image settings name) = Unit {0}
@@ -185,6 +188,9 @@ AreWordsOf words (ExportHex form fill image base dump) = (digits : List ℕ) × 
     ≡ codes "export-hex"
     ∷ with_form form
     (with_flag fill (codes "--fill") (image ∷ digits ∷ dump ∷ [])))
+AreWordsOf words (ImportXcube size dump image) =
+    words
+    ≡ codes "import-xcube" ∷ decimal size.pages ∷ decimal size.words ∷ dump ∷ image ∷ []
 AreWordsOf words (Inspect image) = words ≡ codes "inspect" ∷ image ∷ []
 AreWordsOf words (Run indexed image script) =
     words ≡ codes "run" ∷ with_flag indexed (codes "--indexed") (image ∷ script ∷ [])

@@ -90,7 +90,7 @@ IsOtherName name =
     (name ≡ codes "get") ⊎ (name ≡ codes "unset") ⊎ (name ≡ codes "set") ⊎ (name ≡ codes "apply")
     ⊎ (name ≡ codes "verify") ⊎ (name ≡ codes "stale") ⊎ (name ≡ codes "tidy")
     ⊎ (name ≡ codes "import") ⊎ (name ≡ codes "import-hex") ⊎ (name ≡ codes "export")
-    ⊎ (name ≡ codes "export-hex")
+    ⊎ (name ≡ codes "export-hex") ⊎ (name ≡ codes "import-xcube")
 
 -- a command that takes words has this name
 unfoldable pub IsCommandName : List ℕ → Type 0
@@ -115,6 +115,7 @@ AreOtherOperandsOf name operands =
     ⊎ ((name ≡ codes "import-hex") × (operands ≡ Pages ∷ PageWords ∷ Base ∷ Dump ∷ Image ∷ []))
     ⊎ ((name ≡ codes "export") × (operands ≡ Image ∷ Dump ∷ []))
     ⊎ ((name ≡ codes "export-hex") × (operands ≡ Image ∷ Base ∷ Dump ∷ []))
+    ⊎ ((name ≡ codes "import-xcube") × (operands ≡ Pages ∷ PageWords ∷ Dump ∷ Image ∷ []))
 
 -- the same of each command, with so many words; the last of two commands may be left out
 unfoldable pub AreOperandsOf : List ℕ → ℕ → List Operand → Type 0

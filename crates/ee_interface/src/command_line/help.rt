@@ -18,6 +18,7 @@ ee: flash EEPROM emulation over images as text, proved
   ee export IMAGE DUMP                     writes those bytes
   ee import-hex P W BASE DUMP IMAGE        the same as import, from Intel HEX
   ee export-hex IMAGE BASE DUMP            the words that aren't erased, as Intel HEX
+  ee import-xcube P W DUMP IMAGE           makes an image of the values of ST's X-CUBE-EEPROM
   ee import[-hex] --pairs P W ...          the same with no ECC: each word beside its complement
   ee export[-hex] --pairs IMAGE ...        the same with no ECC
   ee import[-hex] --coded P W ...          the same with ECC and coded words

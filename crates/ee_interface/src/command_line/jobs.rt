@@ -49,6 +49,13 @@ pub enum Job<'a> {
         base: u32,
         dump: &'a str,
     },
+    /// `import-xcube P W DUMP IMAGE`: writes the image of a store with the values that a part of
+    /// X-CUBE-EEPROM has, from its bytes.
+    ImportXcube {
+        shape: Shape,
+        dump: &'a str,
+        image: &'a str,
+    },
     /// `inspect IMAGE`: tells what stands in an image, whatever it is.
     Inspect {
         image: &'a str,

@@ -215,7 +215,7 @@ fn operands_of_others(name: &str) -> Option<&'static [Operand]>
         ]),
         "apply" | "verify" => Some(&[Operand::Image, Operand::Settings, Operand::Values]),
         "stale" | "tidy" => Some(&[Operand::Image, Operand::Settings]),
-        "import" => Some(&[
+        "import" | "import-xcube" => Some(&[
             Operand::Pages,
             Operand::PageWords,
             Operand::Dump,

@@ -401,6 +401,11 @@ fn job_of_five<'a>(
             name: third,
             value: value_of(fourth)?,
         },
+        "import-xcube" => Job::ImportXcube {
+            shape: shape_of(first, second)?,
+            dump: third,
+            image: fourth,
+        },
         "size" => Job::Size {
             words: page_words_of(first)?,
             script: second,

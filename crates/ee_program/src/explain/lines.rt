@@ -4,7 +4,8 @@ use crate::explain::paths::path_of;
 use crate::explain::remedies::remedy_of;
 use arrayvec::ArrayVec;
 use ee_interface::command_line::{
-    HELP, Job, Operand, WordFault, WordsCause, least_number, most_number, why_no_job, why_no_line,
+    Form, HELP, Job, Operand, WordFault, WordsCause, least_number, most_number, why_no_job,
+    why_no_line,
 };
 use ee_interface::{Fault, File};
 use ee_text::{Fields, push_number, push_number_behind};
@@ -90,6 +91,7 @@ fn example_of_others(name: &str) -> &'static str {
         "clean" => "clean device.image",
         "rescue" => "rescue device.image",
         "forget-all" => "forget-all --force device.image",
+        "import-xcube" => "import-xcube 1 256 part.bin device.image",
         _ => "--help",
     }
 }
@@ -314,11 +316,20 @@ pub fn push_dump_length<A: Allocator>(
     out: &mut Vec<u8, A>,
     job: &Job<'_>,
 ) -> Result<(), AllocError> {
-    if let Job::Import { form, shape, .. } = *job {
-        push_number_behind(out, b"  wanted: ", form.dump_length(shape) as u64)?;
+    if let Some(length) = length_wanted(job) {
+        push_number_behind(out, b"  wanted: ", length as u64)?;
         out.extend_from_slice(b" bytes for these P and W\n")?;
     }
     push_remedy(out, job, &Fault::DumpLength)
+}
+
+/// How many bytes the dump of a job is to have.
+fn length_wanted(job: &Job<'_>) -> Option<usize> {
+    match *job {
+        Job::Import { form, shape, .. } => Some(form.dump_length(shape)),
+        Job::ImportXcube { shape, .. } => Some(Form::Words.dump_length(shape)),
+        _ => None,
+    }
 }
 
 /// Writes the name that no setting has, and where the names are. After an error there may be a part

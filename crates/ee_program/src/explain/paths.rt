@@ -49,7 +49,8 @@ fn image_of_others<'a>(job: &Job<'a>) -> Option<&'a str> {
         | Job::ForgetAll { image, .. }
         | Job::Stale { image, .. }
         | Job::Tidy { image, .. }
-        | Job::List { image, .. } => Some(image),
+        | Job::List { image, .. }
+        | Job::ImportXcube { image, .. } => Some(image),
         _ => None,
     }
 }
@@ -103,7 +104,8 @@ fn dump_of<'a>(job: &Job<'a>) -> Option<&'a str> {
         Job::Import { dump, .. }
         | Job::Export { dump, .. }
         | Job::ImportHex { dump, .. }
-        | Job::ExportHex { dump, .. } => Some(dump),
+        | Job::ExportHex { dump, .. }
+        | Job::ImportXcube { dump, .. } => Some(dump),
         _ => None,
     }
 }

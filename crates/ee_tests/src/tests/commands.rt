@@ -18,6 +18,7 @@ import --pairs --coded P W DUMP IMAGE
 export --pairs --coded IMAGE DUMP
 import-hex --pairs --coded P W BASE DUMP IMAGE
 export-hex --pairs --coded --fill IMAGE BASE DUMP
+import-xcube P W DUMP IMAGE
 run --indexed IMAGE SCRIPT
 list IMAGE [SETTINGS]
 get IMAGE SETTINGS NAME
@@ -46,6 +47,7 @@ ee import 1 6 a.bin a.image
 ee export a.image a.bin
 ee import-hex 1 256 0807F000 a.hex a.image
 ee export-hex a.image 0807f000 a.hex
+ee import-xcube 1 6 a.bin a.image
 ee import --pairs 1 6 a.bin a.image
 ee import-hex --pairs 1 256 0807F000 a.hex a.image
 ee export --pairs a.image a.bin
@@ -342,6 +344,12 @@ fn told_of_images(job: &Job<'_>, found: &ArgMatches<'_>) -> (&'static str, bool)
             (found.get_flag("--force") == force) & has(found, "IMAGE", Some(image)),
         ),
         Job::Inspect { image } => ("inspect", has(found, "IMAGE", Some(image))),
+        Job::ImportXcube { shape, dump, image } => (
+            "import-xcube",
+            fits(found, shape)
+                & has(found, "DUMP", Some(dump))
+                & has(found, "IMAGE", Some(image)),
+        ),
         _ => ("", false),
     }
 }

@@ -84,6 +84,7 @@ const CALLS: &[(Call, u64)] = &[
     (Call::Text(Text::ExportCoded, CODED), 3),
     (Call::Text(Text::ImportHex, FORMATTED), 4),
     (Call::Text(Text::ExportHex, HEX), 4),
+    (Call::Text(Text::ImportXcube, TEN), 6),
     (Call::Text(Text::Inspect, SCAN), 3),
     (Call::Text(Text::Header, HEADER), 2),
     (Call::Text(Text::Verify, DIFFERENCE), 3),

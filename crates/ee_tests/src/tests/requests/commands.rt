@@ -7,7 +7,7 @@ use ee_pages::ScanFault;
 use ee_shell::{
     Fault, Form, ImageAndText, Language, ReplayFault, Replayed, apply_values, check_script,
     clean_image, export_hex, export_image, fault_line, forget_all, format_image, get_setting,
-    header_text, import_hex, import_image, inspect_text, list_text, plan_script, replay,
+    header_text, import_hex, import_image, import_xcube, inspect_text, list_text, plan_script, replay,
     replay_indexed, replay_reader, rescue_image, set_setting, size_parts, stale_text, states_text,
     tidy_image, try_script, unset_setting, verify_values, wear_text,
 };
@@ -102,6 +102,15 @@ pub const CODED: &[u8] = b"\x01\x00\x56\x73\xaa\xaa\xaa\xaa\x00\x00\xdf\xea\x06\
 \xff\xff\xff\xff\xff\xff\xff\xff\xff\xff\xff\xff\xff\xff\xff\xff\
 \xff\xff\xff\xff\xff\xff\xff\xff\xff\xff\xff\xff\xff\xff\xff\xff";
 
+/// The bytes of X-CUBE-EEPROM in which the setting is 10.
+pub const XCUBE: &[u8] = b"\
+\xff\xff\xff\xff\xff\xff\xff\xff\xaa\xaa\xaa\xaa\xaa\xaa\xaa\xaa\
+\xff\xff\xff\xff\xff\xff\xff\xff\xff\xff\xff\xff\xff\xff\xff\xff\
+\x01\x00\x55\x80\x0a\x00\x00\x00\xff\xff\xff\xff\xff\xff\xff\xff\
+\xff\xff\xff\xff\xff\xff\xff\xff\xff\xff\xff\xff\xff\xff\xff\xff\
+\xff\xff\xff\xff\xff\xff\xff\xff\xff\xff\xff\xff\xff\xff\xff\xff\
+\xff\xff\xff\xff\xff\xff\xff\xff\xff\xff\xff\xff\xff\xff\xff\xff";
+
 /// The header of the schema.
 pub const HEADER: &[u8] = b"// Made by `ee header --rust` from a file of settings.
 
@@ -137,6 +146,7 @@ pub enum Text {
     ExportCoded,
     ImportHex,
     ExportHex,
+    ImportXcube,
     Inspect,
     Header,
     Verify,
@@ -192,6 +202,7 @@ fn text_of<A: Allocator + Copy>(
         Text::ExportCoded => export_image(alloc, Form::Coded, FORMATTED),
         Text::ImportHex => import_hex(alloc, shape, Form::Words, BASE, HEX),
         Text::ExportHex => export_hex(alloc, true, Form::Words, FORMATTED, BASE),
+        Text::ImportXcube => import_xcube(alloc, shape, XCUBE),
         Text::Inspect => inspect_text(alloc, FORMATTED),
         Text::Header => header_text(alloc, heap, VOLUME, Language::Rust),
         Text::Verify => {

@@ -1,0 +1,4 @@
+pub mod Element
+pub mod Pages
+pub mod Values
+pub mod Import
