@@ -1,14 +1,12 @@
 //! What the marks of a dump tell of its form.
 ghost use Rattle.std.specs.Prelude.{◌≡◌, IfNone, IfSome, IsTrue, ◌↔◌};
-ghost use Rattle.ee_flash.specs.Size.{Size};
-ghost use Rattle.ee_nor.specs.Coded.Shapes.{IsMarkOf};
 ghost use Rattle.ee_shell.specs.Dumps.Kind.{HasMark, IsAsked, IsOfKind, IsOfOtherKind, Tells, TellsOther, bytes_number};
 ghost use Rattle.ee_shell.specs.declared.dumps.kind.Marking.{Marking as MarkingOf};
 ghost use Rattle.ee_shell.specs.declared.dumps.kind.Marking.TheVariants.{Pairs as Paired};
 
 use crate::dumps::Form;
 use ee_flash::Shape;
-use ee_nor::coded::decode;
+use ee_nor::coded::shape_of_mark;
 use ee_nor::complement_of;
 
 /// The number of a mark.
@@ -99,21 +97,6 @@ fn has_paired_mark(set: &[u8]) -> bool
     ensures { IsTrue result ↔ HasMark set.now Paired }
 {
     number_of(set, 2) == MARK && number_of(set, 3) == complement_of(MARK)
-}
-
-/// The shape whose coded mark a number is.
-fn shape_of_mark(number: u64) -> Option<Shape>
-    ensures found { IfSome result (IsMarkOf number) }
-    ensures none { IfNone result ((size : Size) → ¬ IsMarkOf number size) }
-{
-    let Some(payload) = decode(number) else {
-        return None;
-    };
-    if payload & 0x1_ffff != 0x1_0000 {
-        return None;
-    }
-    let value = payload >> 17;
-    Shape::new((value >> 16) as usize, (value & 0xffff) as usize)
 }
 
 /// The number of eight bytes, the least first. 0 past the end.
