@@ -88,7 +88,7 @@
 extern "C" {
 #endif
 
-/* What a call answers: one of the EE_ numbers below, of EE_OK to EE_OTHER_SHAPE. */
+/* What a call answers: one of the EE_ numbers below, of EE_OK to EE_HURT. */
 typedef uint32_t ee_result;
 
 /* What a flash has. */
@@ -253,7 +253,11 @@ enum {
     EE_BUSY = 15,
     /* Of EE_CODED: the flash holds a store of coded words of other `pages` or `page_words`, or one of EE_WORDS, by the mark in the
      * first page of a set. It comes before all else that an opening says of the flash. Nothing was written. */
-    EE_OTHER_SHAPE = 16
+    EE_OTHER_SHAPE = 16,
+    /* Of records (ee_records.h): there are more bytes than the record, or the space that is lent, has room for. */
+    EE_TOO_LONG = 17,
+    /* A word of the record went bad: its bytes and its check don't agree. A write gives it new bytes. */
+    EE_HURT = 18
 };
 
 /* A value that an address gets. */
@@ -288,8 +292,8 @@ typedef struct ee_numbers {
 /* The call to make at each start, as others mount a file system. Opens the store that the flash holds, as ee_open, or makes the
  * first one: where no set is live and each word behind a page's header is erased or torn. On EE_CODED and EE_PAIRS that is where
  * every word is erased but the first two of page 0, and on EE_PAIRS_CLEARING where page 0 holds no value and all else is blank:
- * whatever else stands in that page is formatted over. A first start in which power was cut is made again; no stored value is
- * erased. EE_OK; EE_OTHER_SHAPE, EE_NO_LIVE_SET, EE_TWO_LIVE, EE_FOREIGN, EE_DRIVER. */
+ * whatever else stands in that page is formatted over, a store of another kind too. A first start in which power was cut is made
+ * again; no value of this kind is erased. EE_OK; EE_OTHER_SHAPE, EE_NO_LIVE_SET, EE_TWO_LIVE, EE_FOREIGN, EE_DRIVER. */
 ee_result ee_start(ee_store *store, const ee_flash *flash);
 
 /* Opens the store that the flash holds. Where power was cut it sets the marks that were left to set, else it writes nothing.
@@ -553,6 +557,8 @@ static inline const char *ee_status_text(ee_result status) {
     case EE_DUPLICATE: return "an address stands twice in the list";
     case EE_BUSY: return "another call on the store is being made";
     case EE_OTHER_SHAPE: return "the store has other pages or page_words, or is of words";
+    case EE_TOO_LONG: return "there are more bytes than the record or the space has room for";
+    case EE_HURT: return "a word of the record went bad";
     default: return "no status of ee";
     }
 }

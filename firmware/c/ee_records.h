@@ -28,12 +28,6 @@ typedef struct ee_record {
 /* How many addresses a record takes, and the most slots at a move; with ee_trim_bytes behind each write about half of them. */
 #define EE_RECORD_ADDRESSES(words) (3u + 2u * (words))
 
-/* What these calls answer beside the statuses of ee.h. */
-enum {
-    EE_TOO_LONG = 16, /* there are more bytes than the record, or the space that is lent, has room for */
-    EE_HURT = 17      /* a word of the record went bad: its bytes and its check don't agree. A write gives it new bytes */
-};
-
 /* Reads a record into `bytes`, which has room for `size` bytes. EE_OK, with its length; EE_NOTHING where there is none;
  * EE_TOO_LONG, with its length, where that is above `size`; EE_HURT; EE_DRIVER. `length` is written with EE_OK and EE_TOO_LONG
  * alone, and `bytes` holds anything where it isn't EE_OK. */

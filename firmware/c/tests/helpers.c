@@ -65,9 +65,9 @@ static void kept(void) {
 
 /* No two statuses have one text. */
 static void texts(void) {
-    for (uint32_t a = EE_OK; a <= EE_OTHER_SHAPE + 1; a++)
+    for (uint32_t a = EE_OK; a <= EE_HURT + 1; a++)
         for (uint32_t b = EE_OK; b < a; b++) CHECK(strcmp(ee_status_text(a), ee_status_text(b)) != 0);
-    CHECK(strcmp(ee_status_text(EE_OTHER_SHAPE + 1), ee_status_text(UINT32_MAX)) == 0);
+    CHECK(strcmp(ee_status_text(EE_HURT + 1), ee_status_text(UINT32_MAX)) == 0);
 }
 
 /* A read that fails: the store is off, and what was made of a default isn't written. */
