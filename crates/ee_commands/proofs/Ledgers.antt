@@ -16,8 +16,8 @@ use Rattle.ee_interface.specs.declared.fault.Fault.{Fault}
 use Rattle.ee_interface.specs.declared.fault.Fault.TheVariants.{Memory}
 use Rattle.ee_interface.specs.declared.fault.File.TheVariants.{Image, Before}
 use Rattle.ee_image_store.specs.Opening.{SpellsDevice}
-use Rattle.ee_commands.specs.Wear.{IsDifferenceFault, IsWear, IsWearFault, count_lines, count_text}
-use Rattle.ee_image_store.proofs.Public.{one_file_fault, only_memory}
+use Rattle.ee_commands.specs.Wear.{AreWearCounts, IsDifferenceFault, IsWearFault, count_lines, count_text}
+use Rattle.ee_image_store.proofs.Public.{no_memory_for, one_file_fault, only_memory}
 
 lines_push : (start : ℕ) (counts : List ℕ) (n number : ℕ) → number ≡ start + n → n < length counts
     → count_lines start (take (suc n) counts)
@@ -116,27 +116,32 @@ one_wear_fault image (Some before) cause fault some (inr (inr h)) (inr (inl i)) 
 one_wear_fault image (Some before) cause fault some (inr (inr h)) (inr (inr i)) =
     one_difference image before cause fault some h i
 
-told_is_good : (image : List ℕ) (before : Option (List ℕ)) (text : List ℕ) (cause : Fault)
-    → IsWear image before text → cause ≢ Memory → IsWearFault image before cause → ⊥
-told_is_good image None text cause told some h =
-    some (only_memory Image image told.are_counts.device cause told.are_counts.spelled h)
-told_is_good image (Some before) text cause told some (inl h) =
-    some (only_memory Image image told.are_counts.device cause told.are_counts.spelled h)
-told_is_good image (Some before) text cause told some (inr (inl h)) =
-    some (only_memory Before before told.are_counts.old cause told.are_counts.spelled_before h.1)
-told_is_good image (Some before) text cause told some (inr (inr h)) =
-    let counts = told.are_counts in
-    none_fell_is_good counts.old.wear counts.device.wear h.cause counts.none_fell
+told_is_good : (image : List ℕ) (before : Option (List ℕ)) (counts : List ℕ) (cause : Fault)
+    → AreWearCounts image before counts → cause ≢ Memory → IsWearFault image before cause → ⊥
+told_is_good image None counts cause told some h =
+    some (only_memory Image image told.device cause told.spelled h)
+told_is_good image (Some before) counts cause told some (inl h) =
+    some (only_memory Image image told.device cause told.spelled h)
+told_is_good image (Some before) counts cause told some (inr (inl h)) =
+    some (only_memory Before before told.old cause told.spelled_before h.1)
+told_is_good image (Some before) counts cause told some (inr (inr h)) =
+    none_fell_is_good told.old.wear told.device.wear h.cause told.none_fell
     (some_cause image before cause h some)
-    (moved_cause image before cause counts.device counts.old h counts.spelled counts.spelled_before)
+    (moved_cause image before cause told.device told.old h told.spelled told.spelled_before)
 
 -- no cause is passed over
-pub wear_names : {T : Type 0} (items : T → List ℕ) (r : Result T Fault) (image : List ℕ)
-    (before : Option (List ℕ))
-    → IfOk r (λ text. IsWear image before (items text)) → IfErr r (IsWearFault image before)
+pub wear_names : (r : Result (List ℕ) Fault) (image : List ℕ) (before : Option (List ℕ))
+    → IfOk r (AreWearCounts image before) → IfErr r (IsWearFault image before)
     → (cause : Fault) → cause ≢ Memory → IsWearFault image before cause
     → MatchResult r (λ _. ⊥) (λ fault. (fault ≡ cause) ⊎ (fault ≡ Memory))
-wear_names items (Ok text) image before told wrong cause some h =
-    told_is_good image before (items text) cause told some h
-wear_names items (Err fault) image before told wrong cause some h =
+wear_names (Ok counts) image before told wrong cause some h =
+    told_is_good image before counts cause told some h
+wear_names (Err fault) image before told wrong cause some h =
     one_wear_fault image before cause fault some h wrong
+
+-- memory can run out of whatever is told
+pub wear_memory : (image : List ℕ) (before : Option (List ℕ)) (counts : List ℕ)
+    → AreWearCounts image before counts → IsWearFault image before Memory
+wear_memory image None counts told = no_memory_for Image image told.device told.spelled
+wear_memory image (Some before) counts told =
+    inl (no_memory_for Image image told.device told.spelled)

@@ -15,3 +15,6 @@ mod AskedRuns
 mod SizeWears
 mod AllMade
 mod SizedRuns
+mod Objects
+mod Parts
+mod PlanDocuments

@@ -154,7 +154,7 @@ both_plain calls whole unlisted =
 -- the addresses of the script that is made so many times
 all_proper : (words cycles runs : ℕ) (text told : List ℕ) (some_enough : Bool)
     (sized : IsSized words text cycles runs told some_enough)
-    → AreProper (repeated_trace runs sized.trace)
+    → AreProper (repeated_trace runs sized.needs.trace)
 all_proper words cycles runs text told some_enough sized =
     search (rules, repeated_proper, trace_proper)
 
@@ -163,15 +163,15 @@ pub each_size_wears_as_told_lem : (text told : List ℕ) (cycles runs most : ℕ
     → (sized : IsSized old.size.words text cycles runs told some_enough)
     → IsDemandOf old.size.pages sized.demands (Transfers most) → IsFormatted blank old
     → IsWholeRun calls old new → All (λ call. is_of_several call ≡ false) calls
-    → asked_by_calls calls ≡ repeated_trace runs sized.trace → WearsAsTold cycles most calls old new
+    → asked_by_calls calls ≡ repeated_trace runs sized.needs.trace → WearsAsTold cycles most calls old new
 each_size_wears_as_told_lem text told cycles runs most some_enough calls blank old new sized line
     formats whole unlisted asked =
     let words = old.size.words in
-    let trace = repeated_trace runs sized.trace in
+    let trace = repeated_trace runs sized.needs.trace in
     let are =
     subst AreProper (sym asked) (all_proper words cycles runs text told some_enough sized) in
     let demanded =
-    demanded_there words old.size.pages trace most sized.demands line sized.demanded in
+    demanded_there words old.size.pages trace most sized.demands line sized.needs.demanded in
     let reached = demanded.1.reached in
     let few =
     bounded calls old new whole.run (both_plain calls whole.without_cuts unlisted) are
@@ -184,14 +184,14 @@ pub each_size_moves_as_told_lem : (text told : List ℕ) (cycles runs : ℕ) (so
     (calls : List Call) (blank old new : Device)
     → (sized : IsSized old.size.words text cycles runs told some_enough) → IsFormatted blank old
     → IsWholeRun calls old new → All (λ call. is_of_several call ≡ false) calls
-    → made_by_calls calls ≡ repeated_trace runs sized.trace
+    → made_by_calls calls ≡ repeated_trace runs sized.needs.trace
     → IsDemandOf old.size.pages sized.demands (Transfers (transfers calls))
     × WearsAsTold cycles (transfers calls) calls old new
 each_size_moves_as_told_lem text told cycles runs some_enough calls blank old new sized formats
     whole unlisted made =
     let words = old.size.words in
     let slots = slot_count old.size in
-    let trace = repeated_trace runs sized.trace in
+    let trace = repeated_trace runs sized.needs.trace in
     let limits = formats.store.legal.2.formed.within_limits in
     let are =
     subst AreProper (sym made) (all_proper words cycles runs text told some_enough sized) in
@@ -201,7 +201,7 @@ each_size_moves_as_told_lem text told cycles runs some_enough calls blank old ne
     (empty_start slots (state_of old) formats.state_is) (empty_proper slots) in
     let here =
     among words old.size.pages 1 trace sized.demands limits.some_pages
-    (omega (arith, limits.few_pages, sized.each_size)) sized.demanded in
+    (omega (arith, limits.few_pages, sized.needs.each_size)) sized.needs.demanded in
     let did =
     did_so (unused_situation slots) trace here.demand calls (empty_proper slots) late made
     here.demanded in
@@ -225,18 +225,18 @@ pub each_size_is_made_as_told_lem : (text told : List ℕ) (cycles runs most : �
     → IsDemandOf old.size.pages sized.demands (Transfers most) → IsFormatted blank old → IsOn old
     → IsWholeRun calls old new → All (λ call. is_of_several call ≡ false) calls
     → All (λ call. wants_memory call ≡ false) calls
-    → asked_by_calls calls ≡ repeated_trace runs sized.trace
-    → ForgetsLive [] (repeated_trace runs sized.trace) → is_spent_by most ≡ false
-    → (made_by_calls calls ≡ repeated_trace runs sized.trace) × (transfers calls ≡ most)
+    → asked_by_calls calls ≡ repeated_trace runs sized.needs.trace
+    → ForgetsLive [] (repeated_trace runs sized.needs.trace) → is_spent_by most ≡ false
+    → (made_by_calls calls ≡ repeated_trace runs sized.needs.trace) × (transfers calls ≡ most)
 each_size_is_made_as_told_lem text told cycles runs most some_enough calls blank old new sized line
     formats on whole unlisted given asked held left =
     let words = old.size.words in
     let start = unused_situation (slot_count old.size) in
-    let trace = repeated_trace runs sized.trace in
+    let trace = repeated_trace runs sized.needs.trace in
     let are =
     subst AreProper (sym asked) (all_proper words cycles runs text told some_enough sized) in
     let demanded =
-    demanded_there words old.size.pages trace most sized.demands line sized.demanded in
+    demanded_there words old.size.pages trace most sized.demands line sized.needs.demanded in
     let late =
     late_moves start trace demanded.1.claim (empty_proper start.slots) demanded.1.tight in
     let cost_is : cost late.moves ≡ most = late.cost_is ∙ sym demanded.1.stretches in

@@ -5,3 +5,5 @@ pub mod Wear
 pub mod Planning
 pub mod Sizing
 pub mod ToldSizes
+pub mod Json
+pub mod Documents

@@ -63,20 +63,24 @@ pub record IsTask (image text : List ℕ) (start : Situation) (trace : List Chan
   pub start_is : IsImageStart image start
   pub trace_is : IsTrace text trace
 
--- The text is that of the tight certificate of the image's start and the script's trace, which the
--- checker accepts; some store that transfers when it likes makes as many transfers as it has
--- stretches, and none makes fewer.
-pub record IsPlanned (image text planned : List ℕ) : Type 0 where
+-- The claim is the tight certificate of the image's start and the script's trace, which the checker
+-- accepts; some store that transfers when it likes makes as many transfers as it has stretches, and
+-- none makes fewer.
+pub record IsPlannedClaim (image text : List ℕ) (claim : Claim) : Type 0 where
   pub start : Situation
   pub trace : List Change
   pub task : IsTask image text start trace
-  pub claim : Claim
   pub tight : IsTight start trace claim
   pub certificate : IsCertificate start trace claim
   pub reached : (schedule : List Move) × IsSchedule start trace schedule
       × (cost schedule ≡ length claim.stretches)
   pub fewest : (schedule : List Move) → IsSchedule start trace schedule
       → length claim.stretches ≤ cost schedule
+
+-- the text is that of the claim which is planned
+pub record IsPlanned (image text planned : List ℕ) : Type 0 where
+  pub claim : Claim
+  pub is_planned : IsPlannedClaim image text claim
   pub text_is : planned ≡ text_of claim
 
 -- how many transfers are proved, as `check` prints it

@@ -143,18 +143,25 @@ AreDemands words trace pages (demand ∷ demands) =
     IsDemand (unused_situation (slot_count (size_of pages words))) trace demand
     × AreDemands words trace (pages + 1) demands
 
--- The changes of the script, made so many times, demand this of the sets of 1 to 64
--- pages; a line is told of each, whose numbers of erases no store has fewer of, the
--- fewest pages that are enough, and whether there are some.
-pub record IsSized (words : ℕ) (text : List ℕ) (cycles runs : ℕ) (told : List ℕ)
-    (some_enough : Bool) : Type 0 where
+-- The changes of the script, made so many times, are so many, and demand this of the sets of 1 to
+-- 64 pages, whose numbers of erases no store has fewer of.
+pub record AreNeeds (words : ℕ) (text : List ℕ) (runs changes : ℕ) (demands : List Demand)
+    : Type 0 where
   pub trace : List Change
   pub trace_is : IsTrace text trace
-  pub demands : List Demand
   pub demanded : AreDemands words (repeated_trace runs trace) 1 demands
   pub each_size : length demands ≡ 64
   pub wears : EachWears words (repeated_trace runs trace) 1 demands
-  pub text_is : told ≡ size_lines words cycles (length (repeated_trace runs trace)) 1 demands
+  pub changes_are : changes ≡ length (repeated_trace runs trace)
+
+-- A line is told of each of these demands, the fewest pages that are enough, and whether there are
+-- some.
+pub record IsSized (words : ℕ) (text : List ℕ) (cycles runs : ℕ) (told : List ℕ)
+    (some_enough : Bool) : Type 0 where
+  pub changes : ℕ
+  pub demands : List Demand
+  pub needs : AreNeeds words text runs changes demands
+  pub text_is : told ≡ size_lines words cycles changes 1 demands
       ++ fewest_text (fewest_enough cycles 1 demands)
   pub enough_is : some_enough ≡ list_any (is_enough cycles) demands
 

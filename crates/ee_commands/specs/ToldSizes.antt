@@ -77,7 +77,7 @@ EachSizeWearsAsTold =
     → IsDemandOf old.size.pages sized.demands (Transfers most)
     → IsFormatted blank old → IsWholeRun calls old new
     → All (λ call. is_of_several call ≡ false) calls
-    → asked_by_calls calls ≡ repeated_trace runs sized.trace → WearsAsTold cycles most calls old new
+    → asked_by_calls calls ≡ repeated_trace runs sized.needs.trace → WearsAsTold cycles most calls old new
 
 -- Where they made the changes of the script so many times, and no others, the line of its size
 -- tells just as many transfers as they made; and it wears as was told.
@@ -87,7 +87,7 @@ EachSizeMovesAsTold =
     (blank old new : Device)
     → (sized : IsSized old.size.words text cycles runs told some_enough) → IsFormatted blank old
     → IsWholeRun calls old new → All (λ call. is_of_several call ≡ false) calls
-    → made_by_calls calls ≡ repeated_trace runs sized.trace
+    → made_by_calls calls ≡ repeated_trace runs sized.needs.trace
     → IsDemandOf old.size.pages sized.demands (Transfers (transfers calls))
     × WearsAsTold cycles (transfers calls) calls old new
 
@@ -103,6 +103,6 @@ EachSizeIsMadeAsTold =
     → IsFormatted blank old → IsOn old → IsWholeRun calls old new
     → All (λ call. is_of_several call ≡ false) calls
     → All (λ call. wants_memory call ≡ false) calls
-    → asked_by_calls calls ≡ repeated_trace runs sized.trace
-    → ForgetsLive [] (repeated_trace runs sized.trace) → is_spent_by most ≡ false
-    → (made_by_calls calls ≡ repeated_trace runs sized.trace) × (transfers calls ≡ most)
+    → asked_by_calls calls ≡ repeated_trace runs sized.needs.trace
+    → ForgetsLive [] (repeated_trace runs sized.needs.trace) → is_spent_by most ≡ false
+    → (made_by_calls calls ≡ repeated_trace runs sized.needs.trace) × (transfers calls ≡ most)

@@ -157,7 +157,7 @@ fn push_state<A: Allocator>(
 }
 
 /// The name of a page's state.
-fn name_of(state: State) -> &'static [u8]
+pub(crate) fn name_of(state: State) -> &'static [u8]
     ensures { result.now ≡ state_name state }
 {
     match state {

@@ -28,6 +28,7 @@
 
 mod forgetting;
 mod images;
+mod json;
 pub mod laws;
 mod planning;
 mod rescuing;
@@ -36,6 +37,7 @@ mod wear;
 
 pub use forgetting::forget_all;
 pub use images::{clean_image, format_image, states_text};
+pub use json::{SizesDocument, plan_json, push_array, sizes_json, states_json, wear_json};
 pub use planning::{check_script, plan_script};
 pub use rescuing::rescue_image;
 pub use sizing::{PartSizes, size_parts};

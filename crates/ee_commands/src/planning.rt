@@ -3,11 +3,12 @@ ghost use Rattle.std.specs.Prelude.{◌≡◌, ◌++◌, ◌∷◌, [], IfErr, I
 ghost use Rattle.ee_text.specs.Line.{line_of};
 ghost use Rattle.ee_interface.specs.Script.Command.{command_text};
 ghost use Rattle.ee_interface.specs.Script.Script.{NoLineOf};
-ghost use Rattle.ee_commands.specs.Planning.{IsCheckingFault, IsPlanned, IsPlanningFault, IsProved, IsTask, IsTaskFault, IsTrace, IsTraceCommand, IsTraceFault, fault_of_plan, proved_text};
+ghost use Rattle.ee_check.specs.Certificate.{claim_of};
+ghost use Rattle.ee_commands.specs.Planning.{IsCheckingFault, IsPlanned, IsPlannedClaim, IsPlanningFault, IsProved, IsTask, IsTaskFault, IsTrace, IsTraceCommand, IsTraceFault, fault_of_plan, proved_text};
 ghost use Rattle.ee_image_store.specs.Trace.{trace_of};
 ghost use Rattle.ee_interface.specs.Causes.{NamesEach};
 
-use ee_check::{Change, Start, check, read_certificate, write_certificate};
+use ee_check::{Certificate, Change, Start, check, read_certificate, write_certificate};
 use ee_image_store::open_image;
 use ee_interface::Fault;
 use ee_interface::script::{Command, ScriptFault, next_command};
@@ -36,14 +37,30 @@ pub fn plan_script<A: Allocator + Copy>(
     // No cause is passed over.
     ensures names { NamesEach Fault.Memory (IsPlanningFault image.now script.now) result }
 {
-    let (start, trace) = read_task(alloc, image, script)?;
-    let plan = match plan(alloc, &start, &trace) {
-        Ok(plan) => plan,
-        Err(fault) => return Err(fault_of(fault)),
-    };
+    let certificate = planned(alloc, image, script)?;
     let mut text = Vec::new(alloc);
-    write_certificate(&plan.certificate, &mut text)?;
+    write_certificate(&certificate, &mut text)?;
     Ok(text)
+}
+
+/// The tight certificate of a script on the image that a text spells.
+pub(crate) fn planned<A: Allocator + Copy>(
+    alloc: A,
+    image: &[u8],
+    script: &[u8],
+) -> Result<Certificate<A>, Fault>
+    ensures planned { IfOk result
+        (λ certificate. IsPlannedClaim image.now script.now (claim_of certificate)) }
+    ensures fault { IfErr result (IsPlanningFault image.now script.now) }
+    ensures memory { IfOk result (λ _. IsPlanningFault image.now script.now Fault.Memory) }
+    // No cause is passed over.
+    ensures names { NamesEach Fault.Memory (IsPlanningFault image.now script.now) result }
+{
+    let (start, trace) = read_task(alloc, image, script)?;
+    match plan(alloc, &start, &trace) {
+        Ok(plan) => Ok(plan.certificate),
+        Err(fault) => Err(fault_of(fault)),
+    }
 }
 
 /// Checks the certificate that a text says against a script on the image that a text spells, and

@@ -4,7 +4,7 @@ ghost use Rattle.std.specs.List.{list_any};
 ghost use Rattle.ee_flash.specs.Size.{size_of, slot_count};
 ghost use Rattle.ee_text.specs.Line.{line_of};
 ghost use Rattle.ee_plan.specs.Planner.Rounds.{repeated_trace};
-ghost use Rattle.ee_commands.specs.Sizing.{AreDemands, EachWears, IsSized, IsSizingFault, erases_for, fewest_enough, fewest_text, fitting_text, is_enough, least_for, limit_for, not_fitting_text, numbers_text, size_lines, sizing_text, verdict};
+ghost use Rattle.ee_commands.specs.Sizing.{AreDemands, AreNeeds, EachWears, IsSized, IsSizingFault, erases_for, fewest_enough, fewest_text, fitting_text, is_enough, least_for, limit_for, not_fitting_text, numbers_text, size_lines, sizing_text, verdict};
 ghost use Rattle.ee_interface.specs.Causes.{NamesEach};
 
 use super::planning::read_trace;
@@ -64,13 +64,44 @@ pub fn size_parts<A: Allocator + Copy>(
     // No cause is passed over.
     ensures names { NamesEach Fault.Memory (IsSizingFault script.now) result }
 {
+    let needs = needs_of(alloc, words, script, runs)?;
+    let demands = needs.demands.as_slice();
+    let mut text = text_of_sizes(alloc, demands, words, cycles, needs.changes)?;
+    push_fewest(&mut text, fewest_of(demands, cycles))?;
+    let some_enough = is_some_enough(demands, cycles);
+    Ok(PartSizes { text, some_enough })
+}
+
+/// What a script that is made many times over demands.
+#[derive(Drop)]
+pub(crate) struct Needs<A: Allocator = Global> {
+    /// The changes of all rounds.
+    pub(crate) changes: u64,
+    /// What they demand of sets of 1 to 64 pages.
+    pub(crate) demands: Vec<Demand, A>,
+}
+
+/// What a script that is made `runs` times demands of sets of so many words a page.
+pub(crate) fn needs_of<A: Allocator + Copy>(
+    alloc: A,
+    words: u16,
+    script: &[u8],
+    runs: u32,
+) -> Result<Needs<A>, Fault>
+    ensures needs { IfOk result
+        (λ needs. AreNeeds words script.now runs needs.changes needs.demands.items) }
+    ensures fault { IfErr result (IsSizingFault script.now) }
+    ensures memory { IsSizingFault script.now Fault.Memory }
+    // No cause is passed over.
+    ensures names { NamesEach Fault.Memory (IsSizingFault script.now) result }
+{
     let trace = read_trace(alloc, script)?;
     let rounds = rounds_of(alloc, trace, runs)?;
     let demands = demands_of(alloc, &rounds, words)?;
-    let mut text = text_of_sizes(alloc, demands.as_slice(), words, cycles, rounds.changes())?;
-    push_fewest(&mut text, fewest_of(demands.as_slice(), cycles))?;
-    let some_enough = is_some_enough(demands.as_slice(), cycles);
-    Ok(PartSizes { text, some_enough })
+    Ok(Needs {
+        changes: rounds.changes(),
+        demands,
+    })
 }
 
 /// The trace, so many times.
@@ -106,7 +137,7 @@ fn demands_of<A: Allocator + Copy>(
 }
 
 /// The slots of a set.
-fn slots_of(pages: u32, words: u16) -> u32
+pub(crate) fn slots_of(pages: u32, words: u16) -> u32
     requires { pages ≤ 64 }
     ensures { result ≡ slot_count (size_of pages words) }
 {
@@ -134,7 +165,7 @@ fn text_of_sizes<A: Allocator + Copy>(
 }
 
 /// The fewest pages that are enough, where some are.
-fn fewest_of(demands: &[Demand], cycles: u32) -> Option<u32>
+pub(crate) fn fewest_of(demands: &[Demand], cycles: u32) -> Option<u32>
     requires { length demands.now ≡ 64 }
     ensures { result ≡ fewest_enough cycles 1 demands.now }
 {
@@ -222,7 +253,7 @@ fn push_numbers<A: Allocator>(
 }
 
 /// Writes whether a size is enough, or why it isn't. After an error there may be a part of it.
-fn push_verdict<A: Allocator>(
+pub(crate) fn push_verdict<A: Allocator>(
     out: &mut Vec<u8, A>,
     transfers: u64,
     limit: u64,
@@ -260,21 +291,21 @@ fn push_not_fitting<A: Allocator>(
 }
 
 /// How often a page is erased at the most.
-fn erases_of(transfers: u64) -> u64
+pub(crate) fn erases_of(transfers: u64) -> u64
     ensures { result ≡ erases_for transfers }
 {
     transfers - transfers / 2
 }
 
 /// How often some page is erased at the least, by any store that transfers.
-fn least_of(transfers: u64) -> u64
+pub(crate) fn least_of(transfers: u64) -> u64
     ensures { result ≡ least_for transfers }
 {
     transfers / 2
 }
 
 /// How often some page is erased at the least, by any store that programs a word for each change.
-fn limit_of(pages: u32, words: u16, changes: u64) -> u64
+pub(crate) fn limit_of(pages: u32, words: u16, changes: u64) -> u64
     requires { pages ≤ 64 }
     ensures { result ≡ limit_for pages words changes }
 {
@@ -286,7 +317,7 @@ fn limit_of(pages: u32, words: u16, changes: u64) -> u64
 }
 
 /// Whether some demand is met within the cycles.
-fn is_some_enough(demands: &[Demand], cycles: u32) -> bool
+pub(crate) fn is_some_enough(demands: &[Demand], cycles: u32) -> bool
     ensures { result ≡ list_any (is_enough cycles) demands.now }
 {
     demands.iter().any(|demand| is_enough_for(*demand, cycles))

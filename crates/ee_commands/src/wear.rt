@@ -1,9 +1,9 @@
 //! How often each page of an image was erased.
-ghost use Rattle.std.specs.Prelude.{◌≡◌, ◌++◌, Some, None, IfOk, IfErr, OnOk};
+ghost use Rattle.std.specs.Prelude.{◌≡◌, ◌++◌, Some, IfOk, IfErr, OnOk};
 ghost use Rattle.std.specs.Option.{option_map};
 ghost use Rattle.ee_text.specs.Line.{line_of};
 ghost use Rattle.ee_image_store.specs.FileFaults.{IsFileFault};
-ghost use Rattle.ee_commands.specs.Wear.{AreWearCountsOf, IsWear, IsWearFault, count_lines, count_text, ledger_text, total_text};
+ghost use Rattle.ee_commands.specs.Wear.{AreWearCounts, AreWearCountsOf, IsWear, IsWearFault, count_lines, count_text, ledger_text, total_text};
 ghost use Rattle.ee_interface.specs.Causes.{NamesEach};
 
 use ee_image::read_image;
@@ -36,19 +36,31 @@ pub fn wear_text<A: Allocator + Copy>(
     ensures names { NamesEach Fault.Memory
         (IsWearFault image.now (option_map (λ before. before.now) before.entry)) result }
 {
-    match before {
-        None => whole_wear(alloc, image),
-        Some(before) => wear_since(alloc, image, before),
-    }
+    let ledger = ledger_told(alloc, image, before)?;
+    Ok(text_of_ledger(alloc, &ledger)?)
 }
 
-/// The wear of the image that a text spells.
-fn whole_wear<A: Allocator + Copy>(alloc: A, image: &[u8]) -> Result<Vec<u8, A>, Fault>
-    ensures wear { IfOk result (λ text. IsWear image.now None text.items) }
-    ensures fault { IfErr result (IsWearFault image.now None) }
+/// The counts that are told of the image that a text spells: its wear, or the wear that came since
+/// the one before.
+pub(crate) fn ledger_told<A: Allocator + Copy>(
+    alloc: A,
+    image: &[u8],
+    before: Option<&[u8]>,
+) -> Result<Ledger<A>, Fault>
+    ensures counts { IfOk result
+        (AreWearCounts image.now (option_map (λ before. before.now) before.entry)) }
+    ensures fault { IfErr result
+        (IsWearFault image.now (option_map (λ before. before.now) before.entry)) }
+    ensures memory { IfOk result (λ _. IsWearFault image.now
+        (option_map (λ before. before.now) before.entry) Fault.Memory) }
+    // No cause is passed over.
+    ensures names { NamesEach Fault.Memory
+        (IsWearFault image.now (option_map (λ before. before.now) before.entry)) result }
 {
-    let ledger = read_ledger(alloc, File::Image, image)?;
-    Ok(text_of_ledger(alloc, &ledger)?)
+    match before {
+        None => read_ledger(alloc, File::Image, image),
+        Some(before) => wear_since(alloc, image, before),
+    }
 }
 
 /// The wear that came between the image before and this one.
@@ -56,14 +68,14 @@ fn wear_since<A: Allocator + Copy>(
     alloc: A,
     image: &[u8],
     before: &[u8],
-) -> Result<Vec<u8, A>, Fault>
-    ensures wear { IfOk result (λ text. IsWear image.now (Some before.now) text.items) }
+) -> Result<Ledger<A>, Fault>
+    ensures counts { IfOk result (AreWearCounts image.now (Some before.now)) }
     ensures fault { IfErr result (IsWearFault image.now (Some before.now)) }
 {
     let ledger = read_ledger(alloc, File::Image, image)?;
     let old = read_ledger(alloc, File::Before, before)?;
     let since = ledger.since(alloc, &old)?;
-    Ok(text_of_ledger(alloc, &since)?)
+    Ok(since)
 }
 
 /// The ledger of the image that the text of a file spells.
