@@ -6,9 +6,9 @@ use Rattle.std.specs.List.{AllByRecursion}
 use Rattle.std.specs.List.Sorted.{IsStrictlySortedBy}
 use Rattle.toml.specs.Data.{Members}
 use Rattle.ee_settings.proofs.Names.{names_as_entries}
-use Rattle.ee_settings.proofs.Once.{breaks_none, entries_once, fields_once, split_settings}
-use Rattle.ee_settings.specs.File.{AreEntriesOf, BreaksFirst, Entry, GivesSchema, HaveRisingKeys, IsFirstFault, Rule, entries_of}
-use Rattle.ee_settings.specs.Setting.{HaveOwnAddresses, HaveRisingNames, Setting}
+use Rattle.ee_settings.proofs.Once.{Rise, breaks_none, entries_once, good_field, good_name, good_range, never_both, schema_once, split_items}
+use Rattle.ee_settings.specs.File.{Address, AreEntriesOf, BreaksFirst, Entry, Field, GivesSchema, HaveRisingKeys, IsFirstFault, IsSchemaOf, Name, Range, Rule, entries_of, numbers_in, records_in}
+use Rattle.ee_settings.specs.Setting.{AreApart, Item, Schema, name_of_item}
 use Rattle.ee_settings.specs.declared.fault.SchemaFault.{SchemaFault}
 use Rattle.ee_settings.specs.declared.fault.SchemaFault.TheVariants as fault
 
@@ -23,12 +23,12 @@ unfolding IsStrictlySortedBy
 rising_front c [] ys h = tt
 rising_front c (x ∷ xs) ys h = (all_front (λ y. c x y ≡ Less) xs ys h.0, rising_front c xs ys h.1)
 
--- the settings before a fault have rising names
+-- the items before a fault have rising names
 front_rises : (entries before : List Entry) (entry : Entry) (after : List Entry)
-    (settings : List Setting)
+    (items : List Item)
     → HaveRisingKeys entries → entries ≡ before ++ entry ∷ after
-    → map (λ s. s.name) settings ≡ map (λ e. e.0) before → HaveRisingNames settings
-front_rises entries before entry after settings rising split names =
+    → map name_of_item items ≡ map (λ e. e.0) before → Rise items
+front_rises entries before entry after items rising split names =
     search (rules, map-append, rising_front)
 
 same_head : (x y : Entry) (xs ys : List Entry) → x ∷ xs ≡ y ∷ ys → x ≡ y
@@ -70,9 +70,24 @@ same_front (x ∷ before) (y ∷ other) entry more after rest h same =
     )
 
 -- an entry breaks one rule first
-one_rule : (r q : Rule) (earlier : List Setting) (entry : Entry) → BreaksFirst r earlier entry
+one_rule : (r q : Rule) (earlier : Schema) (entry : Entry) → BreaksFirst r earlier entry
     → BreaksFirst q earlier entry → r ≡ q
-one_rule r q earlier entry h1 h2 = search (rules, fields_once)
+one_rule Name Name earlier entry h1 h2 = refl
+one_rule Field Field earlier entry h1 h2 = refl
+one_rule Range Range earlier entry h1 h2 = refl
+one_rule Address Address earlier entry h1 h2 = refl
+one_rule Name Field earlier entry h1 h2 = absurd (h1 h2.0)
+one_rule Name Range earlier entry h1 h2 = absurd (h1 h2.0)
+one_rule Name Address earlier entry h1 h2 = absurd (h1 (good_name entry h2.0 h2.1))
+one_rule Field Name earlier entry h1 h2 = absurd (h2 h1.0)
+one_rule Range Name earlier entry h1 h2 = absurd (h2 h1.0)
+one_rule Address Name earlier entry h1 h2 = absurd (h2 (good_name entry h1.0 h1.1))
+one_rule Field Range earlier entry h1 h2 = absurd (never_both entry h1.1 h2.1)
+one_rule Range Field earlier entry h1 h2 = absurd (never_both entry h2.1 h1.1)
+one_rule Field Address earlier entry h1 h2 = absurd (good_field entry h2.0 h2.1 h1.1)
+one_rule Address Field earlier entry h1 h2 = absurd (good_field entry h1.0 h1.1 h2.1)
+one_rule Range Address earlier entry h1 h2 = absurd (good_range entry h2.0 earlier h2.1 h1)
+one_rule Address Range earlier entry h1 h2 = absurd (good_range entry h1.0 earlier h1.1 h2)
 
 -- no entry that breaks a rule stands before another first fault
 never_earlier : (entries : List Entry) (n m : ℕ) (r q : Rule) → HaveRisingKeys entries
@@ -82,15 +97,16 @@ never_earlier entries n m r q rising h k less =
     let between =
     longer_front h.before k.before h.entry k.entry h.after k.after (sym h.split ∙ k.split)
     less in
-    let names = names_as_entries k.before k.settings k.good.each in
-    let rises = front_rises entries k.before k.entry k.after k.settings rising k.split names in
+    let names = names_as_entries k.before k.good.items k.good.each in
+    let rises = front_rises entries k.before k.entry k.after k.good.items rising k.split names in
     let s =
-    split_settings h.before h.entry between.0 k.settings
-    (subst (λ (es : List Entry). AreEntriesOf es k.settings) between.1 k.good.each) in
-    let before : h.settings ≡ s.0 = entries_once h.before h.settings s.0 h.good.each s.3 in
-    breaks_none r s.0 s.2 s.1 h.entry (subst HaveRisingNames s.5 rises)
-    (subst HaveOwnAddresses s.5 k.good.addresses) s.4
-    (subst (λ (ss : List Setting). BreaksFirst r ss h.entry) before h.bad)
+    split_items h.before h.entry between.0 k.good.items
+    (subst (λ (es : List Entry). AreEntriesOf es k.good.items) between.1 k.good.each) in
+    let before : h.good.items ≡ s.0 = entries_once h.before h.good.items s.0 h.good.each s.3 in
+    breaks_none r s.0 s.2 s.1 h.entry h.schema (subst Rise s.5 rises)
+    (subst AreApart s.5 k.good.apart)
+    (h.good.settings_are ∙ ap numbers_in before, h.good.records_are ∙ ap records_in before) s.4
+    h.bad
 
 first_once : (entries : List Entry) (n m : ℕ) (r q : Rule) → HaveRisingKeys entries
     → IsFirstFault entries n r → IsFirstFault entries m q → (n ≡ m) × (r ≡ q)
@@ -104,14 +120,14 @@ first_once entries n m r q rising h k =
             let at =
             same_front h.before k.before h.entry k.entry h.after k.after (sym h.split ∙ k.split)
             long in
-            let settings : h.settings ≡ k.settings =
-            entries_once h.before h.settings k.settings h.good.each
-            (subst (λ (es : List Entry). AreEntriesOf es k.settings) (sym at.0) k.good.each)
+            let same : h.schema ≡ k.schema =
+            schema_once h.before h.schema k.schema h.good
+            (subst (λ (es : List Entry). IsSchemaOf es k.schema) (sym at.0) k.good)
             in (
               h.number_is ∙ ap (λ i. i + 1) long ∙ sym k.number_is,
-              one_rule r q k.settings k.entry
-                  (subst (λ (e : Entry). BreaksFirst r k.settings e) at.1
-                  (subst (λ (ss : List Setting). BreaksFirst r ss h.entry) settings h.bad))
+              one_rule r q k.schema k.entry
+                  (subst (λ (e : Entry). BreaksFirst r k.schema e) at.1
+                  (subst (λ (ss : Schema). BreaksFirst r ss h.entry) same h.bad))
                   k.bad,
             )
       ]

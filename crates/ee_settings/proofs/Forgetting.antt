@@ -12,7 +12,7 @@ use Rattle.ee_core.specs.Calls.{Forgets}
 use Rattle.ee_core.specs.State.{state_of}
 use Rattle.ee_core.specs.declared.variables.ForgetFault.{ForgetFault}
 use Rattle.ee_core.specs.declared.variables.Written.{Written}
-use Rattle.ee_settings.specs.Setting.{Setting, has_address}
+use Rattle.ee_settings.specs.Setting.{Schema, is_named}
 use Rattle.ee_settings.specs.Tidying.{ForgetsEach, Stops, StopsForgetting, unnamed_of}
 use Rattle.ee_settings.specs.declared.fault.TidyFault.{TidyFault}
 
@@ -62,10 +62,10 @@ each_keeps (one ∷ addresses) old new address done others =
 
 -- ---- where one stops
 
-pub stops_one : (settings : List Setting) (address : ℕ) (fault : ForgetFault) (old new : Device)
-    → has_address settings address ≡ false → Forgets old address (Err fault) new
-    → StopsForgetting (unnamed_of settings address) fault old new
-stops_one settings address fault old new free stopped = record {
+pub stops_one : (schema : Schema) (address : ℕ) (fault : ForgetFault) (old new : Device)
+    → is_named schema address ≡ false → Forgets old address (Err fault) new
+    → StopsForgetting (unnamed_of schema address) fault old new
+stops_one schema address fault old new free stopped = record {
   front = [];
   address = address;
   rest = [];

@@ -1,5 +1,6 @@
 mod Trees
 mod Readings
+mod Items
 mod Addresses
 mod Proper
 mod Stored

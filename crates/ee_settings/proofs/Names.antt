@@ -14,8 +14,9 @@ use Rattle.std.specs.String.{string_cmp}
 use Rattle.toml.specs.View.{members_view}
 use Rattle.toml.specs.declared.value.Value.{Value}
 use Rattle.ee_settings.proofs.Trees.{entries_seen, seen}
-use Rattle.ee_settings.specs.File.{AreEntriesOf, Entry, HaveRisingKeys, entries_of}
-use Rattle.ee_settings.specs.Setting.{HaveRisingNames, Setting}
+use Rattle.ee_settings.proofs.Items.{settings_rise}
+use Rattle.ee_settings.specs.File.{AreEntriesOf, Entry, HaveRisingKeys, entries_of, numbers_in}
+use Rattle.ee_settings.specs.Setting.{HaveRisingNames, Item, Kept, Number, Setting, name_of_item}
 
 below_bytes : (k : String Global) (ks : List (String Global))
     → AllByRecursion (λ y. string_cmp k y ≡ Less) ks
@@ -29,13 +30,15 @@ unfolding IsStrictlySortedBy
 rising_bytes [] h = tt
 rising_bytes (k ∷ ks) h = (below_bytes k ks h.0, rising_bytes ks h.1)
 
-pub names_as_entries : (entries : List Entry) (settings : List Setting)
-    → AreEntriesOf entries settings → map (λ s. s.name) settings ≡ map (λ e. e.0) entries
+pub names_as_entries : (entries : List Entry) (items : List Item)
+    → AreEntriesOf entries items → map name_of_item items ≡ map (λ e. e.0) entries
 names_as_entries [] [] h = refl
-names_as_entries [] (s ∷ settings) h = absurd h
+names_as_entries [] (i ∷ items) h = absurd h
 names_as_entries (e ∷ entries) [] h = absurd h
-names_as_entries (e ∷ entries) (s ∷ settings) h =
-    rw (h.0.name, names_as_entries entries settings h.1)
+names_as_entries (e ∷ entries) (Number s ∷ items) h =
+    rw (h.0.name, names_as_entries entries items h.1)
+names_as_entries (e ∷ entries) (Kept one ∷ items) h =
+    rw (h.0.name, names_as_entries entries items h.1)
 
 entry_names : (es : List (String Global × Value))
     → map (λ (e : Entry). e.0) (map seen es) ≡ map string_bytes (keys_of es)
@@ -50,37 +53,42 @@ rising_keys es sorted =
     (sym (ap (map (λ (e : Entry). e.0)) (entries_seen es) ∙ entry_names es))
     (rising_bytes (keys_of es) sorted)
 
-pub rising_names : (es : List (String Global × Value)) (settings : List Setting)
-    → AreEntriesOf (map seen es) settings → IsStrictlySortedBy string_cmp (keys_of es)
-    → HaveRisingNames settings
-rising_names es settings each sorted =
-    subst (IsStrictlySortedBy (slice_cmp nat_cmp))
-    (sym (names_as_entries (map seen es) settings each ∙ entry_names es))
-    (rising_bytes (keys_of es) sorted)
+pub rising_names : (es : List (String Global × Value)) (items : List Item)
+    → AreEntriesOf (map seen es) items → IsStrictlySortedBy string_cmp (keys_of es)
+    → HaveRisingNames (numbers_in items)
+rising_names es items each sorted =
+    settings_rise items (subst (IsStrictlySortedBy (slice_cmp nat_cmp))
+    (sym (names_as_entries (map seen es) items each ∙ entry_names es))
+    (rising_bytes (keys_of es) sorted))
 
-name_at : (settings : List Setting) (one : Setting) (i : ℕ) (d : List ℕ) → i < length settings
-    → get_or settings i one ≡ one → get_or (map (λ (s : Setting). s.name) settings) i d ≡ one.name
-name_at settings one i d inside at =
+name_at : {T : Type 0} (name : T → List ℕ) (items : List T) (one : T) (i : ℕ) (d : List ℕ)
+    → i < length items → get_or items i one ≡ one → get_or (map name items) i d ≡ name one
+name_at name items one i d inside at =
     grind (arith, common_steps, get_or-map, get_or_default, length-map)
 
 pub never_equal : (a b : List ℕ) → slice_cmp nat_cmp a b ≡ Less → a ≢ b
 never_equal a b less e = search (rules, nat_list_cmp_total)
 
-pub later_differs : (settings : List Setting) → HaveRisingNames settings
+pub later_differs : {T : Type 0} (name : T → List ℕ) (items : List T)
+    → IsStrictlySortedBy (slice_cmp nat_cmp) (map name items)
+    → (one other : T) (i j : ℕ) → i < j → j < length items → get_or items i one ≡ one
+    → get_or items j other ≡ other → name one ≢ name other
+later_differs name items rising one other i j less inside at_one at_other =
+    let within : j < length (map name items) = rw (length-map items name) inside in
+    let first : i < length items = omega arith in
+    let order =
+    Less-from_sorted (slice_cmp nat_cmp) (map name items) i j [] rising less within in
+    never_equal (name one) (name other)
+    (rw (name_at name items one i [] first at_one, name_at name items other j [] inside at_other) at
+    order)
+
+differs : (settings : List Setting) → HaveRisingNames settings
     → (one other : Setting) (i j : ℕ) → i < j → j < length settings → get_or settings i one ≡ one
     → get_or settings j other ≡ other → one.name ≢ other.name
-later_differs settings rising one other i j less inside at_one at_other =
-    let within : j < length (map (λ (s : Setting). s.name) settings) =
-    rw (length-map settings (λ (s : Setting). s.name)) inside in
-    let first : i < length settings = omega arith in
-    let order =
-    Less-from_sorted (slice_cmp nat_cmp) (map (λ (s : Setting). s.name) settings) i j [] rising
-    less within in
-    never_equal one.name other.name
-    (rw (name_at settings one i [] first at_one, name_at settings other j [] inside at_other) at
-    order)
+differs settings rising one other i j less inside at_one at_other =
+    later_differs (λ (s : Setting). s.name) settings rising one other i j less inside at_one at_other
 
 pub names_apart : (settings : List Setting) → HaveRisingNames settings → (one other : Setting)
     → Contains settings one → Contains settings other → one.name ≡ other.name → one ≡ other
 names_apart settings rising one other first second same =
-    search (rules, cases_lt, get_or_default, later_differs)
+    search (rules, cases_lt, get_or_default, differs)

@@ -14,73 +14,74 @@ use Rattle.ee_core.specs.State.{state_of}
 use Rattle.ee_core.specs.declared.variables.ForgetFault.TheVariants as forget
 use Rattle.ee_core.specs.declared.variables.Written.{Written}
 use Rattle.ee_core.specs.Changes.{IsSpent}
-use Rattle.ee_settings.proofs.Addresses.{found_taken}
+use Rattle.ee_settings.proofs.Items.{setting_has}
 use Rattle.ee_settings.proofs.Forgetting.{map_without}
 use Rattle.ee_settings.proofs.Proper.{none_outside, proper_or_not}
+use Rattle.std.specs.Prelude.{◌||◌}
 use Rattle.ee_settings.proofs.Unnamed.{begins_with, unnamed_to-suc, unnamed_to-zero}
 use Rattle.ee_settings.specs.Laws.{KeepsAll}
-use Rattle.ee_settings.specs.Setting.{Setting, has_address, reading_of}
+use Rattle.ee_settings.specs.Setting.{Schema, Setting, has_record_at, is_named, reading_of}
 use Rattle.ee_settings.specs.Tidying.{ForgetsEach, IsSpentAmong, StopsForgetting, Tidies, after_forgetting, after_forgettings, is_unnamed, kept_map, unnamed_in, unnamed_to}
 use Rattle.ee_settings.specs.declared.fault.TidyFault.{TidyFault}
 use Rattle.ee_settings.specs.declared.fault.TidyFault.TheVariants as tidy
 
 -- ---- the addresses that no setting has
 
-low : (settings : List Setting) (values : Map) (b : Bool) (address : ℕ)
-    → is_unnamed settings values address ≡ b
-    → All (λ a. has_address settings a ≡ false) (cond b (address ∷ []) [])
-low settings values b address h1 = search (rules, All-nil, All-cons)
+low : (schema : Schema) (values : Map) (b : Bool) (address : ℕ)
+    → is_unnamed schema values address ≡ b
+    → All (λ a. is_named schema a ≡ false) (cond b (address ∷ []) [])
+low schema values b address h1 = search (rules, All-nil, All-cons)
 
 -- none of them is a setting's
-unnamed_free : (settings : List Setting) (values : Map) (n : ℕ)
-    → All (λ a. has_address settings a ≡ false) (unnamed_to settings values n)
-unnamed_free settings values zero =
-    rw (unnamed_to-zero settings values) (All-nil (λ a. has_address settings a ≡ false))
-unnamed_free settings values (suc n) =
-    grind (arith, common_steps, unnamed_to-suc, (unnamed_free settings values n))
+unnamed_free : (schema : Schema) (values : Map) (n : ℕ)
+    → All (λ a. is_named schema a ≡ false) (unnamed_to schema values n)
+unnamed_free schema values zero =
+    rw (unnamed_to-zero schema values) (All-nil (λ a. is_named schema a ≡ false))
+unnamed_free schema values (suc n) =
+    grind (arith, common_steps, unnamed_to-suc, (unnamed_free schema values n))
 
-free_front : (settings : List Setting) (front rest : List ℕ)
-    → All (λ a. has_address settings a ≡ false) (front ++ rest)
-    → All (λ a. has_address settings a ≡ false) front
-free_front settings [] rest free = All-nil (λ a. has_address settings a ≡ false)
-free_front settings (address ∷ front) rest free = search (
+free_front : (schema : Schema) (front rest : List ℕ)
+    → All (λ a. is_named schema a ≡ false) (front ++ rest)
+    → All (λ a. is_named schema a ≡ false) front
+free_front schema [] rest free = All-nil (λ a. is_named schema a ≡ false)
+free_front schema (address ∷ front) rest free = search (
   rules,
   All-cons,
   All-head,
   All-tail,
-  (free_front settings front rest
-      (All-tail (λ a. has_address settings a ≡ false) address (front ++ rest) free)),
+  (free_front schema front rest
+      (All-tail (λ a. is_named schema a ≡ false) address (front ++ rest) free)),
 )
 
-free_one : (settings : List Setting) (front rest : List ℕ) (address : ℕ)
-    → All (λ a. has_address settings a ≡ false) (front ++ address ∷ rest)
-    → has_address settings address ≡ false
-free_one settings [] rest address free =
-    All-head (λ a. has_address settings a ≡ false) address rest free
-free_one settings (one ∷ front) rest address free =
-    free_one settings front rest address
-    (All-tail (λ a. has_address settings a ≡ false) one (front ++ address ∷ rest) free)
+free_one : (schema : Schema) (front rest : List ℕ) (address : ℕ)
+    → All (λ a. is_named schema a ≡ false) (front ++ address ∷ rest)
+    → is_named schema address ≡ false
+free_one schema [] rest address free =
+    All-head (λ a. is_named schema a ≡ false) address rest free
+free_one schema (one ∷ front) rest address free =
+    free_one schema front rest address
+    (All-tail (λ a. is_named schema a ≡ false) one (front ++ address ∷ rest) free)
 
 -- ---- what is taken
 
-abbrev TakesUnnamed : List Setting → Map → Map → Type 0
-TakesUnnamed settings old new =
+abbrev TakesUnnamed : Schema → Map → Map → Type 0
+TakesUnnamed schema old new =
     (address : ℕ)
-    → (new address ≡ old address) ⊎ ((has_address settings address ≡ false) × (new address ≡ None))
+    → (new address ≡ old address) ⊎ ((is_named schema address ≡ false) × (new address ≡ None))
 
-takes_both : (settings : List Setting) (old mid new : Map) → TakesUnnamed settings old mid
-    → TakesUnnamed settings mid new → TakesUnnamed settings old new
-takes_both settings old mid new first second address = search rules
+takes_both : (schema : Schema) (old mid new : Map) → TakesUnnamed schema old mid
+    → TakesUnnamed schema mid new → TakesUnnamed schema old new
+takes_both schema old mid new first second address = search rules
 
-takes_none : (settings : List Setting) (old new : Map) → new ≡ old → TakesUnnamed settings old new
-takes_none settings old new same address = inl (ap (λ (values : Map). values address) same)
+takes_none : (schema : Schema) (old new : Map) → new ≡ old → TakesUnnamed schema old new
+takes_none schema old new same address = inl (ap (λ (values : Map). values address) same)
 
-takes_one : (settings : List Setting) (old new : Map) (named : ℕ)
-    → has_address settings named ≡ false → new ≡ map_after (Forget named) old
-    → TakesUnnamed settings old new
-takes_one settings old new named free is address = elim (cases_eq named address) [
+takes_one : (schema : Schema) (old new : Map) (named : ℕ)
+    → is_named schema named ≡ false → new ≡ map_after (Forget named) old
+    → TakesUnnamed schema old new
+takes_one schema old new named free is address = elim (cases_eq named address) [
   | inl same ↦ inr (
-    subst (λ a. has_address settings a ≡ false) same free,
+    subst (λ a. is_named schema a ≡ false) same free,
     ap (λ (values : Map). values address) is ∙ forget-at old named address (sym same),
   )
   | inr other ↦ inl
@@ -88,78 +89,79 @@ takes_one settings old new named free is address = elim (cases_eq named address)
       ∙ forget-other old named address (λ e. other (sym e)))
 ]
 
-each_takes : (settings : List Setting) (addresses : List ℕ) (old new : Device)
-    → All (λ a. has_address settings a ≡ false) addresses → ForgetsEach addresses old new
-    → TakesUnnamed settings (state_of old).map (state_of new).map
-each_takes settings [] old new free done =
-    takes_none settings (state_of old).map (state_of new).map
+each_takes : (schema : Schema) (addresses : List ℕ) (old new : Device)
+    → All (λ a. is_named schema a ≡ false) addresses → ForgetsEach addresses old new
+    → TakesUnnamed schema (state_of old).map (state_of new).map
+each_takes schema [] old new free done =
+    takes_none schema (state_of old).map (state_of new).map
     (ap (λ (device : Device). (state_of device).map) done)
-each_takes settings (one ∷ addresses) old new free done =
-    takes_both settings (state_of old).map (state_of done.1).map (state_of new).map
-    (takes_one settings (state_of old).map (state_of done.1).map one
-    (All-head (λ a. has_address settings a ≡ false) one addresses free)
+each_takes schema (one ∷ addresses) old new free done =
+    takes_both schema (state_of old).map (state_of done.1).map (state_of new).map
+    (takes_one schema (state_of old).map (state_of done.1).map one
+    (All-head (λ a. is_named schema a ≡ false) one addresses free)
     (map_without old done.1 one done.0 done.2))
-    (each_takes settings addresses done.1 new
-    (All-tail (λ a. has_address settings a ≡ false) one addresses free) done.3)
+    (each_takes schema addresses done.1 new
+    (All-tail (λ a. is_named schema a ≡ false) one addresses free) done.3)
 
-spent_takes : (settings : List Setting) (old new : Device) → IsFormed old
-    → StopsForgetting (unnamed_in settings (state_of old).map) forget.Spent old new
-    → TakesUnnamed settings (state_of old).map (state_of new).map
-spent_takes settings old new formed stops =
+spent_takes : (schema : Schema) (old new : Device) → IsFormed old
+    → StopsForgetting (unnamed_in schema (state_of old).map) forget.Spent old new
+    → TakesUnnamed schema (state_of old).map (state_of new).map
+spent_takes schema old new formed stops =
     let free =
-    subst (All (λ a. has_address settings a ≡ false)) stops.addresses_are
-    (unnamed_free settings (state_of old).map 65534) in
-    takes_both settings (state_of old).map (state_of stops.last).map (state_of new).map
-    (each_takes settings stops.front old stops.last
-    (free_front settings stops.front (stops.address ∷ stops.rest) free) stops.forgotten)
-    (takes_none settings (state_of stops.last).map (state_of new).map
+    subst (All (λ a. is_named schema a ≡ false)) stops.addresses_are
+    (unnamed_free schema (state_of old).map 65534) in
+    takes_both schema (state_of old).map (state_of stops.last).map (state_of new).map
+    (each_takes schema stops.front old stops.last
+    (free_front schema stops.front (stops.address ∷ stops.rest) free) stops.forgotten)
+    (takes_none schema (state_of stops.last).map (state_of new).map
     (ap (λ (device : Device). (state_of device).map) stops.stopped.3))
 
-cut_takes : (settings : List Setting) (old new : Device) → IsFormed old
-    → StopsForgetting (unnamed_in settings (state_of old).map) forget.Cut old new
-    → TakesUnnamed settings (state_of old).map (state_of new).map
-cut_takes settings old new formed stops =
+cut_takes : (schema : Schema) (old new : Device) → IsFormed old
+    → StopsForgetting (unnamed_in schema (state_of old).map) forget.Cut old new
+    → TakesUnnamed schema (state_of old).map (state_of new).map
+cut_takes schema old new formed stops =
     let free =
-    subst (All (λ a. has_address settings a ≡ false)) stops.addresses_are
-    (unnamed_free settings (state_of old).map 65534) in
+    subst (All (λ a. is_named schema a ≡ false)) stops.addresses_are
+    (unnamed_free schema (state_of old).map 65534) in
     let last = stops.last in
-    takes_both settings (state_of old).map (state_of last).map (state_of new).map
-    (each_takes settings stops.front old last
-    (free_front settings stops.front (stops.address ∷ stops.rest) free) stops.forgotten)
+    takes_both schema (state_of old).map (state_of last).map (state_of new).map
+    (each_takes schema stops.front old last
+    (free_front schema stops.front (stops.address ∷ stops.rest) free) stops.forgotten)
     (elim (cut_map last new (Forget stops.address) stops.stopped) [
-      | inl same ↦ takes_none settings (state_of last).map (state_of new).map same
-      | inr gone ↦ takes_one settings (state_of last).map (state_of new).map stops.address
-          (free_one settings stops.front stops.rest stops.address free) gone
+      | inl same ↦ takes_none schema (state_of last).map (state_of new).map same
+      | inr gone ↦ takes_one schema (state_of last).map (state_of new).map stops.address
+          (free_one schema stops.front stops.rest stops.address free) gone
     ])
 
-pub takes_unnamed : (settings : List Setting) (old new : Device) (answer : Result ℕ TidyFault)
-    → IsFormed old → Tidies settings old answer new → (address : ℕ)
+pub takes_unnamed : (schema : Schema) (old new : Device) (answer : Result ℕ TidyFault)
+    → IsFormed old → Tidies schema old answer new → (address : ℕ)
     → ((state_of new).map address ≡ (state_of old).map address)
-    ⊎ ((has_address settings address ≡ false) × ((state_of new).map address ≡ None))
-takes_unnamed settings old new (Ok count) formed done =
-    each_takes settings (unnamed_in settings (state_of old).map) old new
-    (unnamed_free settings (state_of old).map 65534) done.2
-takes_unnamed settings old new (Err tidy.Off) formed done =
-    takes_none settings (state_of old).map (state_of new).map
+    ⊎ ((is_named schema address ≡ false) × ((state_of new).map address ≡ None))
+takes_unnamed schema old new (Ok count) formed done =
+    each_takes schema (unnamed_in schema (state_of old).map) old new
+    (unnamed_free schema (state_of old).map 65534) done.2
+takes_unnamed schema old new (Err tidy.Off) formed done =
+    takes_none schema (state_of old).map (state_of new).map
     (ap (λ (device : Device). (state_of device).map) done.1)
-takes_unnamed settings old new (Err tidy.Spent) formed done =
-    spent_takes settings old new formed done
-takes_unnamed settings old new (Err tidy.Cut) formed done = cut_takes settings old new formed done
+takes_unnamed schema old new (Err tidy.Spent) formed done =
+    spent_takes schema old new formed done
+takes_unnamed schema old new (Err tidy.Cut) formed done = cut_takes schema old new formed done
 
 -- ---- readings
 
-named_here : (settings : List Setting) (setting : Setting) → Contains settings setting
-    → has_address settings setting.numbers.address ≡ true
-named_here settings setting inside =
-    found_taken settings setting.numbers.address (setting, inside, refl)
+named_here : (schema : Schema) (setting : Setting) → Contains schema.settings setting
+    → is_named schema setting.numbers.address ≡ true
+named_here schema setting inside =
+    ap (λ (b : Bool). b || has_record_at schema.records setting.numbers.address)
+    (setting_has schema.settings setting inside)
 
-pub keeps_readings : (settings : List Setting) (old new : Device) (answer : Result ℕ TidyFault)
-    → IsFormed old → Tidies settings old answer new → KeepsAll settings old new
-keeps_readings settings old new answer formed done setting inside =
-    elim (takes_unnamed settings old new answer formed done setting.numbers.address) [
+pub keeps_readings : (schema : Schema) (old new : Device) (answer : Result ℕ TidyFault)
+    → IsFormed old → Tidies schema old answer new → KeepsAll schema.settings old new
+keeps_readings schema old new answer formed done setting inside =
+    elim (takes_unnamed schema old new answer formed done setting.numbers.address) [
       | inl same ↦ ap (reading_of setting.numbers) same
       | inr taken ↦
-          (let wrong : true ≡ false = sym (named_here settings setting inside) ∙ taken.0 in cc)
+          (let wrong : true ≡ false = sym (named_here schema setting inside) ∙ taken.0 in cc)
     ]
 
 -- ---- what is left
@@ -183,57 +185,57 @@ gone [] rest address old new done = search (rules, forget-at, map_without, stays
 gone (one ∷ front) rest address old new done = gone front rest address done.1 new done.3
 
 -- a live address that no setting has is among them
-unnamed_split : (settings : List Setting) (values : Map) (address : ℕ) → 0 < address
-    → address ≤ 65534 → is_unnamed settings values address ≡ true
-    → (front : List ℕ) × (rest : List ℕ) × (unnamed_in settings values ≡ front ++ address ∷ rest)
-unnamed_split settings values address some low is =
-    let more = begins_with settings values address 65534 low in
+unnamed_split : (schema : Schema) (values : Map) (address : ℕ) → 0 < address
+    → address ≤ 65534 → is_unnamed schema values address ≡ true
+    → (front : List ℕ) × (rest : List ℕ) × (unnamed_in schema values ≡ front ++ address ∷ rest)
+unnamed_split schema values address some low is =
+    let more = begins_with schema values address 65534 low in
     let e : address ≡ suc (address - 1) = omega arith in
-    let here : is_unnamed settings values (suc (address - 1)) ≡ true =
-    ap (is_unnamed settings values) (sym e) ∙ is in
-    let last : unnamed_to settings values address
-    ≡ unnamed_to settings values (address - 1) ++ address ∷ [] =
-    ap (unnamed_to settings values) e ∙ unnamed_to-suc settings values (address - 1)
+    let here : is_unnamed schema values (suc (address - 1)) ≡ true =
+    ap (is_unnamed schema values) (sym e) ∙ is in
+    let last : unnamed_to schema values address
+    ≡ unnamed_to schema values (address - 1) ++ address ∷ [] =
+    ap (unnamed_to schema values) e ∙ unnamed_to-suc schema values (address - 1)
     ∙ ap
-    (λ (b : Bool). unnamed_to settings values (address - 1) ++ cond b (suc (address - 1) ∷ []) [])
+    (λ (b : Bool). unnamed_to schema values (address - 1) ++ cond b (suc (address - 1) ∷ []) [])
     here
-    ∙ ap (λ k. unnamed_to settings values (address - 1) ++ k ∷ []) (sym e) in (
-      unnamed_to settings values (address - 1),
+    ∙ ap (λ k. unnamed_to schema values (address - 1) ++ k ∷ []) (sym e) in (
+      unnamed_to schema values (address - 1),
       more.0,
       more.1 ∙ ap (λ l. l ++ more.0) last
-          ∙ append_assoc (unnamed_to settings values (address - 1)) (address ∷ []) more.0,
+          ∙ append_assoc (unnamed_to schema values (address - 1)) (address ∷ []) more.0,
     )
 
-none_left : (settings : List Setting) (old new : Device) (address : ℕ) (value : Option ℕ)
-    → (state_of old).map address ≡ value → has_address settings address ≡ false
-    → ForgetsEach (unnamed_in settings (state_of old).map) old new
+none_left : (schema : Schema) (old new : Device) (address : ℕ) (value : Option ℕ)
+    → (state_of old).map address ≡ value → is_named schema address ≡ false
+    → ForgetsEach (unnamed_in schema (state_of old).map) old new
     → (state_of new).map address ≡ None
-none_left settings old new address None is free done =
-    stays_none (unnamed_in settings (state_of old).map) old new address done is
-none_left settings old new address (Some value) is free done = elim (proper_or_not address) [
-  | inr outside ↦ stays_none (unnamed_in settings (state_of old).map) old new address done
+none_left schema old new address None is free done =
+    stays_none (unnamed_in schema (state_of old).map) old new address done is
+none_left schema old new address (Some value) is free done = elim (proper_or_not address) [
+  | inr outside ↦ stays_none (unnamed_in schema (state_of old).map) old new address done
       (none_outside old address outside)
   | inl proper ↦
-      let live : is_unnamed settings (state_of old).map address ≡ true = rw (is, free) refl in
+      let live : is_unnamed schema (state_of old).map address ≡ true = rw (is, free) refl in
       let split =
-      unnamed_split settings (state_of old).map address proper.0
+      unnamed_split schema (state_of old).map address proper.0
       (let high = proper.1 in omega arith) live in
       gone split.0 split.1 address old new (subst (λ l. ForgetsEach l old new) split.2 done)
 ]
 
-left_at : (settings : List Setting) (old new : Device) (address : ℕ) (named : Bool)
-    → has_address settings address ≡ named
-    → ForgetsEach (unnamed_in settings (state_of old).map) old new
+left_at : (schema : Schema) (old new : Device) (address : ℕ) (named : Bool)
+    → is_named schema address ≡ named
+    → ForgetsEach (unnamed_in schema (state_of old).map) old new
     → (state_of new).map address ≡ cond named ((state_of old).map address) None
-left_at settings old new address false is done =
-    none_left settings old new address ((state_of old).map address) refl is done
-left_at settings old new address true is done = search (rules, each_takes, unnamed_free)
+left_at schema old new address false is done =
+    none_left schema old new address ((state_of old).map address) refl is done
+left_at schema old new address true is done = search (rules, each_takes, unnamed_free)
 
-pub leaves_named : (settings : List Setting) (old new : Device) (count : ℕ)
-    → Tidies settings old (Ok count) new → (address : ℕ)
-    → (state_of new).map address ≡ kept_map settings (state_of old).map address
-leaves_named settings old new count done address =
-    left_at settings old new address (has_address settings address) refl done.2
+pub leaves_named : (schema : Schema) (old new : Device) (count : ℕ)
+    → Tidies schema old (Ok count) new → (address : ℕ)
+    → (state_of new).map address ≡ kept_map schema (state_of old).map address
+leaves_named schema old new count done address =
+    left_at schema old new address (is_named schema address) refl done.2
 
 -- ---- as a run of calls
 
@@ -260,12 +262,12 @@ each_as_run (address ∷ addresses) old new done =
       ap suc rest.3,
     )
 
-pub as_run : (settings : List Setting) (old new : Device) (count : ℕ)
-    → Tidies settings old (Ok count) new
+pub as_run : (schema : Schema) (old new : Device) (count : ℕ)
+    → Tidies schema old (Ok count) new
     → (calls : List Call) × IsWholeRun calls old new
-    × (flat_map changes_of_call calls ≡ map Forget (unnamed_in settings (state_of old).map))
+    × (flat_map changes_of_call calls ≡ map Forget (unnamed_in schema (state_of old).map))
     × (length calls ≡ count)
-as_run settings old new count done = search (rules, each_as_run)
+as_run schema old new count done = search (rules, each_as_run)
 
 -- ---- the states, and when the store is spent
 
@@ -288,12 +290,12 @@ states_after [] old new done = ap state_of done
 states_after (address ∷ addresses) old new done =
     search (rules, same_size, state_after, (states_after addresses done.1 new done.3))
 
-pub leaves_state : (settings : List Setting) (old new : Device) (count : ℕ)
-    → Tidies settings old (Ok count) new
+pub leaves_state : (schema : Schema) (old new : Device) (count : ℕ)
+    → Tidies schema old (Ok count) new
     → state_of new
-    ≡ after_forgettings old.size (unnamed_in settings (state_of old).map) (state_of old)
-leaves_state settings old new count done =
-    states_after (unnamed_in settings (state_of old).map) old new done.2
+    ≡ after_forgettings old.size (unnamed_in schema (state_of old).map) (state_of old)
+leaves_state schema old new count done =
+    states_after (unnamed_in schema (state_of old).map) old new done.2
 
 spent_here : (front rest : List ℕ) (address : ℕ) (old last : Device) → ForgetsEach front old last
     → IsSpent (slot_count last.size) (state_of last)
@@ -316,13 +318,13 @@ never_spent (address ∷ addresses) old new done (inr later) =
     (subst (λ size. IsSpentAmong size addresses (state_of done.1))
     (sym (same_size old done.1 address done.0 done.2)) state)
 
-pub spent_among : (settings : List Setting) (old new : Device)
-    → Tidies settings old (Err tidy.Spent) new
-    → IsSpentAmong old.size (unnamed_in settings (state_of old).map) (state_of old)
-spent_among settings old new stops = search (rules, spent_here)
+pub spent_among : (schema : Schema) (old new : Device)
+    → Tidies schema old (Err tidy.Spent) new
+    → IsSpentAmong old.size (unnamed_in schema (state_of old).map) (state_of old)
+spent_among schema old new stops = search (rules, spent_here)
 
-pub none_spent : (settings : List Setting) (old new : Device) (count : ℕ)
-    → Tidies settings old (Ok count) new
-    → ¬ IsSpentAmong old.size (unnamed_in settings (state_of old).map) (state_of old)
-none_spent settings old new count done =
-    never_spent (unnamed_in settings (state_of old).map) old new done.2
+pub none_spent : (schema : Schema) (old new : Device) (count : ℕ)
+    → Tidies schema old (Ok count) new
+    → ¬ IsSpentAmong old.size (unnamed_in schema (state_of old).map) (state_of old)
+none_spent schema old new count done =
+    never_spent (unnamed_in schema (state_of old).map) old new done.2

@@ -104,7 +104,7 @@ cut_among addresses old new stops =
     stops.stopped.steps))
 
 pub tidy_takes : TidyTakesItsSteps
-tidy_takes settings old new = (
+tidy_takes schema old new = (
   λ count tidied. each_taken _ old new tidied.2,
   λ stops. cut_among _ old new stops,
   λ stops. (

@@ -1,10 +1,11 @@
 -- Every table is a schema or has a first fault: each rule can be told of each entry.
-use Rattle.std.proofs.Common.{◌≡◌, ◌≢◌, ◌⊎◌, ℕ, ℤ, pos, negsuc, suc, ◌+◌, ◌<◌, Bool, true, List, [], ◌∷◌, ◌++◌, length, get_or, refl, sym, ap, ◌∙◌, subst, arith, inl, inr, codes, append_assoc, Option, Some, None, Ok, Err, rules}
-use Rattle.std.proofs.lemmas.Bool.{cases_eq, cases_lt}
+use Rattle.std.proofs.Common.{◌≡◌, ◌≢◌, ◌⊎◌, ℕ, ℤ, pos, negsuc, suc, zero, ◌+◌, ◌-◌, ◌<◌, ◌≤◌, Bool, true, List, [], ◌∷◌, ◌++◌, length, refl, sym, ap, ◌∙◌, subst, arith, inl, inr, codes, append_assoc, Option, Some, None, Ok, Err, rules}
+use Rattle.std.proofs.lemmas.Bool.{cases_eq, cases_lt, eq-eqb}
 use Rattle.std.proofs.lemmas.List.{append-nil}
 use Rattle.toml.specs.Data.{Data, Members, array, boolean, datetime, float, get_member, integer, string, table}
-use Rattle.ee_settings.specs.File.{Address, BreaksFirst, Entry, Field, GivesSchema, HasBadField, HasFields, HaveBadRange, HaveRisingKeys, IsEntryOf, IsFirstFault, IsSchemaOf, IsTableOf, IsTaken, Name, Range, Rule, entries_of, fields_of_numbers}
-use Rattle.ee_settings.specs.Setting.{AreProper, HaveRisingNames, Setting, is_name}
+use Rattle.ee_settings.specs.File.{Address, BreaksFirst, Entry, Field, GivesSchema, HasBadForm, HasFields, HasRecordFields, HaveBadRange, HaveRisingKeys, IsEntryOf, IsFirstFault, IsRecordTableOf, IsSchemaOf, IsTableOf, IsTaken, Name, Range, RecordFields, Rule, entries_of, fields_of_numbers, fields_of_record, key_of, kind_in}
+use Rattle.ee_settings.specs.Setting.{AreProper, HaveRisingNames, IsProperForm, Item, Kept, Number, RecordForm, Schema, is_default, is_name, is_named, last_of, with_item}
+use Rattle.ee_settings.specs.declared.record_setting.RecordKind.{RecordKind}
 use Rattle.ee_settings.specs.declared.fault.SchemaFault.{SchemaFault}
 use Rattle.ee_settings.specs.declared.fault.SchemaFault.TheVariants as fault
 use Rattle.ee_settings.specs.declared.numbers.Fields.{Fields}
@@ -12,9 +13,11 @@ use Rattle.ee_settings.specs.declared.numbers.Numbers.{Numbers}
 use Rattle.std.specs.Cmp.Lexicographic.{slice_cmp}
 use Rattle.std.specs.List.Sorted.{IsStrictlySortedBy}
 use Rattle.std.specs.Ordering.{nat_cmp}
-use Rattle.ee_settings.proofs.Entries.{entry_is, no_entries, schema_more}
+use Rattle.ee_settings.proofs.Addresses.{at_address, in_span, of_span}
+use Rattle.ee_settings.proofs.Entries.{entry_is, no_entries, record_is, schema_more}
+use Rattle.ee_settings.proofs.Items.{settings_rise}
 use Rattle.ee_settings.proofs.Names.{names_as_entries}
-use Rattle.ee_settings.proofs.Once.{same_fields, spelled_once}
+use Rattle.ee_settings.proofs.Once.{form_once, same_fields, same_record_fields, spelled_once}
 
 -- ---- the rules, each by itself
 
@@ -62,7 +65,8 @@ told_members members =
       | inr others ↦ inr (λ fields has. others has.four)
     ]
 
-told_fields : (tree : Data) → ((fields : Fields) × IsTableOf tree fields) ⊎ HasBadField tree
+told_fields : (tree : Data)
+    → ((fields : Fields) × IsTableOf tree fields) ⊎ ((fields : Fields) → ¬ IsTableOf tree fields)
 told_fields (string s) = inr (λ fields has. has)
 told_fields (integer z) = inr (λ fields has. has)
 told_fields (float x) = inr (λ fields has. has)
@@ -70,6 +74,62 @@ told_fields (boolean b) = inr (λ fields has. has)
 told_fields (datetime d) = inr (λ fields has. has)
 told_fields (array items) = inr (λ fields has. has)
 told_fields (table members) = told_members members
+
+told_text : (found : Option Data)
+    → ((text : List ℕ) × (found ≡ Some (string text))) ⊎ ((text : List ℕ) → found ≢ Some (string text))
+told_text None = inr (λ z e. cc)
+told_text (Some (string s)) = inl (s, refl)
+told_text (Some (integer z)) = inr (λ y e. cc)
+told_text (Some (float x)) = inr (λ z e. cc)
+told_text (Some (boolean b)) = inr (λ z e. cc)
+told_text (Some (datetime d)) = inr (λ z e. cc)
+told_text (Some (array items)) = inr (λ z e. cc)
+told_text (Some (table held)) = inr (λ z e. cc)
+
+told_record_members : (members : Members)
+    → ((fields : RecordFields) × HasRecordFields members fields)
+    ⊎ ((fields : RecordFields) → ¬ HasRecordFields members fields)
+told_record_members members =
+    elim (cases_eq (length (entries_of members)) 3) [
+      | inl three ↦ elim (told_number (get_member (codes "address") members)) [
+        | inl address ↦ elim (told_number (get_member (key_of (kind_in members)) members)) [
+          | inl size ↦ elim (told_text (get_member (codes "default") members)) [
+            | inl default ↦ inl (
+              record {
+                address = address.0;
+                kind = kind_in members;
+                size = size.0;
+                default = default.0;
+              },
+              record {
+                three = three;
+                kind = refl;
+                address = address.1;
+                size = size.1;
+                default = default.1;
+              },
+            )
+            | inr none ↦ inr (λ fields has. none fields.default has.default)
+          ]
+          | inr none ↦ inr (λ fields has. none fields.size
+              (subst (λ (k : RecordKind). get_member (key_of k) members ≡ Some (integer fields.size))
+              has.kind has.size))
+        ]
+        | inr none ↦ inr (λ fields has. none fields.address has.address)
+      ]
+      | inr others ↦ inr (λ fields has. others has.three)
+    ]
+
+told_record : (tree : Data)
+    → ((fields : RecordFields) × IsRecordTableOf tree fields)
+    ⊎ ((fields : RecordFields) → ¬ IsRecordTableOf tree fields)
+told_record (string s) = inr (λ fields has. has)
+told_record (integer z) = inr (λ fields has. has)
+told_record (float x) = inr (λ fields has. has)
+told_record (boolean b) = inr (λ fields has. has)
+told_record (datetime d) = inr (λ fields has. has)
+told_record (array items) = inr (λ fields has. has)
+told_record (table members) = told_record_members members
 
 told_natural : (z : ℤ) → ((n : ℕ) × (z ≡ pos n)) ⊎ ((n : ℕ) → z ≢ pos n)
 told_natural (pos n) = inl (n, refl)
@@ -112,54 +172,108 @@ told_range fields =
       | inr none ↦ inr (λ numbers proper e. none numbers.address (ap (λ (f : Fields). f.address) e))
     ]
 
-taken_at : (setting : Setting) (earlier : List Setting) (address : ℕ) (other : Setting) (at : ℕ)
-    → at < length (setting ∷ earlier) → get_or (setting ∷ earlier) at other ≡ other
-    → other.numbers.address ≡ address
-    → (setting.numbers.address ≡ address) ⊎ IsTaken earlier address
-taken_at setting earlier address other at h1 h2 h3 = search rules
+told_form : (form : RecordForm) → IsProperForm form ⊎ ¬ IsProperForm form
+told_form form =
+    elim (told_true (is_default form.kind form.size form.default)) [
+      | inl good ↦ search (rules, cases_lt)
+      | inr bad ↦ inr (λ proper. bad proper.default)
+    ]
 
-told_taken : (earlier : List Setting) (address : ℕ)
-    → IsTaken earlier address ⊎ ¬ IsTaken earlier address
-told_taken [] address = inr (λ taken. let h = taken.1.1 in omega arith)
-told_taken (setting ∷ earlier) address =
-    elim (cases_eq setting.numbers.address address) [
-      | inl same ↦ inl (setting, (0, omega arith, refl), same)
-      | inr other ↦ elim (told_taken earlier address) [
-        | inl taken ↦ inl
-            (taken.0, (suc taken.1.0, (let h = taken.1.1 in omega arith), taken.1.2), taken.2)
-        | inr free ↦ inr (λ taken. elim
-            (taken_at setting earlier address taken.0 taken.1.0 taken.1.1 taken.1.2 taken.2) [
-              | inl same ↦ other same
-              | inr more ↦ free more
-            ])
+told_room : (fields : RecordFields)
+    → ((form : RecordForm) × IsProperForm form × (fields ≡ fields_of_record form))
+    ⊎ HasBadForm fields
+told_room fields =
+    elim (told_natural fields.address) [
+      | inl address ↦ elim (told_natural fields.size) [
+        | inl size ↦
+            let form : RecordForm = record {
+              base = address.0;
+              kind = fields.kind;
+              size = size.0;
+              default = fields.default;
+            } in
+            let is : fields ≡ fields_of_record form =
+            same_record_fields fields (fields_of_record form) address.1 refl size.1 refl in
+            elim (told_form form) [
+              | inl proper ↦ inl (form, proper, is)
+              | inr outside ↦ inr (λ other proper e.
+                  outside (subst IsProperForm (sym (form_once form other (sym is ∙ e))) proper))
+            ]
+        | inr none ↦ inr (λ form proper e. none form.size (ap (λ (f : RecordFields). f.size) e))
+      ]
+      | inr none ↦ inr (λ form proper e. none form.base (ap (λ (f : RecordFields). f.address) e))
+    ]
+
+-- an address of these many is taken, or none is
+told_span : (schema : Schema) (first many : ℕ)
+    → ((address : ℕ) × (first ≤ address) × (address < first + many)
+    × (is_named schema address ≡ true))
+    ⊎ ((address : ℕ) → first ≤ address → address < first + many → ¬ (is_named schema address ≡ true))
+told_span schema first zero = inr (λ address low high. absurd (omega arith))
+told_span schema first (suc many) =
+    elim (told_span schema first many) [
+      | inl found ↦ inl
+          (found.0, found.1, (let high = found.2 in omega arith), found.3)
+      | inr none ↦ elim (told_true (is_named schema (first + many))) [
+        | inl here ↦ inl (first + many, omega arith, omega arith, here)
+        | inr free ↦ inr (λ address low high. elim (cases_lt address (first + many)) [
+          | inl less ↦ none address low less
+          | inr last ↦
+              let e : address ≡ first + many = omega arith in
+              (λ named. free (sym (ap (is_named schema) e) ∙ named))
+        ])
       ]
     ]
 
--- ---- an entry behind settings
+told_taken : (schema : Schema) (item : Item) → IsTaken schema item ⊎ ¬ IsTaken schema item
+told_taken schema (Number setting) =
+    elim (told_true (is_named schema setting.numbers.address)) [
+      | inl taken ↦ inl (setting.numbers.address, eq-eqb _ _ refl, taken)
+      | inr free ↦ inr (λ taken. free
+          (ap (is_named schema) (at_address setting.numbers.address taken.0 taken.1) ∙ taken.2))
+    ]
+told_taken schema (Kept one) =
+    let many = last_of one.form + 1 - one.form.base in
+    elim (told_span schema one.form.base many) [
+      | inl taken ↦ inl (taken.0, in_span one.form taken.0 taken.1 taken.2, taken.3)
+      | inr free ↦ inr (λ taken.
+          let within = of_span one.form taken.0 taken.1 in
+          free taken.0 within.0 within.1 taken.2)
+    ]
 
-abbrev SettingOrRule : List Setting → Entry → Type 0
-SettingOrRule earlier entry =
-    ((setting : Setting) × (IsEntryOf entry setting × ¬ IsTaken earlier setting.numbers.address))
+-- ---- an entry behind others
+
+abbrev ItemOrRule : Schema → Entry → Type 0
+ItemOrRule earlier entry =
+    ((item : Item) × (IsEntryOf entry item × ¬ IsTaken earlier item))
     ⊎ ((rule : Rule) × BreaksFirst rule earlier entry)
 
-told_address : (earlier : List Setting) (entry : Entry) (setting : Setting)
-    → IsEntryOf entry setting → SettingOrRule earlier entry
-told_address earlier entry setting is =
-    elim (told_taken earlier setting.numbers.address)
-    [ inl taken ↦ inr (Address, (setting, is, taken)) | inr free ↦ inl (setting, (is, free)) ]
+told_address : (earlier : Schema) (entry : Entry) (item : Item) → IsEntryOf entry item
+    → ItemOrRule earlier entry
+told_address earlier entry item is =
+    elim (told_taken earlier item)
+    [ inl taken ↦ inr (Address, (item, is, taken)) | inr free ↦ inl (item, (is, free)) ]
 
-told_entry : (earlier : List Setting) (name : List ℕ) (tree : Data)
-    → SettingOrRule earlier (name, tree)
+told_entry : (earlier : Schema) (name : List ℕ) (tree : Data) → ItemOrRule earlier (name, tree)
 told_entry earlier name tree =
     elim (told_true (is_name name)) [
       | inl named ↦ elim (told_fields tree) [
         | inl found ↦ elim (told_range found.0) [
           | inl range ↦ told_address earlier (name, tree)
-              (record { name = name; numbers = range.0 })
+              (Number (record { name = name; numbers = range.0 }))
               (entry_is name tree found.0 range.0 named found.1 range.2 range.1)
-          | inr bad ↦ inr (Range, (named, found.0, found.1, bad))
+          | inr bad ↦ inr (Range, (named, inl (found.0, found.1, bad)))
         ]
-        | inr bad ↦ inr (Field, (named, bad))
+        | inr none ↦ elim (told_record tree) [
+          | inl found ↦ elim (told_room found.0) [
+            | inl room ↦ told_address earlier (name, tree)
+                (Kept (record { name = name; form = room.0 }))
+                (record_is name tree found.0 room.0 named found.1 room.2 room.1)
+            | inr bad ↦ inr (Range, (named, inr (found.0, found.1, bad)))
+          ]
+          | inr neither ↦ inr
+              (Field, (named, record { no_numbers = none; no_record = neither }))
+        ]
       ]
       | inr bad ↦ inr (Name, bad)
     ]
@@ -168,22 +282,22 @@ told_entry earlier name tree =
 
 abbrev SchemaOrFault : List Entry → Type 0
 SchemaOrFault all =
-    ((settings : List Setting) × IsSchemaOf all settings)
+    ((schema : Schema) × IsSchemaOf all schema)
     ⊎ ((number : ℕ) × (rule : Rule) × IsFirstFault all number rule)
 
-told_entries : (all before after : List Entry) (settings : List Setting) → all ≡ before ++ after
-    → IsSchemaOf before settings → SchemaOrFault all
-told_entries all before [] settings split good =
+told_entries : (all before after : List Entry) (schema : Schema) → all ≡ before ++ after
+    → IsSchemaOf before schema → SchemaOrFault all
+told_entries all before [] schema split good =
     inl (
-      settings,
-      subst (λ entries. IsSchemaOf entries settings) (sym (split ∙ append-nil before)) good,
+      schema,
+      subst (λ entries. IsSchemaOf entries schema) (sym (split ∙ append-nil before)) good,
     )
-told_entries all before (entry ∷ after) settings split good =
-    elim (told_entry settings entry.0 entry.1) [
+told_entries all before (entry ∷ after) schema split good =
+    elim (told_entry schema entry.0 entry.1) [
       | inl found ↦
-          told_entries all (before ++ entry ∷ []) after (settings ++ found.0 ∷ [])
+          told_entries all (before ++ entry ∷ []) after (with_item schema found.0)
           (split ∙ sym (append_assoc before (entry ∷ []) after))
-          (schema_more before settings entry found.0 good found.1)
+          (schema_more before schema entry found.0 good found.1)
       | inr broken ↦ inr (
         length before + 1,
         broken.0,
@@ -191,7 +305,7 @@ told_entries all before (entry ∷ after) settings split good =
           before = before;
           entry = entry;
           after = after;
-          settings = settings;
+          schema = schema;
           split = split;
           number_is = refl;
           good = good;
@@ -210,17 +324,21 @@ why_not ms number Field first = (fault.BadField number, (λ e. cc), first)
 why_not ms number Range first = (fault.BadRange number, (λ e. cc), first)
 why_not ms number Address first = (fault.SameAddress number, (λ e. cc), first)
 
-rising : (entries : List Entry) (settings : List Setting) → HaveRisingKeys entries
-    → IsSchemaOf entries settings → HaveRisingNames settings
-rising entries settings keys schema =
-    subst (IsStrictlySortedBy (slice_cmp nat_cmp))
-    (sym (names_as_entries entries settings schema.each)) keys
+rising : (entries : List Entry) (schema : Schema) → HaveRisingKeys entries
+    → IsSchemaOf entries schema → HaveRisingNames schema.settings
+rising entries schema keys good =
+    subst HaveRisingNames (sym good.settings_are)
+    (settings_rise good.items (subst (IsStrictlySortedBy (slice_cmp nat_cmp))
+    (sym (names_as_entries entries good.items good.each)) keys))
 
 pub each_table_is_judged_lem : (members : Members) → HaveRisingKeys (entries_of members)
-    → ((settings : List Setting) × GivesSchema members (Ok settings))
+    → ((schema : Schema) × GivesSchema members (Ok schema))
     ⊎ ((why : SchemaFault) × (why ≢ fault.Memory) × GivesSchema members (Err why))
 each_table_is_judged_lem members keys =
-    elim (told_entries (entries_of members) [] (entries_of members) [] refl no_entries) [
-      | inl found ↦ inl (found.0, (found.1, rising (entries_of members) found.0 keys found.1))
+    elim
+    (told_entries (entries_of members) [] (entries_of members)
+    (record { settings = []; records = [] }) refl no_entries) [
+      | inl found ↦ inl
+          (found.0, (found.1, rising (entries_of members) found.0 keys found.1, keys))
       | inr first ↦ inr (why_not members first.0 first.1 first.2)
     ]

@@ -1,8 +1,9 @@
 -- A table's members, as the code's map has them and as the definitions do.
-use Rattle.std.proofs.Common.{◌≡◌, ◌∙◌, suc, ℤ, List, [], ◌∷◌, ◌++◌, length, map, Option, Some, option_and_then, String, Global, Bor, string_bytes, refl, ap, sym, rules}
+use Rattle.std.proofs.Common.{◌≡◌, ◌∙◌, suc, ℤ, List, [], ◌∷◌, ◌++◌, length, map, Option, Some, option_and_then, ℕ, String, Global, Bor, string_bytes, refl, ap, sym, rules}
 use Rattle.std.proofs.lemmas.List.{map-append}
 use Rattle.std.specs.Map.Iter.{deref_pair}
-use Rattle.toml.specs.Data.{Data, as_integer, integer}
+use Rattle.toml.specs.Data.{Data, as_integer, as_str, integer, string}
+use Rattle.std.specs.Prelude.{option_copied}
 use Rattle.toml.specs.View.{view, members_view}
 use Rattle.toml.specs.declared.value.Value.{Value}
 use Rattle.ee_settings.specs.File.{Entry, entries_of}
@@ -28,6 +29,12 @@ integer_found found z h1 = search rules
 pub whole_found : (found : Option Data) (z y : ℤ) → option_and_then as_integer found ≡ Some z
     → y ≡ z → found ≡ Some (integer y)
 whole_found found z y h e = integer_found found z h ∙ ap (λ x. Some (integer x)) (sym e)
+
+-- where a text stands
+pub text_found : (given : Option (Bor (List ℕ))) (found : Option Data) (text : Bor (List ℕ))
+    → option_and_then as_str found ≡ option_copied given → given ≡ Some text
+    → found ≡ Some (string text.now)
+text_found given found text h is = search rules
 
 -- what stands before an entry and behind it
 pub split_entries : (all before after : List (String Global × Value)) (e : String Global × Value)

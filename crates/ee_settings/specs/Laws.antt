@@ -11,7 +11,7 @@ use Rattle.ee_core.specs.State.{state_of}
 use Rattle.ee_core.specs.declared.variables.Written.{Written}
 use Rattle.ee_core.specs.declared.variables.WriteFault.TheVariants as write
 use Rattle.ee_settings.specs.Listing.{IsListedSo, IsToldOf, listed_in}
-use Rattle.ee_settings.specs.Setting.{IsSchema, Setting, has_address, reading_in}
+use Rattle.ee_settings.specs.Setting.{IsSchema, Schema, Setting, is_named, reading_in}
 use Rattle.ee_settings.specs.Stale.{IsStale, stale_in}
 use Rattle.ee_settings.specs.declared.listing.Listed.{Listed}
 use Rattle.ee_settings.specs.declared.stale.Stale.{Stale}
@@ -20,7 +20,7 @@ use Rattle.toml.specs.Data.{Members}
 use Rattle.ee_settings.specs.Calls.{IsNamed, Sets}
 use Rattle.ee_settings.specs.File.{GivesSchema, HaveRisingKeys, entries_of}
 use Rattle.ee_settings.specs.declared.fault.SchemaFault.{SchemaFault}
-use Rattle.ee_settings.specs.declared.fault.SchemaFault.TheVariants as schema
+use Rattle.ee_settings.specs.declared.fault.SchemaFault.TheVariants as refusal
 use Rattle.ee_settings.specs.declared.fault.SetFault.{SetFault}
 use Rattle.ee_settings.specs.declared.fault.SetFault.TheVariants as set
 use Rattle.ee_settings.specs.declared.fault.TidyFault.{TidyFault}
@@ -75,25 +75,25 @@ NamesAreApart =
 
 -- A table is one schema at most.
 abbrev pub TablesSpellOnce : Type 0
-TablesSpellOnce = (members : Members) (one other : List Setting)
+TablesSpellOnce = (members : Members) (one other : Schema)
     → GivesSchema members (Ok one) → GivesSchema members (Ok other) → one ≡ other
 
 -- A table that is a schema has no first fault, so only want of memory can refuse it.
 abbrev pub SchemasAreAccepted : Type 0
-SchemasAreAccepted = (members : Members) (settings : List Setting) (why : SchemaFault)
-    → why ≢ schema.Memory → GivesSchema members (Ok settings) → ¬ GivesSchema members (Err why)
+SchemasAreAccepted = (members : Members) (schema : Schema) (why : SchemaFault)
+    → why ≢ refusal.Memory → GivesSchema members (Ok schema) → ¬ GivesSchema members (Err why)
 
 -- A table has one first fault at most.
 abbrev pub TablesHaveOneFault : Type 0
 TablesHaveOneFault = (members : Members) → HaveRisingKeys (entries_of members)
-    → (one other : SchemaFault) → one ≢ schema.Memory → other ≢ schema.Memory
+    → (one other : SchemaFault) → one ≢ refusal.Memory → other ≢ refusal.Memory
     → GivesSchema members (Err one) → GivesSchema members (Err other) → one ≡ other
 
 -- Every table is a schema or has a first fault; the names of a table rise.
 abbrev pub EachTableIsJudged : Type 0
 EachTableIsJudged = (members : Members) → HaveRisingKeys (entries_of members)
-    → ((settings : List Setting) × GivesSchema members (Ok settings))
-    ⊎ ((why : SchemaFault) × (why ≢ schema.Memory) × GivesSchema members (Err why))
+    → ((schema : Schema) × GivesSchema members (Ok schema))
+    ⊎ ((why : SchemaFault) × (why ≢ refusal.Memory) × GivesSchema members (Err why))
 
 -- ---- stale entries
 
@@ -127,57 +127,57 @@ ListedIsExact = (settings : List Setting) (stored : Map) → IsListedExact setti
 -- Each setting reads as before, whatever tidying answers.
 abbrev pub TidyKeepsReadings : Type 0
 TidyKeepsReadings =
-    (settings : List Setting) (old new : Device) (answer : Result ℕ TidyFault) → IsFormed old
-    → Tidies settings old answer new → KeepsAll settings old new
+    (schema : Schema) (old new : Device) (answer : Result ℕ TidyFault) → IsFormed old
+    → Tidies schema old answer new → KeepsAll schema.settings old new
 
--- Each address has what it had, but some that no setting has have nothing now,
+-- Each address has what it had, but some that no setting and no record has have nothing now,
 -- whatever tidying answers.
 abbrev pub TidyTakesTheUnnamed : Type 0
 TidyTakesTheUnnamed =
-    (settings : List Setting) (old new : Device) (answer : Result ℕ TidyFault) → IsFormed old
-    → Tidies settings old answer new → (address : ℕ)
+    (schema : Schema) (old new : Device) (answer : Result ℕ TidyFault) → IsFormed old
+    → Tidies schema old answer new → (address : ℕ)
     → ((state_of new).map address ≡ (state_of old).map address)
-    ⊎ ((has_address settings address ≡ false) × ((state_of new).map address ≡ None))
+    ⊎ ((is_named schema address ≡ false) × ((state_of new).map address ≡ None))
 
--- Tidied to the end, a store has the values of the settings' addresses and no others.
+-- Tidied to the end, a store has the values of the addresses of settings and records, and no others.
 abbrev pub TidyLeavesTheNamed : Type 0
 TidyLeavesTheNamed =
-    (settings : List Setting) (old new : Device) (count : ℕ) → Tidies settings old (Ok count) new
-    → (address : ℕ) → (state_of new).map address ≡ kept_map settings (state_of old).map address
+    (schema : Schema) (old new : Device) (count : ℕ) → Tidies schema old (Ok count) new
+    → (address : ℕ) → (state_of new).map address ≡ kept_map schema (state_of old).map address
 
 -- Its state is what those forgettings make of the state before: so far used, of this generation,
 -- and so many pages waiting.
 abbrev pub TidyLeavesThisState : Type 0
 TidyLeavesThisState =
-    (settings : List Setting) (old new : Device) (count : ℕ) → Tidies settings old (Ok count) new
+    (schema : Schema) (old new : Device) (count : ℕ) → Tidies schema old (Ok count) new
     → state_of new
-    ≡ after_forgettings old.size (unnamed_in settings (state_of old).map) (state_of old)
+    ≡ after_forgettings old.size (unnamed_in schema (state_of old).map) (state_of old)
 
 -- It came to that by as many forgettings as the answer says, each of one that no setting has.
 abbrev pub TidyIsARun : Type 0
 TidyIsARun =
-    (settings : List Setting) (old new : Device) (count : ℕ) → Tidies settings old (Ok count) new
+    (schema : Schema) (old new : Device) (count : ℕ) → Tidies schema old (Ok count) new
     → (calls : List Call) × IsWholeRun calls old new
-    × (flat_map changes_of_call calls ≡ map Forget (unnamed_in settings (state_of old).map))
+    × (flat_map changes_of_call calls ≡ map Forget (unnamed_in schema (state_of old).map))
     × (length calls ≡ count)
 
 -- Its steps are those of these forgettings: all were taken, or power was cut in one; where it is
 -- spent, those of a front were.
 abbrev pub TidyTakesItsSteps : Type 0
 TidyTakesItsSteps =
-    (settings : List Setting) (old new : Device)
-    → let all : List ℕ = unnamed_in settings (state_of old).map in
-    ((count : ℕ) → Tidies settings old (Ok count) new
+    (schema : Schema) (old new : Device)
+    → let all : List ℕ = unnamed_in schema (state_of old).map in
+    ((count : ℕ) → Tidies schema old (Ok count) new
     → Completes (steps_of_forgetting all old) old new)
-    × (Tidies settings old (Err tidy.Cut) new → IsCutAmong (steps_of_forgetting all old) old new)
-    × (Tidies settings old (Err tidy.Spent) new
+    × (Tidies schema old (Err tidy.Cut) new → IsCutAmong (steps_of_forgetting all old) old new)
+    × (Tidies schema old (Err tidy.Spent) new
     → (front rest : List ℕ) × (all ≡ front ++ rest)
     × Completes (steps_of_forgetting front old) old new)
 
 -- It is spent exactly where one of the forgettings is.
 abbrev pub TidyIsSpent : Type 0
-TidyIsSpent = (settings : List Setting) (old new : Device)
-    → (Tidies settings old (Err tidy.Spent) new
-    → IsSpentAmong old.size (unnamed_in settings (state_of old).map) (state_of old))
-    × ((count : ℕ) → Tidies settings old (Ok count) new
-    → ¬ IsSpentAmong old.size (unnamed_in settings (state_of old).map) (state_of old))
+TidyIsSpent = (schema : Schema) (old new : Device)
+    → (Tidies schema old (Err tidy.Spent) new
+    → IsSpentAmong old.size (unnamed_in schema (state_of old).map) (state_of old))
+    × ((count : ℕ) → Tidies schema old (Ok count) new
+    → ¬ IsSpentAmong old.size (unnamed_in schema (state_of old).map) (state_of old))

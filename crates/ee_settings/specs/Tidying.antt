@@ -1,4 +1,4 @@
--- Forgetting each address that has a value and that no setting has.
+-- Forgetting each address that has a value and that no setting and no record has.
 use Rattle.std.specs.Prelude.{◌≡◌, ◌⊎◌, ◌&&◌, ◌==◌, ℕ, None, Bool, not, is_some, if◌then◌else◌, zero, suc, List, [], ◌∷◌, ◌++◌, length, Result, Ok, Err}
 use Rattle.std.specs.List.{flat_map}
 use Rattle.ee_flash.specs.Device.{Device, IsOff, IsOn}
@@ -13,24 +13,24 @@ use Rattle.ee_core.specs.StepLists.{steps_of_making}
 use Rattle.ee_core.specs.declared.variables.ForgetFault.{ForgetFault}
 use Rattle.ee_core.specs.declared.variables.ForgetFault.TheVariants as forget
 use Rattle.ee_core.specs.declared.variables.Written.{Written}
-use Rattle.ee_settings.specs.Setting.{Setting, has_address}
+use Rattle.ee_settings.specs.Setting.{Schema, is_named}
 use Rattle.ee_settings.specs.declared.fault.TidyFault.{TidyFault}
 use Rattle.ee_settings.specs.declared.fault.TidyFault.TheVariants as tidy
 
--- the address has a value in the map, and no setting has it
-abbrev pub is_unnamed : List Setting → Map → ℕ → Bool
-is_unnamed settings map address = is_some (map address) && not (has_address settings address)
+-- the address has a value in the map, and no setting and no record has it
+abbrev pub is_unnamed : Schema → Map → ℕ → Bool
+is_unnamed schema map address = is_some (map address) && not (is_named schema address)
 
 -- of the addresses 1 to this one, those, by rising address
-unfoldable pub unnamed_to : List Setting → Map → ℕ → List ℕ
-unnamed_to settings map zero = []
-unnamed_to settings map (suc address) =
-    unnamed_to settings map address
-    ++ (if is_unnamed settings map (suc address) then suc address ∷ [] else [])
+unfoldable pub unnamed_to : Schema → Map → ℕ → List ℕ
+unnamed_to schema map zero = []
+unnamed_to schema map (suc address) =
+    unnamed_to schema map address
+    ++ (if is_unnamed schema map (suc address) then suc address ∷ [] else [])
 
 -- of all addresses
-abbrev pub unnamed_in : List Setting → Map → List ℕ
-unnamed_in settings map = unnamed_to settings map 65534
+abbrev pub unnamed_in : Schema → Map → List ℕ
+unnamed_in schema map = unnamed_to schema map 65534
 
 -- these addresses were forgotten, one after another
 abbrev pub ForgetsEach : List ℕ → Device → Device → Type 0
@@ -57,19 +57,19 @@ Stops addresses old tidy.Spent new = StopsForgetting addresses forget.Spent old 
 Stops addresses old tidy.Cut new = StopsForgetting addresses forget.Cut old new
 Stops addresses old tidy.Off new = ⊥
 
--- The addresses with a value that no setting has were forgotten, by rising address, and the answer
+-- The addresses with a value that is no setting's and no record's were forgotten, by rising address, and the answer
 -- is how many; or the device was off, and nothing changed; or a front of them was, and the
 -- forgetting of the next one was refused or cut.
-abbrev pub Tidies : List Setting → Device → Result ℕ TidyFault → Device → Type 0
-Tidies settings old (Ok count) new =
-    IsOn old × (count ≡ length (unnamed_in settings (state_of old).map))
-    × ForgetsEach (unnamed_in settings (state_of old).map) old new
-Tidies settings old (Err tidy.Off) new = IsOff old × (new ≡ old)
-Tidies settings old (Err fault) new = Stops (unnamed_in settings (state_of old).map) old fault new
+abbrev pub Tidies : Schema → Device → Result ℕ TidyFault → Device → Type 0
+Tidies schema old (Ok count) new =
+    IsOn old × (count ≡ length (unnamed_in schema (state_of old).map))
+    × ForgetsEach (unnamed_in schema (state_of old).map) old new
+Tidies schema old (Err tidy.Off) new = IsOff old × (new ≡ old)
+Tidies schema old (Err fault) new = Stops (unnamed_in schema (state_of old).map) old fault new
 
--- what is left of a map for these settings: the values of their addresses
-abbrev pub kept_map : List Setting → Map → Map
-kept_map settings map address = if has_address settings address then map address else None
+-- what is left of a map for these settings and records: the values of their addresses
+abbrev pub kept_map : Schema → Map → Map
+kept_map schema map address = if is_named schema address then map address else None
 
 -- ---- when the store is spent
 
@@ -105,9 +105,9 @@ steps_of_forgetting (address ∷ addresses) device =
 -- ---- for the functions within
 
 -- the address, if no setting has it
-abbrev pub unnamed_of : List Setting → ℕ → List ℕ
-unnamed_of settings address = if has_address settings address then [] else address ∷ []
+abbrev pub unnamed_of : Schema → ℕ → List ℕ
+unnamed_of schema address = if is_named schema address then [] else address ∷ []
 
 -- of these addresses, which come with values, those that no setting has
-abbrev pub unnamed_among : List Setting → List (ℕ × ℕ) → List ℕ
-unnamed_among settings found = flat_map (λ one. unnamed_of settings one.0) found
+abbrev pub unnamed_among : Schema → List (ℕ × ℕ) → List ℕ
+unnamed_among schema found = flat_map (λ one. unnamed_of schema one.0) found

@@ -9,12 +9,14 @@ use ee_core::WriteFault;
 pub enum SchemaFault {
     /// The name of this entry isn't 1 to 32 of `a` to `z`, `0` to `9` and `_`, the first a letter.
     BadName(u64),
-    /// This entry is no table of the four whole numbers `address`, `min`, `max` and `default`.
+    /// This entry is no table of the four whole numbers `address`, `min`, `max` and `default`, and
+    /// none of a record: of `address`, of `bytes` or `text`, and of a `default` in quotes.
     BadField(u64),
     /// An address that isn't 1 to 65534, another number that isn't 0 to 4294967295, or a default
-    /// that isn't `min` to `max`.
+    /// that isn't `min` to `max`. Or a record with an address that isn't, of no byte or more than
+    /// 65532, or with a default that it may not have.
     BadRange(u64),
-    /// An earlier entry has the address of this one.
+    /// An earlier entry has an address of this one.
     SameAddress(u64),
     /// Memory ran out. It can come in place of any other answer.
     Memory,

@@ -1,4 +1,5 @@
-//! Settings by name: a schema gives names, ranges and defaults to the values of a store.
+//! Settings by name: a schema gives names, ranges and defaults to the values of a store, and names
+//! to its records.
 //!
 //! # What a contract sees
 //!
@@ -13,8 +14,8 @@
 //! with a fault, by rising name, and its first fault. `get` gives the stored value if it is in
 //! range, else the default. `set` is a write of the name's address; an unknown name or a value out
 //! of range changes nothing. `stale` and `stale_values` give exactly the entries whose stored value
-//! is out of range; `tidy` forgets the addresses that have a value and no setting, by rising
-//! address, and cut or refused a front of them; `list` tells each address by its setting
+//! is out of range; `tidy` forgets the addresses that have a value and are no setting's and no
+//! record's, by rising address, and cut or refused a front of them; `list` tells each address by its setting
 //! (`listed`). `laws`: what was set is read, every other name reads as before, also across a move,
 //! and after a cut as before or as set; tidying changes no reading.
 //!
@@ -33,6 +34,8 @@ pub mod laws;
 mod listing;
 mod numbers;
 mod reading;
+mod record_fields;
+mod record_setting;
 mod remaining;
 mod schema;
 mod setting;
@@ -44,6 +47,7 @@ pub use fault::{GetFault, ListFault, SchemaFault, SetFault, StaleFault, TidyFaul
 pub use listing::{Held, Listed};
 pub use numbers::Numbers;
 pub use reading::Reading;
+pub use record_setting::{RecordKind, RecordRoom, RecordSetting};
 pub use schema::Schema;
 pub use setting::Setting;
 pub use stale::Stale;

@@ -61,7 +61,7 @@ impl<A: Allocator> Schema<A> {
     ) -> Result<Vec<Listed, B>, ListFault>
         ensures on { IfOk result (λ _. IsOn (V.device store.now)) }
         ensures listed { IfOk result (λ listed. listed.items
-            ≡ listed_in self.now (state_of (V.device store.now)).map) }
+            ≡ listed_in self.now.settings (state_of (V.device store.now)).map) }
         ensures fault { IfErr result (IsListFault (V.device store.now)) }
     {
         if !store.is_on() {

@@ -4,7 +4,7 @@ ghost use Rattle.std.specs.Prelude.{◌≡◌, ◌≢◌, ◌<◌, ◌^◌, ℕ,
 ghost use Rattle.ee_codec.specs.Words.{IsAddress};
 ghost use Rattle.toml.specs.Data.{as_integer, get_member};
 ghost use Rattle.toml.specs.View.{table_view, view};
-ghost use Rattle.ee_settings.specs.File.{HasBadField, HasFields, HaveBadRange, IsTableOf, fields_of_numbers};
+ghost use Rattle.ee_settings.specs.File.{HasFields, HaveBadRange, IsTableOf, fields_of_numbers};
 ghost use Rattle.ee_settings.specs.Setting.{AreProper};
 ghost use Rattle.ee_settings.specs.declared.numbers.Fields.{Fields};
 
@@ -72,7 +72,7 @@ impl Numbers {
 /// The numbers of an entry, if it is a table of these four and nothing else.
 pub(crate) fn read_fields(value: &Value) -> Option<Fields>
     ensures found { IfSome result (λ fields. IsTableOf (view value.now) fields) }
-    ensures none { IfNone result (HasBadField (view value.now)) }
+    ensures none { IfNone result ((fields : Fields) → ¬ IsTableOf (view value.now) fields) }
 {
     fields_in(value.as_table()?)
 }
@@ -98,7 +98,7 @@ fn fields_in(table: &Table) -> Option<Fields>
 }
 
 /// The whole number under a key, if one stands there.
-fn whole_number(table: &Table, key: &str) -> Option<i64>
+pub(crate) fn whole_number(table: &Table, key: &str) -> Option<i64>
     ensures { result ≡ option_and_then as_integer (get_member key.now (table_view table.now)) }
 {
     table.get(key)?.as_integer()
@@ -126,7 +126,7 @@ pub(crate) fn checked(fields: Fields) -> Option<Numbers>
 }
 
 /// The address of a number, if it is one's.
-fn address_of(number: i64) -> Option<Address>
+pub(crate) fn address_of(number: i64) -> Option<Address>
     ensures found { IfSome result (λ address. (number ≡ pos address) × IsAddress address) }
     ensures none { IfNone result ((address : ℕ) → IsAddress address → number ≢ pos address) }
 {
@@ -134,7 +134,7 @@ fn address_of(number: i64) -> Option<Address>
 }
 
 /// The value of a number, if it is one of 32 bits.
-fn value_of(number: i64) -> Option<u32>
+pub(crate) fn value_of(number: i64) -> Option<u32>
     ensures found { IfSome result (λ value. (number ≡ pos value) × (value < 2 ^ 32)) }
     ensures none { IfNone result ((value : ℕ) → value < 2 ^ 32 → number ≢ pos value) }
 {

@@ -8,6 +8,7 @@ use crate::entry::read_entries;
 use crate::fault::{GetFault, SchemaFault, SetFault};
 use crate::numbers::Numbers;
 use crate::reading::Reading;
+use crate::record_setting::RecordSetting;
 use crate::setting::Setting;
 use crate::settings::Settings;
 use ee_core::{Variables, Written};
@@ -15,7 +16,7 @@ use std::alloc::{Allocator, Global};
 use std::marker::Model;
 use toml::Table;
 
-/// The settings of a program, by name.
+/// The settings and records of a program, by name.
 ///
 /// Source: ours.
 #[derive(Drop)]
@@ -24,14 +25,13 @@ pub struct Schema<A: Allocator = Global> {
 }
 
 impl<A: Allocator> Model for Schema<A> {
-    ghost use Rattle.std.specs.Prelude.{List};
-    ghost use Rattle.ee_settings.specs.Setting.{IsSchema, Setting};
+    ghost use Rattle.ee_settings.specs.Setting.{IsSchema, Schema};
 
-    ghost Value = { List Setting };
+    ghost Value = { Schema };
 
     ghost view = { λ s. s.settings };
 
-    ghost invariant = { λ s. IsSchema s.settings };
+    ghost invariant = { λ s. IsSchema s.settings.settings };
 }
 
 impl<A: Allocator> Schema<A> {
@@ -45,17 +45,17 @@ impl<A: Allocator> Schema<A> {
     pub fn empty(alloc: A) -> Schema<A>
     where
         A: Copy,
-        ensures { result ≡ [] }
+        ensures { result ≡ record { settings = []; records = [] } }
     {
         Schema {
             settings: Settings::new(alloc),
         }
     }
 
-    /// The schema that a table spells. Each entry of the table is a setting: its key is the
-    /// name, its value a table of the whole numbers `address`, `min`, `max` and `default`. A
-    /// table with no entries is a schema with no settings. The names of a table rise, so it
-    /// has one first fault.
+    /// The schema that a table spells. Each entry of the table is a setting or a record: its key is
+    /// the name, its value a table of the whole numbers `address`, `min`, `max` and `default`, or
+    /// of `address`, of `bytes` or `text` and of a `default` in quotes. A table with no entries is
+    /// a schema with no settings. The names of a table rise, so it has one first fault.
     ///
     /// # Errors
     ///
@@ -82,7 +82,7 @@ impl<A: Allocator> Schema<A> {
     ///
     /// Source: ours.
     pub fn get<V: Variables>(&self, store: &V, name: &str) -> Result<Reading, GetFault>
-        ensures { Gets self.now (V.device store.now) name.now result }
+        ensures { Gets self.now.settings (V.device store.now) name.now result }
     {
         let Some(numbers) = self.find(name) else {
             return Err(GetFault::UnknownName);
@@ -107,7 +107,7 @@ impl<A: Allocator> Schema<A> {
         name: &str,
         value: u32,
     ) -> Result<Written, SetFault>
-        ensures { Sets self.now (V.device store.old) name.now value result (V.device store.new) }
+        ensures { Sets self.now.settings (V.device store.old) name.now value result (V.device store.new) }
     {
         let Some(numbers) = self.find(name) else {
             return Err(SetFault::UnknownName);
@@ -128,7 +128,7 @@ impl<A: Allocator> Schema<A> {
     ///
     /// Source: ours.
     pub fn entries(&self) -> u64
-        ensures { result ≡ length self.now }
+        ensures { result ≡ length self.now.settings }
     {
         self.settings.len() as u64
     }
@@ -137,8 +137,8 @@ impl<A: Allocator> Schema<A> {
     ///
     /// Source: ours.
     pub fn name(&self, entry: u64) -> Option<&str>
-        ensures found { IfSome result (λ name. IsNameOf self.now entry name.now) }
-        ensures none { IfNone result (entry_of self.now entry ≡ None) }
+        ensures found { IfSome result (λ name. IsNameOf self.now.settings entry name.now) }
+        ensures none { IfNone result (entry_of self.now.settings entry ≡ None) }
     {
         if entry == 0 {
             return None;
@@ -151,12 +151,21 @@ impl<A: Allocator> Schema<A> {
     ///
     /// Source: ours.
     pub fn as_slice(&self) -> &[Setting<A>]
-        ensures { result.now ≡ self.now }
+        ensures { result.now ≡ self.now.settings }
     {
         self.settings.as_slice()
     }
 
-    /// The settings, by rising name.
+    /// The records, by rising name.
+    ///
+    /// Source: ours.
+    pub fn records(&self) -> &[RecordSetting<A>]
+        ensures { result.now ≡ self.now.records }
+    {
+        self.settings.records()
+    }
+
+    /// The settings and records.
     pub(crate) fn settings(&self) -> &Settings<A>
         ensures { result.now ≡ self.now }
     {
@@ -167,8 +176,8 @@ impl<A: Allocator> Schema<A> {
     ///
     /// Source: ours.
     pub fn find(&self, name: &str) -> Option<Numbers>
-        ensures found { IfSome result (IsNumbersOf self.now name.now) }
-        ensures none { IfNone result (IsUnknown self.now name.now) }
+        ensures found { IfSome result (IsNumbersOf self.now.settings name.now) }
+        ensures none { IfNone result (IsUnknown self.now.settings name.now) }
     {
         for setting in self.settings.as_slice() {
             if setting.name() == name {

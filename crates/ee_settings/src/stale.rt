@@ -43,7 +43,7 @@ impl<A: Allocator> Schema<A> {
     ) -> Result<Vec<u64, B>, StaleFault>
         ensures on { IfOk result (λ _. IsOn (V.device store.now)) }
         ensures stale { IfOk result (λ entries. entries.items
-            ≡ map (λ stale. stale.entry) (stale_in (state_of (V.device store.now)).map self.now)) }
+            ≡ map (λ stale. stale.entry) (stale_in (state_of (V.device store.now)).map self.now.settings)) }
         ensures fault { IfErr result (IsStaleFault (V.device store.now)) }
     {
         let values = self.stale_values(alloc, store)?;
@@ -67,7 +67,7 @@ impl<A: Allocator> Schema<A> {
     ) -> Result<Vec<Stale, B>, StaleFault>
         ensures on { IfOk result (λ _. IsOn (V.device store.now)) }
         ensures stale { IfOk result (λ stale. stale.items
-            ≡ stale_in (state_of (V.device store.now)).map self.now) }
+            ≡ stale_in (state_of (V.device store.now)).map self.now.settings) }
         ensures fault { IfErr result (IsStaleFault (V.device store.now)) }
     {
         if !store.is_on() {

@@ -1,4 +1,4 @@
-//! Tidying: each address that has a value and that no setting has is forgotten.
+//! Tidying: each address that has a value and that no setting and no record has is forgotten.
 ghost use Rattle.std.specs.Prelude.{◌≡◌, ◌≢◌, ℕ, None, IfOk, IfErr, OnOk, length};
 ghost use Rattle.ee_flash.specs.Device.{IsOn};
 ghost use Rattle.ee_pages.specs.LiveOrder.{AreNextLive};
@@ -14,8 +14,8 @@ use ee_pages::Batch;
 use std::alloc::Allocator;
 
 impl<A: Allocator> Schema<A> {
-    /// Forgets each address that has a value and that no setting has, by rising address, and gives
-    /// how many there were: 0 to the slots. `laws` says what is read then.
+    /// Forgets each address that has a value and that no setting and no record has, by rising
+    /// address, and gives how many there were: 0 to the slots. `laws` says what is read then.
     ///
     /// # Errors
     ///
@@ -42,7 +42,8 @@ impl<A: Allocator> Schema<A> {
     }
 }
 
-/// Forgets those of the next live addresses that no setting has, and gives how many there were.
+/// Forgets those of the next live addresses that no setting and no record has, and gives how many
+/// there were.
 fn forget_unnamed<A: Allocator, V: Variables>(
     settings: &Settings<A>,
     store: &mut V,
@@ -67,7 +68,8 @@ fn forget_unnamed<A: Allocator, V: Variables>(
     Ok(forgotten)
 }
 
-/// Forgets an address that has a value, if no setting has it, and gives how many that is: 1, or 0.
+/// Forgets an address that has a value, if no setting and no record has it, and gives how many that
+/// is: 1, or 0.
 fn forget_one<A: Allocator, V: Variables>(
     settings: &Settings<A>,
     store: &mut V,

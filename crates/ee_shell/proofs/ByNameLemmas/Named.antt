@@ -8,10 +8,10 @@ use Rattle.ee_core.specs.Changes.{IsAccepted}
 use Rattle.ee_core.specs.State.{State, Wears, pending_pages, state_of}
 use Rattle.ee_core.specs.declared.variables.Written.{Written}
 use Rattle.ee_core.specs.declared.variables.Written.TheVariants as written
-use Rattle.ee_settings.proofs.Public.{one_fault, names_apart, entries_once, never_refused}
+use Rattle.ee_settings.proofs.Public.{one_fault, names_apart, never_refused, schema_once}
 use Rattle.ee_settings.specs.Calls.{IsNamed, IsUnknown, Sets}
 use Rattle.ee_settings.specs.File.{GivesSchema, HaveRisingKeys, entries_of}
-use Rattle.ee_settings.specs.Setting.{HaveRisingNames, IsInRange, Setting}
+use Rattle.ee_settings.specs.Setting.{HaveRisingNames, IsInRange, Schema, Setting}
 use Rattle.ee_settings.specs.declared.fault.SchemaFault.{SchemaFault}
 use Rattle.ee_settings.specs.declared.fault.SchemaFault.TheVariants as schema
 use Rattle.ee_settings.specs.declared.reading.Reading.{Reading}
@@ -19,7 +19,7 @@ use Rattle.ee_interface.specs.declared.script.answer.Answer.{Answer}
 use Rattle.ee_interface.specs.declared.script.answer.Answer.TheVariants.{Appended, Moved}
 use Rattle.ee_interface.specs.declared.script.command.Command.{Command}
 use Rattle.ee_interface.specs.declared.script.command.Command.TheVariants.{Write}
-use Rattle.ee_shell.specs.ByName.Settings.{fault_of_schema, HasTree, IsGetFault, IsGot, IsReadingLine, IsUnknownIn, IsSettingRead, IsSettingRefused, IsRefusedIn, IsSet, IsSettingsFault, IsValueRefusal, IsWriteRefusal, IsCommandServed, IsWriteServed, IsWritten, LeavesSet, SpellsSettings}
+use Rattle.ee_shell.specs.ByName.Settings.{fault_of_schema, HasTree, IsGetFault, IsGot, IsReadingLine, IsUnknownIn, IsSettingRead, IsSettingRefused, IsRefusedIn, IsSet, IsSettingsFault, IsValueRefusal, IsWriteRefusal, IsCommandServed, IsWriteServed, IsWritten, LeavesSet, SpellsSchema, SpellsSettings}
 use Rattle.ee_interface.specs.declared.fault.Fault.{Fault}
 use Rattle.ee_interface.specs.declared.fault.Fault.TheVariants.{Memory, UnknownName}
 use Rattle.ee_image_store.proofs.Public.{both, by_append, by_move, no_memory_to_open, pages_since, same_at_rest, same_state}
@@ -62,36 +62,57 @@ schema_named text tree why fault cause has rising gives told some (inr (inl h)) 
     ]
 
 -- a text that spells settings has no fault
-pub schema_good : (text : List ℕ) (tree : Members) (settings : List Setting) (cause : Fault)
-    → HasTree text tree → GivesSchema tree (Ok settings) → cause ≢ Memory
+pub schema_good : (text : List ℕ) (tree : Members) (whole : Schema) (cause : Fault)
+    → HasTree text tree → GivesSchema tree (Ok whole) → cause ≢ Memory
     → IsSettingsFault text cause → ⊥
-schema_good text tree settings cause has gives some (inl h) = h.1 tree has
-schema_good text tree settings cause has gives some (inr (inr h)) = some h
-schema_good text tree settings cause has gives some (inr (inl h)) =
-    search (rules, never_refused, one_tree)
+schema_good text tree whole cause has gives some (inl h) = h.1 tree has
+schema_good text tree whole cause has gives some (inr (inr h)) = some h
+schema_good text tree whole cause has gives some (inr (inl h)) =
+    never_refused tree whole h.cause (λ e. some (h.fault_is ∙ ap fault_of_schema e)) gives
+    (subst (λ (t : Members). GivesSchema t (Err h.cause))
+    (one_tree text h.tree tree h.has_tree has) h.applies)
 
 pub settings_good : (text : List ℕ) (settings : List Setting) (cause : Fault)
     → SpellsSettings text settings → cause ≢ Memory → IsSettingsFault text cause → ⊥
 settings_good text settings cause spelled some h =
-    schema_good text spelled.tree settings cause spelled.has_tree spelled.schema some h
+    schema_good text spelled.tree (record { settings = settings; records = spelled.records }) cause
+    spelled.has_tree spelled.schema some h
 
-there_too : (text : List ℕ) (tree : Members) (others : List Setting) → HasTree text tree
-    → SpellsSettings text others → GivesSchema tree (Ok others)
-there_too text tree others has spelled =
-    subst (λ (t : Members). GivesSchema t (Ok others))
-    (one_tree text spelled.tree tree spelled.has_tree has) spelled.schema
+pub spells_settings : (text : List ℕ) (whole : Schema) → SpellsSchema text whole
+    → SpellsSettings text whole.settings
+spells_settings text whole h = record {
+  tree = h.tree;
+  has_tree = h.has_tree;
+  records = whole.records;
+  schema = h.schema;
+}
 
-pub schema_once : (text : List ℕ) (tree : Members) (settings others : List Setting)
-    → HasTree text tree → GivesSchema tree (Ok settings) → SpellsSettings text others
-    → settings ≡ others
-schema_once text tree settings others has gives spelled =
-    entries_once (entries_of tree) settings others gives.0.each
-    (there_too text tree others has spelled).0.each
+there_too : (text : List ℕ) (one tree : Members) (whole : Schema) → HasTree text tree
+    → HasTree text one → GivesSchema one (Ok whole) → GivesSchema tree (Ok whole)
+there_too text one tree whole has has_one gives =
+    subst (λ (t : Members). GivesSchema t (Ok whole)) (one_tree text one tree has_one has) gives
+
+-- a text is one schema at most
+trees_once : (text : List ℕ) (tree one : Members) (whole other : Schema) → HasTree text tree
+    → HasTree text one → GivesSchema tree (Ok whole) → GivesSchema one (Ok other) → whole ≡ other
+trees_once text tree one whole other has has_one gives again =
+    schema_once (entries_of tree) whole other gives.0
+    (there_too text one tree other has has_one again).0
+
+pub whole_once : (text : List ℕ) (whole other : Schema) → SpellsSchema text whole
+    → SpellsSchema text other → whole ≡ other
+whole_once text whole other spelled again =
+    trees_once text spelled.tree again.tree whole other spelled.has_tree again.has_tree
+    spelled.schema again.schema
 
 pub spelled_once : (text : List ℕ) (settings others : List Setting) → SpellsSettings text settings
     → SpellsSettings text others → settings ≡ others
 spelled_once text settings others spelled again =
-    schema_once text spelled.tree settings others spelled.has_tree spelled.schema again
+    ap (λ (whole : Schema). whole.settings)
+    (trees_once text spelled.tree again.tree
+    (record { settings = settings; records = spelled.records })
+    (record { settings = others; records = again.records }) spelled.has_tree again.has_tree
+    spelled.schema again.schema)
 
 -- only want of memory refuses a text that spells settings
 pub schema_only : (text : List ℕ) (tree : Members) (why : SchemaFault) (fault : Fault)
@@ -99,7 +120,14 @@ pub schema_only : (text : List ℕ) (tree : Members) (why : SchemaFault) (fault 
     → HasTree text tree → GivesSchema tree (Err why) → fault ≡ fault_of_schema why
     → SpellsSettings text others → fault ≡ Memory
 schema_only text tree why fault others has gives told spelled =
-    search (rules, never_refused, schema_memory_or, there_too)
+    elim (schema_memory_or why) [
+      | inl none ↦ told ∙ ap fault_of_schema none
+      | inr named ↦ absurd
+          (never_refused tree (record { settings = others; records = spelled.records }) why named
+          (there_too text spelled.tree tree
+          (record { settings = others; records = spelled.records }) has spelled.has_tree
+          spelled.schema) gives)
+    ]
 
 -- ---- reading
 

@@ -6,7 +6,7 @@ use Rattle.ee_text.specs.Field.{joined_fields}
 use Rattle.ee_text.specs.Line.{line_of}
 use Rattle.ee_flash.specs.Device.{Device}
 use Rattle.ee_core.specs.State.{state_of}
-use Rattle.ee_settings.specs.Setting.{Setting}
+use Rattle.ee_settings.specs.Setting.{Schema, Setting}
 use Rattle.ee_settings.specs.Stale.{entry_of, stale_in}
 use Rattle.ee_settings.specs.Tidying.{IsSpentAmong, Tidies, after_forgettings, kept_map, unnamed_in}
 use Rattle.ee_settings.specs.declared.stale.Stale.{Stale}
@@ -14,7 +14,7 @@ use Rattle.ee_interface.specs.declared.fault.Fault.{Fault}
 use Rattle.ee_interface.specs.declared.fault.Fault.TheVariants.{Spent}
 use Rattle.ee_image_store.specs.FileFaults.{IsOpeningFault}
 use Rattle.ee_image_store.specs.Opening.{HasStore, IsOpened, IsStoreLeft, IsStoreText, StaysOn}
-use Rattle.ee_shell.specs.ByName.Settings.{IsSettingsFault, SpellsSettings}
+use Rattle.ee_shell.specs.ByName.Settings.{IsSettingsFault, SpellsSchema, SpellsSettings}
 
 -- ---- what is stale
 
@@ -45,46 +45,46 @@ pub record AreStaleLines (image settings_text lines : List ℕ) : Type 0 where
 abbrev pub tidied_text : ℕ → List ℕ
 tidied_text count = line_of (joined_fields (codes "tidied" ∷ decimal count ∷ []))
 
--- The store was tidied: it has the values of the settings' addresses and no others, its state is
--- what the forgettings made of it, and power and size stay.
-pub record IsTidied (settings : List Setting) (old : Device) (count : ℕ) (new : Device)
+-- The store was tidied: it has the values of the addresses of settings and records and no others,
+-- its state is what the forgettings made of it, and power and size stay.
+pub record IsTidied (schema : Schema) (old : Device) (count : ℕ) (new : Device)
     : Type 0 where
-  pub tidied : Tidies settings old (Ok count) new
+  pub tidied : Tidies schema old (Ok count) new
   pub map_is : (address : ℕ)
-      → (state_of new).map address ≡ kept_map settings (state_of old).map address
+      → (state_of new).map address ≡ kept_map schema (state_of old).map address
   pub state_is : state_of new
-      ≡ after_forgettings old.size (unnamed_in settings (state_of old).map) (state_of old)
+      ≡ after_forgettings old.size (unnamed_in schema (state_of old).map) (state_of old)
   pub stays_on : StaysOn new
   pub same_size : new.size ≡ old.size
 
 -- The store that was opened from the image was tidied, and the image is left with the values of
--- the settings' addresses and no others, in the state that the forgettings made of the one that
+-- the addresses of settings and records and no others, in the state that the forgettings made of the one that
 -- the old image says.
 pub record IsTidiedImage (old_image settings_text new_image line : List ℕ) : Type 0 where
   pub store : Device
   pub opened : IsOpened old_image store
-  pub settings : List Setting
-  pub spelled : SpellsSettings settings_text settings
+  pub schema : Schema
+  pub spelled : SpellsSchema settings_text schema
   pub count : ℕ
   pub last : Device
-  pub tidied : Tidies settings store (Ok count) last
+  pub tidied : Tidies schema store (Ok count) last
   pub map_is : (address : ℕ)
-      → (state_of last).map address ≡ kept_map settings (state_of opened.device).map address
+      → (state_of last).map address ≡ kept_map schema (state_of opened.device).map address
   pub state_is : let old = state_of opened.device in
-      state_of last ≡ after_forgettings opened.device.size (unnamed_in settings old.map) old
+      state_of last ≡ after_forgettings opened.device.size (unnamed_in schema old.map) old
   pub left : IsStoreLeft opened.device.size new_image last
   pub line_is : line ≡ tidied_text count
 
 -- ---- the faults
 
--- one of the addresses that have a value in the image and that no setting has can't be
--- forgotten: the store is spent
+-- one of the addresses that have a value in the image and that no setting and no record has
+-- can't be forgotten: the store is spent
 pub record IsSpentFor (image settings_text : List ℕ) (fault : Fault) : Type 0 where
   pub device : Device
   pub old : IsStoreText image device
-  pub settings : List Setting
-  pub spelled : SpellsSettings settings_text settings
-  pub spent : IsSpentAmong device.size (unnamed_in settings (state_of device).map) (state_of device)
+  pub schema : Schema
+  pub spelled : SpellsSchema settings_text schema
+  pub spent : IsSpentAmong device.size (unnamed_in schema (state_of device).map) (state_of device)
   pub fault_is : fault ≡ Spent
 
 -- why an image is not tidied, the first cause that applies: no store is opened; or the text spells
@@ -98,10 +98,10 @@ IsTidyImageFault image settings_text fault =
 
 -- the store was tidied and left the image, with the line that says how many
 -- addresses were forgotten
-pub record LeavesTidied (settings : List Setting) (store : Device) (image line : List ℕ)
+pub record LeavesTidied (schema : Schema) (store : Device) (image line : List ℕ)
     : Type 0 where
   pub count : ℕ
   pub last : Device
-  pub tidied : IsTidied settings store count last
+  pub tidied : IsTidied schema store count last
   pub left : IsStoreLeft last.size image last
   pub line_is : line ≡ tidied_text count

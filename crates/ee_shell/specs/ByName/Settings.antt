@@ -14,7 +14,7 @@ use Rattle.ee_core.specs.State.{State, Wears, pending_pages, state_of}
 use Rattle.ee_core.specs.declared.variables.Written.{Written}
 use Rattle.ee_settings.specs.Calls.{IsNamed, IsUnknown}
 use Rattle.ee_settings.specs.File.{GivesSchema}
-use Rattle.ee_settings.specs.Setting.{IsInRange, Setting, reading_in}
+use Rattle.ee_settings.specs.Setting.{IsInRange, RecordSetting, Schema, Setting, reading_in}
 use Rattle.ee_settings.specs.declared.fault.SchemaFault.{SchemaFault}
 use Rattle.ee_settings.specs.declared.fault.SchemaFault.TheVariants as schema
 use Rattle.ee_settings.specs.declared.reading.Reading.{Reading}
@@ -46,11 +46,18 @@ fault_of_schema (schema.BadRange entry) = BadRange entry
 fault_of_schema (schema.SameAddress entry) = SameAddress entry
 fault_of_schema schema.Memory = Memory
 
--- the tree of the text is a schema with these settings
+-- the tree of the text is a schema with these settings and records
+pub record SpellsSchema (text : List ℕ) (whole : Schema) : Type 0 where
+  pub tree : Members
+  pub has_tree : HasTree text tree
+  pub schema : GivesSchema tree (Ok whole)
+
+-- it is one with these settings, and may have records
 pub record SpellsSettings (text : List ℕ) (settings : List Setting) : Type 0 where
   pub tree : Members
   pub has_tree : HasTree text tree
-  pub schema : GivesSchema tree (Ok settings)
+  pub records : List RecordSetting
+  pub schema : GivesSchema tree (Ok (record { settings = settings; records = records }))
 
 -- the tree of the text is no schema, for its first fault
 pub record HasSchemaFault (text : List ℕ) (fault : Fault) : Type 0 where

@@ -61,9 +61,9 @@ fn apply_left<A: Allocator + Copy>(
     table: &Table,
 ) -> Result<ImageAndText<A>, Fault>
     requires { StaysOn store }
-    ensures applied { IfOk result (λ given. LeavesApplied schema.now
+    ensures applied { IfOk result (λ given. LeavesApplied schema.now.settings
         (entries_of (table_view table.now)) store given.image.items given.text.items) }
-    ensures stopped { IfErr result (λ fault. StopsAtEntry schema.now
+    ensures stopped { IfErr result (λ fault. StopsAtEntry schema.now.settings
         (entries_of (table_view table.now))
         store fault ⊎ (fault ≡ Fault.Memory)) }
 {
@@ -87,11 +87,11 @@ fn take_entries<A: Allocator>(
     table: &Table,
 ) -> Result<Counts, Fault>
     requires { StaysOn store.old }
-    ensures applied { IfOk result (λ counts. Applies schema.now (entries_of (table_view table.now))
+    ensures applied { IfOk result (λ counts. Applies schema.now.settings (entries_of (table_view table.now))
         store.old counts.written store.new) }
     ensures entries { IfOk result (λ counts.
         counts.entries ≡ length (entries_of (table_view table.now))) }
-    ensures stopped { IfErr result (λ fault. StopsAtEntry schema.now
+    ensures stopped { IfErr result (λ fault. StopsAtEntry schema.now.settings
         (entries_of (table_view table.now))
         store.old fault ⊎ (fault ≡ Fault.Memory)) }
 {
@@ -115,10 +115,10 @@ fn take_entry<A: Allocator>(
     value: &Value,
 ) -> Result<u64, Fault>
     requires { StaysOn store.old }
-    ensures taken { IfOk result (λ count. TakesEntry schema.now store.old
+    ensures taken { IfOk result (λ count. TakesEntry schema.now.settings store.old
         (name.now, view value.now) count store.new) }
     ensures refused { let old = store.old in IfErr result (λ fault.
-        IsEntryRefusal schema.now old.size (state_of old) entry (name.now, view value.now) fault
+        IsEntryRefusal schema.now.settings old.size (state_of old) entry (name.now, view value.now) fault
         ⊎ (fault ≡ Fault.Memory)) }
 {
     let Wanted { numbers, value } = wanted_of(schema, entry, name, value)?;
@@ -150,8 +150,8 @@ pub(crate) fn wanted_of<A: Allocator>(
     value: &Value,
 ) -> Result<Wanted, Fault>
     ensures wanted { IfOk result (λ wanted.
-        IsWanted schema.now (name.now, view value.now) wanted.numbers wanted.value) }
-    ensures fault { IfErr result (IsEntryFault schema.now entry (name.now, view value.now)) }
+        IsWanted schema.now.settings (name.now, view value.now) wanted.numbers wanted.value) }
+    ensures fault { IfErr result (IsEntryFault schema.now.settings entry (name.now, view value.now)) }
 {
     let value = match value.as_integer() {
         Some(value) => value,

@@ -82,7 +82,7 @@ fn lines_on<A: Allocator + Copy>(
 ) -> Result<Vec<u8, A>, Fault>
     requires { StaysOn store.now }
     ensures lines { IfOk result (λ text. text.items
-        ≡ listed_lines schema.now (listed_in schema.now (state_of store.now).map)) }
+        ≡ listed_lines schema.now.settings (listed_in schema.now.settings (state_of store.now).map)) }
     ensures fault { IfErr result (λ fault. fault ≡ Fault.Memory) }
 {
     let listed = match schema.list(alloc, store) {
@@ -101,7 +101,7 @@ fn push_lines<A: Allocator>(
     schema: &Schema<A>,
     listed: &[Listed],
 ) -> Result<(), AllocError>
-    ensures { OnOk result (out.new.items ≡ out.old.items ++ listed_lines schema.now listed.now) }
+    ensures { OnOk result (out.new.items ≡ out.old.items ++ listed_lines schema.now.settings listed.now) }
 {
     for one in listed {
         push_listed(out, schema, *one)?;
@@ -115,7 +115,7 @@ fn push_listed<A: Allocator>(
     schema: &Schema<A>,
     listed: Listed,
 ) -> Result<(), AllocError>
-    ensures { OnOk result (out.new.items ≡ out.old.items ++ listed_line schema.now listed) }
+    ensures { OnOk result (out.new.items ≡ out.old.items ++ listed_line schema.now.settings listed) }
 {
     let Listed {
         address,
@@ -136,7 +136,7 @@ fn push_name<A: Allocator>(
     entry: Option<u64>,
 ) -> Result<(), AllocError>
     ensures { OnOk result
-        (out.new.items ≡ out.old.items ++ words_behind (name_words schema.now entry)) }
+        (out.new.items ≡ out.old.items ++ words_behind (name_words schema.now.settings entry)) }
 {
     let Some(entry) = entry else {
         return Ok(());

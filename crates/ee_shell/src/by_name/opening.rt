@@ -3,7 +3,7 @@ ghost use Rattle.std.specs.Prelude.{◌≡◌, ◌⊎◌, IfOk, IfErr};
 ghost use Rattle.toml.specs.View.{table_view};
 ghost use Rattle.ee_image_store.specs.Opening.{HasStore, IsOpened};
 ghost use Rattle.ee_shell.specs.ByName.Applying.{HasSettings};
-ghost use Rattle.ee_shell.specs.ByName.Settings.{HasNoTree, HasTree, IsOpenWithSettingsFault, IsSettingsFault, SpellsSettings, fault_of_schema};
+ghost use Rattle.ee_shell.specs.ByName.Settings.{HasNoTree, HasTree, IsOpenWithSettingsFault, IsSettingsFault, SpellsSchema, SpellsSettings, fault_of_schema};
 ghost use Rattle.ee_interface.specs.Causes.{NamesEach};
 
 use ee_core::Store;
@@ -39,7 +39,9 @@ pub(crate) fn open_with_settings<A: Allocator + Copy>(
     settings: &[u8],
 ) -> Result<StoreAndSchema<A>, Fault>
     ensures opened { IfOk result (λ opened. IsOpened image.now opened.store) }
-    ensures spelled { IfOk result (λ opened. SpellsSettings settings.now opened.schema) }
+    ensures spelled { IfOk result (λ opened.
+        SpellsSettings settings.now opened.schema.settings) }
+    ensures whole { IfOk result (λ opened. SpellsSchema settings.now opened.schema) }
     ensures fault { IfErr result (IsOpenWithSettingsFault image.now settings.now) }
     ensures names { NamesEach Fault.Memory (IsOpenWithSettingsFault image.now settings.now) result }
     ensures only { HasStore image.now → HasSettings settings.now
@@ -63,7 +65,8 @@ pub(crate) fn read_schema<A: Allocator + Copy>(
     heap: Global,
     text: &[u8],
 ) -> Result<Schema<A>, Fault>
-    ensures spelled { IfOk result (SpellsSettings text.now) }
+    ensures spelled { IfOk result (λ schema. SpellsSettings text.now schema.settings) }
+    ensures whole { IfOk result (SpellsSchema text.now) }
     ensures fault { IfErr result (IsSettingsFault text.now) }
     ensures names { NamesEach Fault.Memory (IsSettingsFault text.now) result }
     ensures only { HasSettings text.now → IfErr result (λ fault. fault ≡ Fault.Memory) }

@@ -80,7 +80,7 @@ fn stale_lines_on<A: Allocator + Copy>(
 ) -> Result<Vec<u8, A>, Fault>
     requires { StaysOn store.now }
     ensures lines { IfOk result (λ text. text.items
-        ≡ stale_lines schema.now (stale_in (state_of store.now).map schema.now)) }
+        ≡ stale_lines schema.now.settings (stale_in (state_of store.now).map schema.now.settings)) }
     ensures fault { IfErr result (λ fault. fault ≡ Fault.Memory) }
 {
     let stale = stale_on(alloc, store, schema)?;
@@ -97,7 +97,7 @@ fn stale_on<A: Allocator + Copy>(
 ) -> Result<Vec<Stale, A>, AllocError>
     requires { StaysOn store.now }
     ensures { IfOk result (λ stale. stale.items
-        ≡ stale_in (state_of store.now).map schema.now) }
+        ≡ stale_in (state_of store.now).map schema.now.settings) }
 {
     match schema.stale_values(alloc, store) {
         Ok(stale) => Ok(stale),
@@ -148,8 +148,8 @@ fn push_stale<A: Allocator>(
     schema: &Schema<A>,
     stale: &[Stale],
 ) -> Result<(), AllocError>
-    requires { All (λ (one : Stale). (1 ≤ one.entry) × (one.entry < 1 + length schema.now)) stale.now }
-    ensures { OnOk result (out.new.items ≡ out.old.items ++ stale_lines schema.now stale.now) }
+    requires { All (λ (one : Stale). (1 ≤ one.entry) × (one.entry < 1 + length schema.now.settings)) stale.now }
+    ensures { OnOk result (out.new.items ≡ out.old.items ++ stale_lines schema.now.settings stale.now) }
 {
     for one in stale {
         push_line(out, schema, *one)?;
@@ -164,8 +164,8 @@ fn push_line<A: Allocator>(
     stale: Stale,
 ) -> Result<(), AllocError>
     requires some { 1 ≤ stale.entry }
-    requires within { stale.entry < 1 + length schema.now }
-    ensures { OnOk result (out.new.items ≡ out.old.items ++ stale_line schema.now stale) }
+    requires within { stale.entry < 1 + length schema.now.settings }
+    ensures { OnOk result (out.new.items ≡ out.old.items ++ stale_line schema.now.settings stale) }
 {
     let Some(name) = schema.name(stale.entry) else {
         unreachable!("a stale entry is an entry");

@@ -81,9 +81,9 @@ fn reading_on<A: Allocator + Copy>(
 ) -> Result<Vec<u8, A>, Fault>
     requires { StaysOn store.now }
     ensures got { IfOk result (λ text.
-        IsReadingLine schema.now (state_of store.now) name.now text.items) }
+        IsReadingLine schema.now.settings (state_of store.now) name.now text.items) }
     ensures fault { IfErr result (λ fault.
-        (IsUnknown schema.now name.now × (fault ≡ Fault.UnknownName)) ⊎ (fault ≡ Fault.Memory)) }
+        (IsUnknown schema.now.settings name.now × (fault ≡ Fault.UnknownName)) ⊎ (fault ≡ Fault.Memory)) }
 {
     let reading = match schema.get(store, name) {
         Ok(reading) => reading,
@@ -106,9 +106,9 @@ fn set_left<A: Allocator + Copy>(
 ) -> Result<ImageAndText<A>, Fault>
     requires { StaysOn store }
     ensures set { IfOk result (λ given.
-        LeavesSet schema.now store name.now value given.image.items given.text.items) }
+        LeavesSet schema.now.settings store name.now value given.image.items given.text.items) }
     ensures fault { IfErr result
-        (IsSettingRefused schema.now store.size (state_of store) name.now value) }
+        (IsSettingRefused schema.now.settings store.size (state_of store) name.now value) }
 {
     set_on(&mut store, schema, name, value)?;
     let image = text_left(alloc, store)?;
@@ -125,9 +125,9 @@ fn set_on<A: Allocator>(
 ) -> Result<(), Fault>
     requires { StaysOn store.old }
     ensures written { OnOk result
-        (IsWritten schema.now store.old name.now value store.new) }
+        (IsWritten schema.now.settings store.old name.now value store.new) }
     ensures fault { let old = store.old in
-        IfErr result (IsSettingRefused schema.now old.size (state_of old) name.now value) }
+        IfErr result (IsSettingRefused schema.now.settings old.size (state_of old) name.now value) }
 {
     match schema.set(store, name, value) {
         Ok(_) => Ok(()),

@@ -52,9 +52,9 @@ fn unset_left<A: Allocator + Copy>(
 ) -> Result<ImageAndText<A>, Fault>
     requires { StaysOn store }
     ensures unset { IfOk result (λ given.
-        LeavesUnset schema.now store name.now given.image.items given.text.items) }
+        LeavesUnset schema.now.settings store name.now given.image.items given.text.items) }
     ensures fault { IfErr result
-        (IsUnsettingRefused schema.now store.size (state_of store) name.now) }
+        (IsUnsettingRefused schema.now.settings store.size (state_of store) name.now) }
 {
     unset_on(&mut store, schema, name)?;
     let image = text_left(alloc, store)?;
@@ -69,9 +69,9 @@ fn unset_on<A: Allocator>(
     name: &str,
 ) -> Result<(), Fault>
     requires { StaysOn store.old }
-    ensures forgotten { OnOk result (IsForgotten schema.now store.old name.now store.new) }
+    ensures forgotten { OnOk result (IsForgotten schema.now.settings store.old name.now store.new) }
     ensures fault { let old = store.old in
-        IfErr result (IsUnsettingRefused schema.now old.size (state_of old) name.now) }
+        IfErr result (IsUnsettingRefused schema.now.settings old.size (state_of old) name.now) }
 {
     let Some(numbers) = schema.find(name) else {
         return Err(Fault::UnknownName);

@@ -71,10 +71,10 @@ fn verify_on<A: Allocator + Copy>(
 ) -> Result<Verified<A>, Fault>
     requires { StaysOn store.now }
     ensures verified { IfOk result (λ given. (lines : List ℕ)
-        × AreCompared schema.now store.now (entries_of (table_view table.now)) given.all_stored lines
+        × AreCompared schema.now.settings store.now (entries_of (table_view table.now)) given.all_stored lines
         × (given.text.items ≡ lines
         ++ verified_text given.all_stored (length (entries_of (table_view table.now))))) }
-    ensures fault { IfErr result (λ fault. IsFirstEntryFault schema.now
+    ensures fault { IfErr result (λ fault. IsFirstEntryFault schema.now.settings
         (entries_of (table_view table.now)) 0 fault ⊎ (fault ≡ Fault.Memory)) }
 {
     let Verified {
@@ -103,9 +103,9 @@ fn tell_entries<A: Allocator + Copy>(
     table: &Table,
 ) -> Result<Verified<A>, Fault>
     requires { StaysOn store.now }
-    ensures told { IfOk result (λ told. AreCompared schema.now store.now
+    ensures told { IfOk result (λ told. AreCompared schema.now.settings store.now
         (entries_of (table_view table.now)) told.all_stored told.text.items) }
-    ensures fault { IfErr result (λ fault. IsFirstEntryFault schema.now
+    ensures fault { IfErr result (λ fault. IsFirstEntryFault schema.now.settings
         (entries_of (table_view table.now)) 0 fault ⊎ (fault ≡ Fault.Memory)) }
 {
     let mut text = Vec::new(alloc);
@@ -131,10 +131,10 @@ fn tell_entry<A: Allocator>(
 ) -> Result<bool, Fault>
     requires { StaysOn store.now }
     ensures told { IfOk result (λ same. (here : List ℕ)
-        × IsCompared schema.now store.now (name.now, view value.now) same here
+        × IsCompared schema.now.settings store.now (name.now, view value.now) same here
         × (out.new.items ≡ out.old.items ++ here)) }
     ensures fault { IfErr result (λ fault.
-        IsEntryFault schema.now entry (name.now, view value.now) fault ⊎ (fault ≡ Fault.Memory)) }
+        IsEntryFault schema.now.settings entry (name.now, view value.now) fault ⊎ (fault ≡ Fault.Memory)) }
 {
     let Wanted { numbers, value } = wanted_of(schema, entry, name, value)?;
     let stored = value_at(store, numbers.address);

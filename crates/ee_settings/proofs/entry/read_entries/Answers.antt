@@ -7,6 +7,7 @@ use Rattle.ee_settings.proofs.Entries.{fault_named, gives_same, schema_more}
 use Rattle.ee_settings.proofs.Trees.{entries_seen, gone_more, seen, split_entries}
 use Rattle.ee_settings.proofs.Names.{rising_keys, rising_names}
 use Rattle.ee_settings.specs.File.{AreEntriesOf, IsSchemaOf}
+use Rattle.ee_settings.specs.Setting.{HaveRisingNames}
 use Rattle.ee_settings.proofs.entry.read_entries.Goals as goal
 
 pub returns-in_err-settings : goal.returns-in_err-settings
@@ -27,13 +28,14 @@ returns-in_err-settings g c =
       ok = IfOk-from_err _ _ c.from_residual.ensures.0;
       names = IfOk-from_err _ _ c.from_residual.ensures.0;
       err = rw (p.1, p.2) (fault_named _ _ _ _ _ c.loop-name.settings
-          (length c.loop-name.settings + 1)
+          (length c.loop-name.settings.settings + length c.loop-name.settings.records + 1)
           (split_entries c.args.table.now.entries (map deref_pair c.loop-name.yielded)
           c.next.new.self (c.in-Some.name.now, c.in-Some.value.now) whole)
           refl c.loop-name.invariant
-          (gives_same (Err c.in_err-settings.field-0.0) c.loop-name.settings c.loop-name.settings
-          (length c.loop-name.settings + 1) c.as_str.result.now
-          (string_bytes c.in-Some.name.now) (view c.in-Some.value.now) refl (search rules)
+          (gives_same (Err c.in_err-settings.field-0.0) c.loop-name.settings
+          (length c.loop-name.settings.settings + length c.loop-name.settings.records + 1)
+          c.as_str.result.now (string_bytes c.in-Some.name.now) (view c.in-Some.value.now)
+          (search rules)
           c.in_err-settings.ensures.err));
       rises = rising_keys c.args.table.now.entries c.iter-name-items.ensures.ordered;
     }
@@ -42,9 +44,10 @@ pub loop-name-preserved : goal.loop-name-preserved
 loop-name-preserved g c =
     let made = c.in_ok-settings.ensures.ok in
     let gives =
-    gives_same (Ok made.0) c.loop-name.settings c.loop-name.settings
-    (length c.loop-name.settings + 1) c.as_str.result.now (string_bytes c.in-Some.name.now)
-    (view c.in-Some.value.now) refl (search rules) made.2 in
+    gives_same (Ok made.0) c.loop-name.settings
+    (length c.loop-name.settings.settings + length c.loop-name.settings.records + 1)
+    c.as_str.result.now (string_bytes c.in-Some.name.now) (view c.in-Some.value.now)
+    (search rules) made.2 in
     let grown =
     schema_more _ c.loop-name.settings (seen (c.in-Some.name.now, c.in-Some.value.now)) made.0
     c.loop-name.invariant gives in
@@ -61,9 +64,11 @@ returns g c =
       ok = subst (λ entries. IsSchemaOf entries c.loop-name.settings)
           (ap (map seen) e.0 ∙ sym (entries_seen c.args.table.now.entries)) c.loop-name.invariant;
       names =
-          rising_names c.args.table.now.entries c.loop-name.settings
-          (subst (λ entries. AreEntriesOf (map seen entries) c.loop-name.settings) e.0
-          c.loop-name.invariant.each) c.iter-name-items.ensures.ordered;
+          let spelled = c.loop-name.invariant in
+          subst HaveRisingNames (sym spelled.settings_are)
+          (rising_names c.args.table.now.entries spelled.items
+          (subst (λ entries. AreEntriesOf (map seen entries) spelled.items) e.0 spelled.each)
+          c.iter-name-items.ensures.ordered);
       err = tt;
       rises = rising_keys c.args.table.now.entries c.iter-name-items.ensures.ordered;
     }

@@ -1,6 +1,6 @@
 use Rattle.std.proofs.Common.{◌<◌, [], sym, arith, subst}
 use Rattle.std.specs.List.Sorted.{IsStrictlySortedBy}
-use Rattle.ee_settings.specs.Setting.{IsSchema}
+use Rattle.ee_settings.specs.Setting.{IsSchema, Schema}
 use Rattle.ee_settings.proofs.schema.Schema.empty.Goals as goal
 
 none_is_schema : IsSchema []
@@ -11,4 +11,4 @@ none_is_schema = record {
 }
 
 pub invariant_of-result : goal.invariant_of-result
-invariant_of-result g c = subst IsSchema (sym c.new.ensures) none_is_schema
+invariant_of-result g c = subst (λ (s : Schema). IsSchema s.settings) (sym c.new.ensures) none_is_schema

@@ -16,7 +16,7 @@ loop-index-preserved g c =
     one_further stored c.as_slice-setting-items.result.now c.loop-index.index c.setting-item.result
     c.numbers-numbers.result c.copied-value.result c.loop-index.stale.items
     c.push_stale.new.stale.items
-    (stale_in stored c.args.self.now)
+    (stale_in stored c.args.self.now.settings)
     c.loop-index-test.true c.setting-item.is c.numbers-numbers.ensures.numbers found in
     let pushed = c.in-Ok-push_stale.ensures in
     let so_far = c.loop-index.invariant in

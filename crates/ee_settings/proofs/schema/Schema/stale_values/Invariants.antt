@@ -8,4 +8,4 @@ abbrev pub invariant-loop-index : goal.invariant-loop-index
 invariant-loop-index g l =
     let stored = (state_of (g.V.Variables.device l.store)).map in
     l.stale.items ++ stale_from (l.index + 1) stored (drop l.index l.setting-items)
-    ≡ stale_in stored l.self
+    ≡ stale_in stored l.self.settings

@@ -9,7 +9,7 @@ use Rattle.ee_shell.proofs.by_name.applying.apply_left.Goals as goal
 pub text_left-requires : goal.text_left-requires
 text_left-requires g c =
     let kept =
-    applied_keeps c.args.schema.now (entries_of (table_view c.args.table.now)) c.args.store
+    applied_keeps c.args.schema.now.settings (entries_of (table_view c.args.table.now)) c.args.store
     c.take_entries.new.store c.in_ok-counts.counts.written c.requires
     c.in_ok-counts.ensures.applied in
     record { stays_on = kept.0 }

@@ -20,7 +20,7 @@ returns-in_err-opened-clause-names g c = λ cause some applies.
 pub returns-in_err-table-clause-fault : goal.returns-in_err-table-clause-fault
 returns-in_err-table-clause-fault g c = passed_on _ _ _ c.from_residual-in_err-table.ensures.1
     (unread_fault c.args.image.now c.args.settings.now c.args.values.now c.in_ok-opened.opened.store
-    c.in_ok-opened.opened.schema _ c.in_ok-opened.ensures.opened c.in_ok-opened.ensures.spelled
+    c.in_ok-opened.opened.schema.settings _ c.in_ok-opened.ensures.opened c.in_ok-opened.ensures.spelled
     c.in_err-table.ensures.fault)
 
 pub returns-in_err-table-clause-names : goal.returns-in_err-table-clause-names
@@ -33,7 +33,7 @@ returns-in_err-table-clause-names g c =
 pub returns-clause-applied : goal.returns-clause-applied
 returns-clause-applied g c = IfOk-weaker c.apply_left.result _ _
     (λ given. is_applied c.args.image.now c.args.settings.now c.args.values.now given.image.items
-    given.text.items c.in_ok-opened.opened.store c.in_ok-opened.opened.schema
+    given.text.items c.in_ok-opened.opened.store c.in_ok-opened.opened.schema.settings
     (table_view c.in_ok-table.table) c.in_ok-opened.ensures.opened
     c.in_ok-opened.ensures.spelled
     c.in_ok-table.ensures.read)
@@ -42,7 +42,7 @@ returns-clause-applied g c = IfOk-weaker c.apply_left.result _ _
 pub returns-clause-fault : goal.returns-clause-fault
 returns-clause-fault g c = IfErr-weaker c.apply_left.result _ _
     (λ fault. stopped_fault c.args.image.now c.args.settings.now c.args.values.now
-    c.in_ok-opened.opened.store c.in_ok-opened.opened.schema
+    c.in_ok-opened.opened.store c.in_ok-opened.opened.schema.settings
     (table_view c.in_ok-table.table) fault c.in_ok-opened.ensures.opened
     c.in_ok-opened.ensures.spelled c.in_ok-table.ensures.read)
     c.apply_left.ensures.stopped
@@ -54,13 +54,13 @@ returns-clause-names g c = λ cause some applies.
     (λ own. MatchResult-from_both c.apply_left.result _ _
     (IfOk-weaker c.apply_left.result _ _
     (λ given done. apply_good c.args.image.now c.args.settings.now c.args.values.now
-    c.in_ok-opened.opened.store done.last c.in_ok-opened.opened.schema tree done.count cause
+    c.in_ok-opened.opened.store done.last c.in_ok-opened.opened.schema.settings tree done.count cause
     c.in_ok-opened.ensures.opened c.in_ok-opened.ensures.spelled c.in_ok-table.ensures.read
     done.applied own)
     c.apply_left.ensures.applied)
     (IfErr-weaker c.apply_left.result _ _
     (λ fault stopped. apply_stopped c.args.image.now c.args.settings.now c.args.values.now
-    c.in_ok-opened.opened.store c.in_ok-opened.opened.schema tree fault cause
+    c.in_ok-opened.opened.store c.in_ok-opened.opened.schema.settings tree fault cause
     c.in_ok-opened.ensures.opened c.in_ok-opened.ensures.spelled c.in_ok-table.ensures.read
     stopped own)
     c.apply_left.ensures.stopped))

@@ -34,11 +34,11 @@ overflow_add-written g c =
     let fewer : length c.loop-name.yielded < length c.args.table.now.entries = turn.0 in
     let all : c.len-entries.result ≡ length c.args.table.now.entries = c.len-entries.ensures.len in
     let few : c.loop-name.written ≤ length (map seen (map deref_pair c.loop-name.yielded)) =
-    few_applied c.args.schema.now (map seen (map deref_pair c.loop-name.yielded)) _ _
+    few_applied c.args.schema.now.settings (map seen (map deref_pair c.loop-name.yielded)) _ _
     c.loop-name.written c.loop-name.invariant.taken in
     let gone = as_many c.loop-name.yielded in
     let one : c.in_ok-written.field-0 ≤ 1 =
-    few_taken c.args.schema.now _ _ _ c.in_ok-written.field-0 c.in_ok-written.ensures.taken in
+    few_taken c.args.schema.now.settings _ _ _ c.in_ok-written.field-0 c.in_ok-written.ensures.taken in
     omega arith
 
 pub returns-in_err-written-clause-stopped : goal.returns-in_err-written-clause-stopped
@@ -62,7 +62,7 @@ returns-in_err-written-clause-stopped g c =
     omega arith in
     let p =
     err_from_is_err_and c.from_residual.result c.from_residual.ensures.1 in rw (p.1, p.2)
-    (entry_refused c.args.schema.now _ (map seen (map deref_pair c.loop-name.yielded))
+    (entry_refused c.args.schema.now.settings _ (map seen (map deref_pair c.loop-name.yielded))
     (map seen c.next.new.self) c.as_str.result.now (string_bytes c.in-Some.name.now)
     (view c.in-Some.value.now)
     c.args.store.now c.loop-name.store c.loop-name.written (c.loop-name.number + 1)
@@ -82,13 +82,13 @@ loop-name-preserved g c =
     record {
       number = number;
       taken =
-          entry_taken c.args.schema.now (map seen (map deref_pair c.loop-name.yielded)) _
+          entry_taken c.args.schema.now.settings (map seen (map deref_pair c.loop-name.yielded)) _
           c.as_str.result.now (string_bytes c.in-Some.name.now) (view c.in-Some.value.now)
           c.args.store.now c.loop-name.store c.take_entry.new.store c.loop-name.written
           c.in_ok-written.field-0
           (gone_more c.loop-name.yielded (c.in-Some.name, c.in-Some.value)) named
           c.loop-name.invariant.taken c.in_ok-written.ensures.taken;
-      stays_on = (taken_keeps c.args.schema.now c.loop-name.store c.take_entry.new.store _
+      stays_on = (taken_keeps c.args.schema.now.settings c.loop-name.store c.take_entry.new.store _
           c.in_ok-written.field-0 c.loop-name.invariant.stays_on c.in_ok-written.ensures.taken).0;
     }
 
@@ -100,7 +100,7 @@ returns-clause-applied g c =
     c.into_iter-name-iterator.result c.loop-name.name-iterator c.next.new.self c.next.result
     start c.loop-name.yielded_by c.in-None.is c.next.ensures.steps in
     subst
-    (λ entries. Applies c.args.schema.now entries c.args.store.now c.loop-name.written
+    (λ entries. Applies c.args.schema.now.settings entries c.args.store.now c.loop-name.written
     c.loop-name.store) (ap (map seen) e.0 ∙ sym (entries_seen c.args.table.now.entries))
     c.loop-name.invariant.taken
 

@@ -9,6 +9,6 @@ use Rattle.ee_shell.proofs.by_name.applying.take_entries.Given as goal
 abbrev pub invariant-loop-name : goal.invariant-loop-name
 invariant-loop-name g l = record {
   number : l.number ≡ length l.yielded;
-  taken : Applies l.schema (map seen (map deref_pair l.yielded)) l.initial.store l.written l.store;
+  taken : Applies l.schema.settings (map seen (map deref_pair l.yielded)) l.initial.store l.written l.store;
   stays_on : StaysOn l.store;
 }

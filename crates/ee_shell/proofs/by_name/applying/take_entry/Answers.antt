@@ -8,14 +8,14 @@ pub returns-in_err-numbers-clause-refused : goal.returns-in_err-numbers-clause-r
 returns-in_err-numbers-clause-refused g c =
     passed_on _ _ _ c.from_residual.ensures.1
     (inl
-    (fault_refuses c.args.schema.now _ _ c.args.entry (c.args.name.now, view c.args.value.now) _
+    (fault_refuses c.args.schema.now.settings _ _ c.args.entry (c.args.name.now, view c.args.value.now) _
     c.in_err-numbers.ensures.fault))
 
 pub returns-then-has_value-clause-taken : goal.returns-then-has_value-clause-taken
 returns-then-has_value-clause-taken g c =
     let asked = c.in_ok-numbers.field-0 in
     let stored = rw c.if-has_value.true at c.has_value.ensures.stored in
-    taken_stored c.args.schema.now c.args.store.now (c.args.name.now, view c.args.value.now)
+    taken_stored c.args.schema.now.settings c.args.store.now (c.args.name.now, view c.args.value.now)
     asked.numbers asked.value
     c.in_ok-numbers.ensures.wanted stored
 
@@ -23,7 +23,7 @@ pub returns-clause-taken : goal.returns-clause-taken
 returns-clause-taken g c =
     let asked = c.in_ok-numbers.field-0 in
     let another = rw c.if-has_value.false at c.has_value.ensures.another in
-    taken_new c.args.schema.now c.args.store.now _ (c.args.name.now, view c.args.value.now)
+    taken_new c.args.schema.now.settings c.args.store.now _ (c.args.name.now, view c.args.value.now)
     asked.numbers asked.value
     c.in_ok-write_on.field-0 c.requires c.in_ok-numbers.ensures.wanted another
     c.in_ok-write_on.ensures.written
@@ -33,7 +33,7 @@ returns-in_err-write_on-clause-refused g c =
     let asked = c.in_ok-numbers.field-0 in
     let another = rw c.if-has_value.false at c.has_value.ensures.another in
     passed_on _ _ _ c.from_residual-in_err-write_on.ensures.1
-    (unwritten c.args.schema.now c.args.store.now c.args.entry
+    (unwritten c.args.schema.now.settings c.args.store.now c.args.entry
     (c.args.name.now, view c.args.value.now) asked.numbers
     asked.value _ c.in_ok-numbers.ensures.wanted another
     c.in_err-write_on.ensures.refused)

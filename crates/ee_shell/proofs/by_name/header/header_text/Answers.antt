@@ -13,14 +13,14 @@ returns-in_err-text-clause-fault g c =
 
 pub returns-clause-header : goal.returns-clause-header
 returns-clause-header g c = record {
-  settings = c.in_ok-schema.schema;
+  settings = c.in_ok-schema.schema.settings;
   spelled = c.in_ok-schema.ensures.spelled;
   text_is = search rules;
 }
 
 pub returns-clause-names : goal.returns-clause-names
 returns-clause-names g c = λ cause some applies.
-    settings_good c.args.settings.now c.in_ok-schema.schema cause c.in_ok-schema.ensures.spelled
+    settings_good c.args.settings.now c.in_ok-schema.schema.settings cause c.in_ok-schema.ensures.spelled
     some applies
 
 pub returns-in_err-schema-clause-names : goal.returns-in_err-schema-clause-names

@@ -67,5 +67,5 @@ returns-in_err-schema-clause-only g c =
 
 pub returns-clause-names : goal.returns-clause-names
 returns-clause-names g c = λ cause some applies.
-    both_good c.args.image.now c.args.settings.now c.in_ok-store.store c.in_ok-schema.schema cause
+    both_good c.args.image.now c.args.settings.now c.in_ok-store.store c.in_ok-schema.schema.settings cause
     c.in_ok-store.ensures.opened c.in_ok-schema.ensures.spelled some applies

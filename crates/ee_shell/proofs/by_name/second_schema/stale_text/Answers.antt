@@ -22,6 +22,6 @@ returns-clause-fault g c =
 pub returns-clause-stale : goal.returns-clause-stale
 returns-clause-stale g c = IfOk-weaker c.stale_lines_on.result _ _
     (λ text. are_stale_lines c.args.image.now c.args.settings.now text.items
-    c.in_ok-opened.opened.store c.in_ok-opened.opened.schema c.in_ok-opened.ensures.opened
+    c.in_ok-opened.opened.store c.in_ok-opened.opened.schema.settings c.in_ok-opened.ensures.opened
     c.in_ok-opened.ensures.spelled)
     c.stale_lines_on.ensures.lines

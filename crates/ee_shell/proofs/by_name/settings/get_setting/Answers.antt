@@ -20,14 +20,14 @@ returns-in_err-opened-clause-names g c = λ cause some applies.
 pub returns-clause-got : goal.returns-clause-got
 returns-clause-got g c = IfOk-weaker c.reading_on.result _ _
     (λ text. is_got c.args.image.now c.args.settings.now c.args.name.now text.items
-    c.in_ok-opened.opened.store c.in_ok-opened.opened.schema c.in_ok-opened.ensures.opened
+    c.in_ok-opened.opened.store c.in_ok-opened.opened.schema.settings c.in_ok-opened.ensures.opened
     c.in_ok-opened.ensures.spelled)
     c.reading_on.ensures.got
 
 pub returns-clause-fault : goal.returns-clause-fault
 returns-clause-fault g c = IfErr-weaker c.reading_on.result _ _
     (λ fault. is_get_fault c.args.image.now c.args.settings.now c.args.name.now
-    c.in_ok-opened.opened.store c.in_ok-opened.opened.schema fault
+    c.in_ok-opened.opened.store c.in_ok-opened.opened.schema.settings fault
     c.in_ok-opened.ensures.opened c.in_ok-opened.ensures.spelled)
     c.reading_on.ensures.fault
 
@@ -36,7 +36,7 @@ returns-clause-names g c = λ cause some applies.
     own_left c.args.image.now c.args.settings.now cause c.in_ok-opened.ensures.names some applies
     (λ h. MatchResult-from_both c.reading_on.result _ _
     (IfOk-weaker c.reading_on.result _ _
-    (λ text read. never_unknown c.args.settings.now c.args.name.now c.in_ok-opened.opened.schema
+    (λ text read. never_unknown c.args.settings.now c.args.name.now c.in_ok-opened.opened.schema.settings
     (state_of c.in_ok-opened.opened.store) read.0 c.in_ok-opened.ensures.spelled read.1 h.1)
     c.reading_on.ensures.got)
     (IfErr-weaker c.reading_on.result _ _ (λ fault told. one_own UnknownName fault cause told h.2)

@@ -20,7 +20,7 @@ returns-in_err-opened-clause-names g c = λ cause some applies.
 pub returns-clause-set : goal.returns-clause-set
 returns-clause-set g c = IfOk-weaker c.set_left.result _ _
     (λ given. is_set c.args.image.now c.args.settings.now c.args.name.now given.image.items
-    given.text.items c.args.value c.in_ok-opened.opened.store c.in_ok-opened.opened.schema
+    given.text.items c.args.value c.in_ok-opened.opened.store c.in_ok-opened.opened.schema.settings
     c.in_ok-opened.ensures.opened c.in_ok-opened.ensures.spelled)
     c.set_left.ensures.set
 
@@ -29,7 +29,7 @@ returns-clause-fault g c = IfErr-weaker c.set_left.result _ _
     (λ fault refused. inr
     (inr
     (is_refused_in c.args.image.now c.args.settings.now c.args.name.now c.args.value
-    c.in_ok-opened.opened.store c.in_ok-opened.opened.schema fault
+    c.in_ok-opened.opened.store c.in_ok-opened.opened.schema.settings fault
     c.in_ok-opened.ensures.opened c.in_ok-opened.ensures.spelled refused)))
     c.set_left.ensures.fault
 
@@ -39,11 +39,11 @@ returns-clause-names g c = λ cause some applies.
     (λ h. MatchResult-from_both c.set_left.result _ _
     (IfOk-weaker c.set_left.result _ _
     (λ given done. set_good c.args.image.now c.args.settings.now c.args.name.now c.args.value
-    c.in_ok-opened.opened.store done.last c.in_ok-opened.opened.schema cause
+    c.in_ok-opened.opened.store done.last c.in_ok-opened.opened.schema.settings cause
     c.in_ok-opened.ensures.opened c.in_ok-opened.ensures.spelled done.written some h)
     c.set_left.ensures.set)
     (IfErr-weaker c.set_left.result _ _
     (λ fault refused. refused_once c.args.image.now c.args.settings.now c.args.name.now c.args.value
-    c.in_ok-opened.opened.store c.in_ok-opened.opened.schema fault cause
+    c.in_ok-opened.opened.store c.in_ok-opened.opened.schema.settings fault cause
     c.in_ok-opened.ensures.opened c.in_ok-opened.ensures.spelled refused some h)
     c.set_left.ensures.fault))

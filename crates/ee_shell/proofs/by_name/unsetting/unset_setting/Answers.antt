@@ -20,7 +20,7 @@ returns-in_err-opened-clause-names g c = λ cause some applies.
 pub returns-clause-unset : goal.returns-clause-unset
 returns-clause-unset g c = IfOk-weaker c.unset_left.result _ _
     (λ given. is_unset c.args.image.now c.args.settings.now c.args.name.now given.image.items
-    given.text.items c.in_ok-opened.opened.store c.in_ok-opened.opened.schema
+    given.text.items c.in_ok-opened.opened.store c.in_ok-opened.opened.schema.settings
     c.in_ok-opened.ensures.opened c.in_ok-opened.ensures.spelled)
     c.unset_left.ensures.unset
 
@@ -29,7 +29,7 @@ returns-clause-fault g c = IfErr-weaker c.unset_left.result _ _
     (λ fault refused. inr
     (inr
     (is_unsetting_refused_in c.args.image.now c.args.settings.now c.args.name.now
-    c.in_ok-opened.opened.store c.in_ok-opened.opened.schema fault
+    c.in_ok-opened.opened.store c.in_ok-opened.opened.schema.settings fault
     c.in_ok-opened.ensures.opened c.in_ok-opened.ensures.spelled refused)))
     c.unset_left.ensures.fault
 
@@ -39,11 +39,11 @@ returns-clause-names g c = λ cause some applies.
     (λ h. MatchResult-from_both c.unset_left.result _ _
     (IfOk-weaker c.unset_left.result _ _
     (λ given done. unset_good c.args.image.now c.args.settings.now c.args.name.now
-    c.in_ok-opened.opened.store done.last c.in_ok-opened.opened.schema cause
+    c.in_ok-opened.opened.store done.last c.in_ok-opened.opened.schema.settings cause
     c.in_ok-opened.ensures.opened c.in_ok-opened.ensures.spelled done.forgotten some h)
     c.unset_left.ensures.unset)
     (IfErr-weaker c.unset_left.result _ _
     (λ fault refused. unsetting_refused_once c.args.image.now c.args.settings.now c.args.name.now
-    c.in_ok-opened.opened.store c.in_ok-opened.opened.schema fault cause
+    c.in_ok-opened.opened.store c.in_ok-opened.opened.schema.settings fault cause
     c.in_ok-opened.ensures.opened c.in_ok-opened.ensures.spelled refused some h)
     c.unset_left.ensures.fault))

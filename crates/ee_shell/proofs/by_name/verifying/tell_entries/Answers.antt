@@ -43,7 +43,7 @@ returns-in_err-same-clause-fault g c =
     omega arith in
     let p =
     err_from_is_err_and c.from_residual.result c.from_residual.ensures.1 in rw (p.1, p.2)
-    (entry_fault c.args.schema.now c.args.store.now _ (map seen (map deref_pair c.loop-name.yielded))
+    (entry_fault c.args.schema.now.settings c.args.store.now _ (map seen (map deref_pair c.loop-name.yielded))
     (map seen c.next.new.self) c.as_str.result.now (string_bytes c.in-Some.name.now)
     (view c.in-Some.value.now) (c.loop-name.number + 1) c.loop-name.all_stored
     c.loop-name.text.items c.in_err-same.field-0.0
@@ -62,7 +62,7 @@ loop-name-preserved-then-all_stored g c =
     record {
       number = number;
       told =
-          entry_compared c.args.schema.now c.args.store.now
+          entry_compared c.args.schema.now.settings c.args.store.now
           (map seen (map deref_pair c.loop-name.yielded)) _ c.as_str.result.now
           (string_bytes c.in-Some.name.now) (view c.in-Some.value.now) c.loop-name.all_stored
           c.in_ok-same.same c.in_ok-same.same c.loop-name.text.items
@@ -83,7 +83,7 @@ loop-name-preserved g c =
     record {
       number = number;
       told =
-          entry_compared c.args.schema.now c.args.store.now
+          entry_compared c.args.schema.now.settings c.args.store.now
           (map seen (map deref_pair c.loop-name.yielded)) _ c.as_str.result.now
           (string_bytes c.in-Some.name.now) (view c.in-Some.value.now) c.loop-name.all_stored
           c.in_ok-same.same c.loop-name.all_stored c.loop-name.text.items
@@ -101,6 +101,6 @@ returns-clause-told g c =
     c.into_iter-name-iterator.result c.loop-name.name-iterator c.next.new.self c.next.result
     start c.loop-name.yielded_by c.in-None.is c.next.ensures.steps in
     subst
-    (λ entries. AreCompared c.args.schema.now c.args.store.now entries c.loop-name.all_stored
+    (λ entries. AreCompared c.args.schema.now.settings c.args.store.now entries c.loop-name.all_stored
     c.loop-name.text.items) (ap (map seen) e.0 ∙ sym (entries_seen c.args.table.now.entries))
     c.loop-name.invariant.told

@@ -8,6 +8,6 @@ use Rattle.ee_shell.proofs.by_name.verifying.tell_entries.Given as goal
 abbrev pub invariant-loop-name : goal.invariant-loop-name
 invariant-loop-name g l = record {
   number : l.number ≡ length l.yielded;
-  told : AreCompared l.schema l.store (map seen (map deref_pair l.yielded)) l.all_stored
+  told : AreCompared l.schema.settings l.store (map seen (map deref_pair l.yielded)) l.all_stored
       l.text.items;
 }

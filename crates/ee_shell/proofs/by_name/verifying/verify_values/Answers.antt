@@ -20,7 +20,7 @@ returns-in_err-opened-clause-names g c = λ cause some applies.
 pub returns-in_err-table-clause-fault : goal.returns-in_err-table-clause-fault
 returns-in_err-table-clause-fault g c = passed_on _ _ _ c.from_residual-in_err-table.ensures.1
     (unread_fault c.args.image.now c.args.settings.now c.args.values.now c.in_ok-opened.opened.store
-    c.in_ok-opened.opened.schema _ c.in_ok-opened.ensures.opened c.in_ok-opened.ensures.spelled
+    c.in_ok-opened.opened.schema.settings _ c.in_ok-opened.ensures.opened c.in_ok-opened.ensures.spelled
     c.in_err-table.ensures.fault)
 
 pub returns-in_err-table-clause-names : goal.returns-in_err-table-clause-names
@@ -35,7 +35,7 @@ returns-clause-verified g c = IfOk-weaker c.verify_on.result _ _
     (λ given told. record {
       store = c.in_ok-opened.opened.store;
       opened = c.in_ok-opened.ensures.opened;
-      settings = c.in_ok-opened.opened.schema;
+      settings = c.in_ok-opened.opened.schema.settings;
       spelled = c.in_ok-opened.ensures.spelled;
       tree = table_view c.in_ok-table.table;
       has_tree = c.in_ok-table.ensures.read;
@@ -48,7 +48,7 @@ returns-clause-verified g c = IfOk-weaker c.verify_on.result _ _
 pub returns-clause-fault : goal.returns-clause-fault
 returns-clause-fault g c = IfErr-weaker c.verify_on.result _ _
     (λ fault. first_fault c.args.image.now c.args.settings.now c.args.values.now
-    c.in_ok-opened.opened.store c.in_ok-opened.opened.schema
+    c.in_ok-opened.opened.store c.in_ok-opened.opened.schema.settings
     (table_view c.in_ok-table.table) fault c.in_ok-opened.ensures.opened
     c.in_ok-opened.ensures.spelled c.in_ok-table.ensures.read)
     c.verify_on.ensures.fault
@@ -60,11 +60,11 @@ returns-clause-names g c = λ cause some applies.
     (λ own. MatchResult-from_both c.verify_on.result _ _
     (IfOk-weaker c.verify_on.result _ _
     (λ given told. verify_good c.args.image.now c.args.settings.now c.args.values.now
-    c.in_ok-opened.opened.store c.in_ok-opened.opened.schema tree given.all_stored told.0 cause
+    c.in_ok-opened.opened.store c.in_ok-opened.opened.schema.settings tree given.all_stored told.0 cause
     c.in_ok-opened.ensures.spelled c.in_ok-table.ensures.read told.1 own)
     c.verify_on.ensures.verified)
     (IfErr-weaker c.verify_on.result _ _
     (λ fault stopped. verify_stopped c.args.image.now c.args.settings.now c.args.values.now
-    c.in_ok-opened.opened.store c.in_ok-opened.opened.schema tree fault cause
+    c.in_ok-opened.opened.store c.in_ok-opened.opened.schema.settings tree fault cause
     c.in_ok-opened.ensures.spelled c.in_ok-table.ensures.read stopped own)
     c.verify_on.ensures.fault))
