@@ -59,6 +59,11 @@ inspect image
 wear image
 wear image other
 states image
+--json plan image script
+--json size W script CYCLES RUNS
+--json wear image other
+--json states image
+--json clean image
 clean image
 rescue image
 forget-all image

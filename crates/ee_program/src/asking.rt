@@ -1,7 +1,9 @@
 //! What is asked of the program by its words, and what is said where it is refused.
+use crate::documents::work_document;
 use crate::explain::{
-    help_asked, path_of, push_dump_length, push_entry, push_help, push_line_cause, push_remedy,
-    push_unknown_name, push_words_cause, why_bad_line,
+    fault_told, help_asked, line_asked, path_of, push_dump_length, push_entry, push_help,
+    push_line_cause, push_meaning, push_no_line, push_remedy, push_unknown_name, push_words,
+    push_words_cause, why_bad_line,
 };
 use crate::files::FileLocks;
 use crate::running::{bad_command_line, eprint_bytes, out_of_memory, print, read_file, tell, work};
@@ -17,8 +19,20 @@ const EXPLAIN: &str = "--explain";
 /// The word in front of a command that asks to write no file.
 const DRY_RUN: &str = "--dry-run";
 
+/// The word in front of a command that asks for its text as a document.
+const JSON: &str = "--json";
+
 /// What somebody reads at a terminal who gives a script there.
 const WAITS: &[u8] = b"ee: reads a script, a command a line, as w 1 10; Ctrl-D ends it\n";
+
+/// What the line of a bad command line means.
+const BAD_WORDS: &[u8] = b"status 2
+cause: the words are no row of the commands
+to do: ask which word is wrong: ee --explain COMMAND ..
+";
+
+/// What is said of a command that has no document.
+const NO_DOCUMENT: &[u8] = b"  only states, wear, size and plan have --json\n";
 
 /// Which standard streams are a terminal.
 #[derive(Clone, Copy, Debug)]
@@ -32,6 +46,7 @@ pub struct Terminals {
 struct Options {
     explains: bool,
     is_dry: bool,
+    is_json: bool,
     is_typed: bool,
 }
 
@@ -50,7 +65,8 @@ pub fn run<R: FileLocks + Input + Print + Eprint + AllocGlobal>(rt: &R, words: &
 
 /// The same. Behind the line of a refusal stands what explains it, where somebody reads it at a
 /// terminal or asks for it by a word `--explain` in front of the command. Where `--dry-run` stands
-/// there no file is written. Who is to type a script at a terminal is told that.
+/// there no file is written; where `--json` does, the command's text is a document. Who is to type
+/// a script at a terminal is told that.
 pub fn run_for<R: FileLocks + Input + Print + Eprint + AllocGlobal>(
     rt: &R,
     words: &[String],
@@ -64,10 +80,12 @@ pub fn run_for<R: FileLocks + Input + Print + Eprint + AllocGlobal>(
     }
     let (explains_first, words) = split_option(EXPLAIN, texts.as_slice());
     let (is_dry, words) = split_option(DRY_RUN, words);
+    let (is_json, words) = split_option(JSON, words);
     let (explains, words) = split_option(EXPLAIN, words);
     let options = Options {
         explains: terminals.error || explains_first || explains,
         is_dry,
+        is_json,
         is_typed: terminals.input && terminals.error,
     };
     do_words(rt, words, options)
@@ -88,13 +106,43 @@ fn do_words<R: FileLocks + Input + Print + Eprint + AllocGlobal>(
     words: &[&str],
     options: Options,
 ) -> u8 {
+    if options.is_json {
+        return do_document(rt, words, options.explains);
+    }
     if let Some(name) = help_asked(words) {
         return tell_help(rt, name);
+    }
+    if let Some(line) = line_asked(words) {
+        return tell_meaning(rt, line, options.explains);
     }
     match job(words) {
         None => refuse_words(rt, words, options.explains),
         Some(job) => do_job(rt, &job, options),
     }
+}
+
+/// Prints the document of the job that the words ask for, or says that they ask for none.
+fn do_document<R: Files + Print + Eprint + AllocGlobal>(
+    rt: &R,
+    words: &[&str],
+    explains: bool,
+) -> u8 {
+    let Some(job) = job(words) else {
+        return refuse_words(rt, words, explains);
+    };
+    match work_document(rt, &job) {
+        None => refuse_document(rt, explains),
+        Some(done) => end_job(rt, &job, done, explains),
+    }
+}
+
+/// Says that a job has no document, and why, if that is to be explained. Gives the status.
+fn refuse_document<R: Eprint>(rt: &R, explains: bool) -> u8 {
+    let status = bad_command_line(rt);
+    if explains {
+        eprint_bytes(rt, NO_DOCUMENT);
+    }
+    status
 }
 
 /// Whether a job reads a script of standard input.
@@ -105,7 +153,7 @@ fn is_try(job: &Job<'_>) -> bool {
     }
 }
 
-/// Does a job, and explains a fault, if that is wanted. Gives the status.
+/// Does a job, and gives the status.
 fn do_job<R: FileLocks + Input + Print + Eprint + AllocGlobal>(
     rt: &R,
     job: &Job<'_>,
@@ -114,11 +162,22 @@ fn do_job<R: FileLocks + Input + Print + Eprint + AllocGlobal>(
     if options.is_typed && is_try(job) {
         eprint_bytes(rt, WAITS);
     }
-    match work(rt, options.is_dry, job) {
+    let done = work(rt, options.is_dry, job);
+    end_job(rt, job, done, options.explains)
+}
+
+/// Tells the fault that ended a job, and explains it, if that is wanted. Gives the status.
+fn end_job<R: Files + Eprint + AllocGlobal>(
+    rt: &R,
+    job: &Job<'_>,
+    done: Result<(), Fault>,
+    explains: bool,
+) -> u8 {
+    match done {
         Ok(()) => 0,
         Err(fault) => {
             let status = tell(rt, &fault);
-            if options.explains {
+            if explains {
                 explain(rt, job, &fault);
             }
             status
@@ -142,10 +201,47 @@ fn tell_help<R: Print + Eprint + AllocGlobal>(rt: &R, name: &str) -> u8 {
     if push_help(&mut text, name).is_err() {
         return out_of_memory(rt);
     }
-    match print(rt, &text) {
+    print_or_tell(rt, &text)
+}
+
+/// Prints what the fault line of these words means, and gives the status.
+fn tell_meaning<R: Print + Eprint + AllocGlobal>(rt: &R, words: &[&str], explains: bool) -> u8 {
+    let mut line = Vec::new(rt.alloc());
+    if push_words(&mut line, words).is_err() {
+        return out_of_memory(rt);
+    }
+    if line.as_slice() == b"ee: bad command line".as_slice() {
+        return print_or_tell(rt, BAD_WORDS);
+    }
+    let Ok(told) = fault_told(rt.alloc(), &line) else {
+        return out_of_memory(rt);
+    };
+    let Some(fault) = told else {
+        return refuse_line(rt, &line, explains);
+    };
+    let mut text = Vec::new(rt.alloc());
+    if push_meaning(&mut text, &fault).is_err() {
+        return out_of_memory(rt);
+    }
+    print_or_tell(rt, &text)
+}
+
+/// Prints a text, and gives the status.
+fn print_or_tell<R: Print + Eprint + AllocGlobal>(rt: &R, text: &[u8]) -> u8 {
+    match print(rt, text) {
         Ok(()) => 0,
         Err(fault) => tell(rt, &fault),
     }
+}
+
+/// Says that no fault has a line, and why, if that is to be explained. Gives the status.
+fn refuse_line<R: Eprint + AllocGlobal>(rt: &R, line: &[u8], explains: bool) -> u8 {
+    let mut text = Vec::new(rt.alloc());
+    let status = bad_command_line(rt);
+    if explains && push_no_line(&mut text, line).is_ok() {
+        eprint_bytes(rt, &text);
+    }
+    status
 }
 
 /// Says what is wrong in a job's files, and what to do. Where memory is refused nothing is said.

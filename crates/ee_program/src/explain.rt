@@ -6,12 +6,15 @@
 
 mod causes;
 mod lines;
+mod meanings;
 mod paths;
 mod remedies;
+mod telling;
 
 pub use causes::{LineCause, why_bad_line};
 pub use lines::{
-    help_asked, push_dump_length, push_entry, push_help, push_line_cause, push_remedy,
-    push_unknown_name, push_words_cause,
+    help_asked, push_dump_length, push_entry, push_help, push_line_cause, push_meaning,
+    push_no_line, push_remedy, push_unknown_name, push_words, push_words_cause,
 };
 pub use paths::path_of;
+pub use telling::{fault_told, line_asked};

@@ -23,6 +23,7 @@
 #![tactic(auto)]
 
 mod asking;
+mod documents;
 pub mod explain;
 pub mod files;
 mod running;

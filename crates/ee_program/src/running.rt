@@ -594,7 +594,7 @@ fn write_dump<R: FileLocks + Print + AllocGlobal>(
 }
 
 /// Prints the text that a command made.
-fn print_text<R: Print>(rt: &R, text: Result<Vec<u8>, Fault>) -> Result<(), Fault> {
+pub(crate) fn print_text<R: Print>(rt: &R, text: Result<Vec<u8>, Fault>) -> Result<(), Fault> {
     print(rt, &text?)
 }
 

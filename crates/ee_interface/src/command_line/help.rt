@@ -44,6 +44,7 @@ ee: flash EEPROM emulation over images as text, proved
   ee clean IMAGE                           erases the pages that wait for it
   ee rescue IMAGE                          makes any image legal, without its bad words
   ee forget-all [--force] IMAGE            forgets all addresses; with values, only by --force
+  ee explain LINE                          tells what the line of a fault means, and what to do
   ee --help, ee -h, ee help                tells this
   ee --version                             tells the version, and the toolchain that it is proved with
 
@@ -51,7 +52,8 @@ P: pages of a set, 1 to 64. W: words of a page, 5 to 512. VALUE: 0 to 4294967295
 CYCLES: erases that a page bears, RUNS: how often the script is made; 1 to 4294967295.
 BASE: where the part's first byte is, eight hexadecimal digits, a multiple of 8.
 A script has a command a line: w A V, r A, f A, c, x N T, p.
-In front of a command --dry-run writes no file, and --explain says more of a refusal.
+In front of a command --dry-run writes no file, and --explain says more of a refusal;
+in front of states, wear, size and plan --json tells a document in JSON.
 ee help COMMAND, or ee COMMAND --help, tells its rows here, with an example.
 
 Status: 0 done, 2 bad command line, 3 bad file, 4 refused, 5 out of memory.

@@ -1,5 +1,6 @@
 //! The lines that explain a refusal, and the help of a command.
 use crate::explain::causes::LineCause;
+use crate::explain::meanings::cause_of;
 use crate::explain::paths::path_of;
 use crate::explain::remedies::remedy_of;
 use arrayvec::ArrayVec;
@@ -7,7 +8,7 @@ use ee_interface::command_line::{
     Form, HELP, Job, Operand, WordFault, WordsCause, least_number, most_number, why_no_job,
     why_no_line,
 };
-use ee_interface::{Fault, File};
+use ee_interface::{Fault, File, status_of};
 use ee_text::{Fields, push_number, push_number_behind};
 use std::alloc::{AllocError, Allocator};
 use toml::Table;
@@ -23,11 +24,14 @@ const MOST_FIELDS: usize = 4;
 /// Source: ours.
 pub fn help_asked<'a>(words: &[&'a str]) -> Option<&'a str> {
     match *words {
-        ["help", name] | [name, "--help"] if why_no_job(&[name]) != WordsCause::NoCommand => {
-            Some(name)
-        }
+        ["help", name] | [name, "--help"] if is_command(name) => Some(name),
         _ => None,
     }
+}
+
+/// Whether a command that takes words has this name.
+fn is_command(name: &str) -> bool {
+    name == "explain" || why_no_job(&[name]) != WordsCause::NoCommand
 }
 
 /// Writes the rows of the help that a command has, and an example. After an error there may be a
@@ -92,6 +96,7 @@ fn example_of_others(name: &str) -> &'static str {
         "rescue" => "rescue device.image",
         "forget-all" => "forget-all --force device.image",
         "import-xcube" => "import-xcube 1 256 part.bin device.image",
+        "explain" => "explain ee: image unformatted",
         _ => "--help",
     }
 }
@@ -238,6 +243,45 @@ pub fn push_remedy<A: Allocator>(
         push_filled(out, job, fault, word)?;
     }
     out.extend_from_slice(b"\n")
+}
+
+/// Writes what a fault line means: the status behind it, what is wrong, and what to do. After an
+/// error there may be a part of it.
+///
+/// Source: ours.
+pub fn push_meaning<A: Allocator>(out: &mut Vec<u8, A>, fault: &Fault) -> Result<(), AllocError> {
+    push_number_behind(out, b"status ", u64::from(status_of(fault)))?;
+    push_line(out, "", "")?;
+    push_line(out, "cause: ", cause_of(fault))?;
+    push_line(out, "to do: ", remedy_of(fault))
+}
+
+/// Writes that no fault has a line. After an error there may be a part of it.
+///
+/// Source: ours.
+pub fn push_no_line<A: Allocator>(out: &mut Vec<u8, A>, line: &[u8]) -> Result<(), AllocError> {
+    out.extend_from_slice(b"  no fault has the line \"")?;
+    push_shown_front(out, line)?;
+    push_line(
+        out,
+        "\"\n  wanted: a line as ee printed it, such as ",
+        "ee: spent",
+    )
+}
+
+/// Writes words with a space between each two. After an error there may be a part of them.
+///
+/// Source: ours.
+pub fn push_words<A: Allocator>(out: &mut Vec<u8, A>, words: &[&str]) -> Result<(), AllocError> {
+    let mut is_first = true;
+    for word in words {
+        if !is_first {
+            out.extend_from_slice(b" ")?;
+        }
+        is_first = false;
+        out.extend_from_slice(word.as_bytes())?;
+    }
+    Ok(())
 }
 
 /// Writes a word of a remedy, or what it stands for.

@@ -6,6 +6,7 @@ use clap::error::ErrorKind;
 use clap::{Arg, ArgAction, ArgMatches, Command};
 use ee_flash::Shape;
 use ee_interface::command_line::{Form, HELP};
+use ee_program::explain::line_asked;
 use ee_shell::{Job, job};
 use std::alloc::Global;
 use std::process::Abort;
@@ -37,7 +38,8 @@ wear IMAGE [BEFORE]
 states IMAGE
 clean IMAGE
 rescue IMAGE
-forget-all --force IMAGE";
+forget-all --force IMAGE
+explain LINE";
 
 /// A line of each row of the help, and where words may be left out one with them and one without.
 const LINES: &str = "\
@@ -81,6 +83,7 @@ ee clean a.image
 ee rescue a.image
 ee forget-all a.image
 ee forget-all --force a.image
+ee explain ee:spent
 ee --help
 ee -h
 ee help
@@ -363,9 +366,13 @@ fn told_of_itself(job: &Job<'_>) -> Option<ErrorKind> {
     }
 }
 
-// Looks whether `clap` finds in the words of a line what `job` gives.
+// Looks whether `clap` finds in the words of a line what `job` gives, or the line that is asked of.
 fn compare(rt: &impl Abort, memory: Global, line: &str, words: &[&'static str]) {
-    let Some(job) = job(words.get(1..).unwrap_or(&[])) else {
+    let behind = words.get(1..).unwrap_or(&[]);
+    if let Some(asked) = line_asked(behind) {
+        return compare_asked(rt, memory, words, asked.first().copied());
+    }
+    let Some(job) = job(behind) else {
         panic!(rt; "no job");
     };
     match table(rt, memory).try_get_matches_from(words) {
@@ -374,6 +381,22 @@ fn compare(rt: &impl Abort, memory: Global, line: &str, words: &[&'static str]) 
             same(rt, line, told(&job, found), (name, true));
         }
         Err(error) => same(rt, line, Some(error.kind()), told_of_itself(&job)),
+    }
+}
+
+// Looks whether `clap` finds the line that is asked of.
+fn compare_asked(rt: &impl Abort, memory: Global, words: &[&'static str], asked: Option<&str>) {
+    match table(rt, memory).try_get_matches_from(words) {
+        Ok(found) => {
+            let (name, found) = found.subcommand().expect(rt, "no command");
+            same(
+                rt,
+                "asked",
+                (name, has(&found, "LINE", asked)),
+                ("explain", true),
+            );
+        }
+        Err(_) => panic!(rt; "no match"),
     }
 }
 

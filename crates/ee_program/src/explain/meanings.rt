@@ -1,0 +1,79 @@
+//! What a fault line means, in a line; docs/FAULTS.md has the exact cause.
+use ee_interface::{Fault, File};
+
+/// What is wrong at a fault.
+pub(crate) fn cause_of(fault: &Fault) -> &'static str {
+    match fault {
+        Fault::CannotRead(_) => "opening or reading the file failed",
+        Fault::TooLong(File::Image | File::Before) => "an image has more than 4194304 bytes",
+        Fault::TooLong(_) => "the file has more than 16777216 bytes",
+        Fault::CannotWriteImage => "opening or writing the image failed",
+        Fault::ImageChanged => "the image is not the text that was read, or another run writes it",
+        Fault::CannotWriteDump => "opening or writing the dump failed",
+        Fault::CannotWriteOutput => "standard output is closed, or its disk is full",
+        Fault::OutputIsWritten => "standard output goes to the image or the dump",
+        Fault::BadLine { .. } => "that line, counted from 1, is the first bad one",
+        Fault::BadShape(_) => "the first line is no size of an image",
+        Fault::Unformatted => "every word is erased, as on a new part",
+        Fault::NoLiveSet => "no set is live: it is no store's, or a word that commits one went bad",
+        Fault::TwoLive => "both sets are live, with one generation",
+        Fault::Foreign { .. } => "that word, by page and place, may not stand in the live set",
+        Fault::HoldsValues => "an address has a value",
+        Fault::NothingToRescue => "no set was begun",
+        _ => cause_of_work(fault),
+    }
+}
+
+/// The same of a fault of dumps, plans, certificates and wear.
+fn cause_of_work(fault: &Fault) -> &'static str {
+    match fault {
+        Fault::NotFitting(_) => "that change is the first with more live addresses than slots",
+        Fault::WrongStart => "the certificate is of another image or another script",
+        Fault::NotRising(_) =>
+            "that stretch ends no later than the one before, or behind the trace",
+        Fault::WrongFrom(_) => "that stretch begins with another number of used slots",
+        Fault::NotForced(_) => "that stretch has no more changes than slots are free",
+        Fault::OtherShape => "the images have not as many pages",
+        Fault::Backwards(_) => "that page was erased less often than before",
+        Fault::NoSizeEnough => "no number of pages bears so many runs",
+        Fault::DumpLength => "the dump has not as many bytes as a part of these P and W",
+        Fault::DumpOfWords => "a mark says that the dump is one of words",
+        Fault::DumpOfPairs => "a mark says that the dump is one of pairs",
+        Fault::DumpOfCoded { .. } =>
+            "a mark says that the dump is one of coded words of these P and W",
+        Fault::LowPair { .. } =>
+            "no store wrote the pair at that page and place, and no cut left it",
+        Fault::Misplaced { .. } => "another shape wrote the word at that page and place",
+        Fault::TornWord { .. } => "the word at that page and place is torn: no bytes say that",
+        Fault::Uncoded { .. } => "no store writes the number at that page and place",
+        Fault::DumpUnused => "no page of the dump is one that X-CUBE-EEPROM uses",
+        Fault::DumpNoCrc => "words are written, but none is an element with its CRC",
+        Fault::DumpFull => "more addresses have a value than a store of these P and W has slots",
+        Fault::Base => "the part would go past the address ffffffff",
+        Fault::Memory => "there was not enough memory",
+        _ => cause_of_settings(fault),
+    }
+}
+
+/// The same of a fault of settings, values and changes.
+fn cause_of_settings(fault: &Fault) -> &'static str {
+    match fault {
+        Fault::SettingsText => "the settings are no TOML",
+        Fault::ValuesText => "the values are no TOML",
+        Fault::BadName(_) => "that entry, counted from 1 by rising name, has a name none may have",
+        Fault::BadField(_) => "that entry is no table of just the fields of a setting",
+        Fault::BadRange(_) =>
+            "the numbers of that entry are out of range, or default of min to max",
+        Fault::SameAddress(_) => "that entry has the address of an earlier one",
+        Fault::UnknownName => "no setting has the name",
+        Fault::UnknownValue(_) => "no setting has the name of that entry",
+        Fault::BadValue(_) => "what that entry has is no whole number",
+        Fault::OutOfRange { .. } => "the value is not in the setting's range",
+        Fault::ValueOutOfRange { .. } => "the value of that entry is not in the setting's range",
+        Fault::Full | Fault::FullAt(_) => "as many addresses have a value as there are slots",
+        Fault::Spent | Fault::SpentAt(_) => "no slot is free, and no generation is left for a move",
+        Fault::Absent => "the setting has no value to be forgotten",
+        Fault::ValuesDiffer => "a setting has not the value that the values file says",
+        _ => "docs/FAULTS.md has it",
+    }
+}
