@@ -4734,7 +4734,9 @@ static bool is_low(uint64_t number, uint64_t check) {
     return check < UINT64_MAX - number;
 }
 
-/* ---- coded/code.rs: A payload as a coded word, and back. */
+/* ---- coded/code.rs: The check of a payload, which is one number of 49 bits: a value of 32,
+ * below it a kind of one bit, below it an address of 16. In a coded word the check of 15 bits
+ * stands between the value and the kind, so all three can be read where they stand. */
 
 /* The low half of the word of a value and the 17 bits below it, which stand as they are in it. */
 static uint32_t low_half(uint32_t low, uint32_t value) {

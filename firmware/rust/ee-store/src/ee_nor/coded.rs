@@ -10,11 +10,12 @@
 //! every one of the word asked for, and with one bit turned, whichever it is and whatever the error
 //! correction did, it is that word or no coded word.
 //!
-//! `encode` makes a word, `decode` reads one (`specs/Coded/Code.antt`). `Coded` is a device of
-//! words (`ee_flash`) on such a flash, one number a word. The check is the bits 31 to 17, so a run
-//! gives the numbers as they read, in which a look finds an address, and `number` decodes the one
-//! that is found. `EccNor` is the flash as a contract (`specs/Coded/EccNor.antt`): cells, and
-//! beside each number what it reads as. `specs/Coded/Coded.antt` says which word a reading is.
+//! `coded_number` makes a word, `word_of_reading` reads one, by the code of `specs/Coded/Code.antt`.
+//! `Coded` is a device of words (`ee_flash`) on such a flash, one number a word. The check is the
+//! bits 31 to 17, so a run gives the numbers as they read, in which a look finds an address, and
+//! `number` decodes the one that is found. `EccNor` is the flash as a contract
+//! (`specs/Coded/EccNor.antt`): cells, and beside each number what it reads as.
+//! `specs/Coded/Coded.antt` says which word a reading is.
 //!
 //! The mark has the shape of the device, and that of another is torn. So a flash that was written
 //! in another shape has no committed set, and `Coded::of` names that shape where the first page of
@@ -27,13 +28,13 @@
 //!
 //! # What is proved
 //!
-//! `encode` gives the word by its definition, and none is near another (`none_is_near_another`).
-//! `decode` is its inverse (`reads_as_written`), and reads nothing else. What a cut left of a
-//! program, read with one bit turned at most, reads as the number asked for or as none
-//! (`torn_is_told`); so it does after a cut erase on top (`erase_makes_no_number`). An erased word
-//! reads as none, with one bit turned too (`erased_is_none`). On a device of one shape the mark of
-//! another is torn (`other_mark_is_torn` in `laws`), and a slot's value, kind and address stand in
-//! its word as they are (`slots_stand_in_clear`), by which readings show what `Flash` asks of them.
+//! `coded_number` gives the word by its definition, and none is near another
+//! (`none_is_near_another`). `word_of_reading` is its inverse, and reads no number of another. What
+//! a cut left of a program, read with one bit turned at most, is held as the number of that word or
+//! as none; so it is after a cut erase on top, and an erased word is held as none (`told`, a record
+//! of these four). On a device of one shape the mark of another is torn (`other_mark_is_torn` in
+//! `laws`), and a slot's value, kind and address stand in its word as they are
+//! (`slots_stand_in_clear`), by which readings show what `Flash` asks of them.
 //!
 //! `Coded` keeps the contract of `ee_flash::Flash`, to the letter, for numbers that a store writes.
 //! A word is held only where it is the coded word of its number. Where power may be cut `Coded`
@@ -49,7 +50,6 @@ mod shapes;
 mod wiping;
 mod words;
 
-pub use code::{decode, encode};
 pub use coded::Coded;
 pub use ecc_nor::EccNor;
 pub use shapes::{OtherShape, shape_of_mark};

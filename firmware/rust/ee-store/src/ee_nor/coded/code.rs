@@ -1,6 +1,8 @@
 // Made by strip from crates/ee_nor/src/coded/code.rt. Change that file.
 // SPDX-License-Identifier: MIT OR Apache-2.0
-//! A payload as a coded word, and back.
+//! The check of a payload, which is one number of 49 bits: a value of 32, below it a kind of one bit,
+//! below it an address of 16. In a coded word the check of 15 bits stands between the value and the
+//! kind, so all three can be read where they stand.
 
 /// Eight bits for each number of ones: the row of half of it, rounded up, and its lowest bit. A row
 /// has a one that the next lacks, and two that each later one lacks.
@@ -10,28 +12,6 @@ const WEIGHTS: [u8; 57] = [
     0x94, 0x93, 0x92, 0x1b, 0x1a, 0x59, 0x58, 0x69, 0x68, 0x65, 0x64, 0x27, 0x26, 0x07, 0x06, 0x43,
     0x42, 0xc1, 0xc0, 0xa1, 0xa0, 0x31, 0x30, 0x11, 0x10,
 ];
-
-/// The coded word of a payload, which is one number of 49 bits: a value of 32, below it a kind of
-/// one bit, below it an address of 16. The check of 15 bits stands between the value and the kind,
-/// so all three can be read where they stand.
-pub fn encode(payload: u64) -> u64 {
-    let value = (payload >> 17) as u32;
-    let low = (payload & 0x1_ffff) as u32;
-    u64::from(value) * 0x1_0000_0000 + u64::from(low_half(low, value))
-}
-
-/// The payload of a word. `None` of a word that isn't coded: it is torn or erased, or no store
-/// wrote it.
-pub fn decode(word: u64) -> Option<u64> {
-    let value = (word >> 32) as u32;
-    let low = (word & 0xffff_ffff) as u32;
-    let rest = low & 0x1_ffff;
-    if low_half(rest, value) == low {
-        Some(u64::from(value) * 0x2_0000 + u64::from(rest))
-    } else {
-        None
-    }
-}
 
 /// The low half of the word of a value and the 17 bits below it, which stand as they are in it.
 pub(crate) fn low_half(low: u32, value: u32) -> u32 {
