@@ -1,12 +1,12 @@
 -- The addresses of settings: which of them are taken, and by a look-up.
-use Rattle.std.proofs.Common.{◌≡◌, ◌∙◌, ◌<◌, ◌≤◌, ◌+◌, ◌-◌, ◌*◌, ◌/◌, ℕ, Bool, cond, true, false, List, [], ◌∷◌, ◌++◌, length, inl, inr, refl, sym, ap, arith, suc, nat_cmp, rules}
+use Rattle.std.proofs.Common.{◌≡◌, ◌∙◌, ◌<◌, ◌≤◌, ◌+◌, ◌-◌, ◌*◌, ◌/◌, ℕ, Bool, cond, true, false, [], ◌∷◌, inl, inr, sym, ap, arith, nat_cmp, rules}
 use Rattle.std.specs.Prelude.{◌==◌, ◌||◌, ◌&&◌, nat_le, nat_lt}
 use Rattle.std.proofs.lemmas.Bool.{cases_lt}
 use Rattle.std.proofs.lemmas.Grind.{common_steps}
 use Rattle.std.proofs.lemmas.List.Folds.{list_any-append}
 use Rattle.std.specs.BTreeMap.{is_at}
 use Rattle.std.specs.BTreeSet.{BTreeSet, contains}
-use Rattle.ee_settings.specs.Setting.{Kept, Number, RecordForm, RecordSetting, Schema, Setting, has_address, has_record_at, is_named, is_of, last_of, with_item}
+use Rattle.ee_settings.specs.Setting.{Kept, Number, RecordForm, RecordSetting, Schema, Setting, has_address, has_record_at, is_named, is_of, last_address_of, with_item}
 use Rattle.ee_settings.specs.declared.numbers.Numbers.{Numbers}
 
 swapped : (a b c : Bool) → (a || (b || c)) ≡ (b || (c || (a || false)))
@@ -29,7 +29,7 @@ one_taken schema setting numbers before after is updates so_far a = let one = up
 -- and of one record more
 pub span_taken : (schema : Schema) (one : RecordSetting) (before after : BTreeSet ℕ)
     (first last : ℕ)
-    → first ≡ one.form.base → last ≡ last_of one.form
+    → first ≡ one.form.base → last ≡ last_address_of one.form
     → ((a : ℕ)
     → contains nat_cmp after a
     ≡ ((nat_le first a && nat_le a last) || contains nat_cmp before a))
@@ -126,13 +126,13 @@ pub last_by : (last base size first many : ℕ) → last ≡ base + 2 * ((size +
 last_by last base size first many is e f = rw (← e, ← f) is
 
 pub in_record : (form : RecordForm) (address first last : ℕ) → first ≡ form.base
-    → last ≡ last_of form → first ≤ address → address ≤ last → is_of form address ≡ true
+    → last ≡ last_address_of form → first ≤ address → address ≤ last → is_of form address ≡ true
 in_record form address first last from to low high = grind (arith, common_steps)
 
 pub in_span : (form : RecordForm) (address : ℕ) → form.base ≤ address
-    → address < form.base + (last_of form + 1 - form.base) → is_of form address ≡ true
+    → address < form.base + (last_address_of form + 1 - form.base) → is_of form address ≡ true
 in_span form address low high = grind (arith, common_steps)
 
 pub of_span : (form : RecordForm) (address : ℕ) → is_of form address ≡ true
-    → (form.base ≤ address) × (address < form.base + (last_of form + 1 - form.base))
+    → (form.base ≤ address) × (address < form.base + (last_address_of form + 1 - form.base))
 of_span form address h = grind (arith, common_steps)

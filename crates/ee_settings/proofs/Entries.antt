@@ -1,5 +1,5 @@
 -- Settings and records one by one: of those so far none is so, and what one more adds.
-use Rattle.std.proofs.Common.{◌≡◌, inl, inr, suc, ℕ, ◌<◌, ◌+◌, List, [], ◌∷◌, ◌++◌, length, get_or, refl, sym, ap, subst, ◌∙◌, arith, Result, Err, rules}
+use Rattle.std.proofs.Common.{◌≡◌, suc, ℕ, ◌<◌, ◌+◌, List, [], ◌∷◌, ◌++◌, length, get_or, refl, sym, ap, subst, ◌∙◌, arith, Result, Err, rules}
 use Rattle.std.proofs.lemmas.Bool.{cases_lt}
 use Rattle.std.proofs.lemmas.List.{get_or_default}
 use Rattle.toml.specs.Data.{Data}

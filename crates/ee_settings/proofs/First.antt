@@ -8,7 +8,7 @@ use Rattle.toml.specs.Data.{Members}
 use Rattle.ee_settings.proofs.Names.{names_as_entries}
 use Rattle.ee_settings.proofs.Once.{Rise, breaks_none, entries_once, good_field, good_name, good_range, never_both, schema_once, split_items}
 use Rattle.ee_settings.specs.File.{Address, AreEntriesOf, BreaksFirst, Entry, Field, GivesSchema, HaveRisingKeys, IsFirstFault, IsSchemaOf, Name, Range, Rule, entries_of, numbers_in, records_in}
-use Rattle.ee_settings.specs.Setting.{AreApart, Item, Schema, name_of_item}
+use Rattle.ee_settings.specs.Setting.{HaveApartAddresses, Item, Schema, name_of_item}
 use Rattle.ee_settings.specs.declared.fault.SchemaFault.{SchemaFault}
 use Rattle.ee_settings.specs.declared.fault.SchemaFault.TheVariants as fault
 
@@ -104,7 +104,7 @@ never_earlier entries n m r q rising h k less =
     (subst (λ (es : List Entry). AreEntriesOf es k.good.items) between.1 k.good.each) in
     let before : h.good.items ≡ s.0 = entries_once h.before h.good.items s.0 h.good.each s.3 in
     breaks_none r s.0 s.2 s.1 h.entry h.schema (subst Rise s.5 rises)
-    (subst AreApart s.5 k.good.apart)
+    (subst HaveApartAddresses s.5 k.good.apart)
     (h.good.settings_are ∙ ap numbers_in before, h.good.records_are ∙ ap records_in before) s.4
     h.bad
 

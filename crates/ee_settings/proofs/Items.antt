@@ -8,7 +8,7 @@ use Rattle.std.specs.Cmp.Lexicographic.{slice_cmp}
 use Rattle.std.specs.List.{AllByRecursion, Contains, list_any}
 use Rattle.std.specs.List.Sorted.{IsStrictlySortedBy}
 use Rattle.ee_settings.specs.File.{numbers_in, records_in}
-use Rattle.ee_settings.specs.Setting.{AreApart, HaveOwnAddresses, HaveRisingNames, Item, Kept, Number, RecordSetting, Schema, Setting, has_address, has_record_at, is_named, is_of, item_has, name_of_item, with_item}
+use Rattle.ee_settings.specs.Setting.{HaveApartAddresses, HaveOwnAddresses, HaveRisingNames, Item, Kept, Number, RecordSetting, Schema, Setting, has_address, has_record_at, is_named, is_of, item_has, name_of_item, with_item}
 
 -- ---- which address is whose
 
@@ -55,9 +55,9 @@ setting_has settings setting inside =
 
 -- ---- one more
 
-pub apart_more : (items : List Item) (item : Item) → AreApart items
+pub apart_more : (items : List Item) (item : Item) → HaveApartAddresses items
     → ((address : ℕ) → item_has item address ≡ true → ¬ (items_have items address ≡ true))
-    → AreApart (items ++ item ∷ [])
+    → HaveApartAddresses (items ++ item ∷ [])
 apart_more items item own free one other first second address has_one has_other =
     elim (Contains-push_cases items item one first) [
       | inl a ↦ elim (Contains-push_cases items item other second) [
@@ -140,7 +140,7 @@ item_of_setting (Number s ∷ items) setting (suc k, inside, here) =
 same_setting : (one other : Setting) → Number one ≡ Number other → one ≡ other
 same_setting one other e = cc
 
-pub settings_apart : (items : List Item) → AreApart items → HaveOwnAddresses (numbers_in items)
+pub settings_apart : (items : List Item) → HaveApartAddresses items → HaveOwnAddresses (numbers_in items)
 settings_apart items apart one other first second same =
     same_setting one other
     (apart (Number one) (Number other) (item_of_setting items one first)

@@ -11,7 +11,7 @@ use Rattle.toml.specs.Data.{Data, Members, array, boolean, datetime, float, get_
 use Rattle.ee_settings.proofs.Items.{items_have, named_by}
 use Rattle.ee_settings.proofs.Names.{later_differs, names_as_entries}
 use Rattle.ee_settings.specs.File.{Address, AreEntriesOf, BreaksFirst, Entry, Field, GivesSchema, HasBadField, HasBadForm, HasRecordFields, HaveBadRange, HaveRisingKeys, IsEntryOf, IsFirstFault, IsRecordOf, IsRecordTableOf, IsSchemaOf, IsSettingOf, IsTableOf, Name, Range, RecordFields, Rule, entries_of, fields_of_numbers, fields_of_record, key_of, numbers_in, records_in}
-use Rattle.ee_settings.specs.Setting.{AreApart, IsName, Item, Kept, Number, RecordForm, RecordSetting, Schema, Setting, item_has, name_of_item}
+use Rattle.ee_settings.specs.Setting.{HaveApartAddresses, IsName, Item, Kept, Number, RecordForm, RecordSetting, Schema, Setting, item_has, name_of_item}
 use Rattle.ee_settings.specs.declared.fault.SchemaFault.{SchemaFault}
 use Rattle.ee_settings.specs.declared.fault.SchemaFault.TheVariants as fault
 use Rattle.ee_settings.specs.declared.numbers.Fields.{Fields}
@@ -214,7 +214,7 @@ one_of (i ∷ items) address h = elim (cases_true (item_has i address)) [
 
 -- no item of a schema has an address of an earlier one
 never_taken : (first last : List Item) (item : Item) → Rise (first ++ item ∷ last)
-    → AreApart (first ++ item ∷ last) → (address : ℕ) → item_has item address ≡ true
+    → HaveApartAddresses (first ++ item ∷ last) → (address : ℕ) → item_has item address ≡ true
     → ¬ (items_have first address ≡ true)
 never_taken first last item rising apart address has there =
     let all = first ++ item ∷ last in
@@ -271,7 +271,7 @@ never_both entry bad (inr (fields, is, out)) = bad.no_record fields is
 -- the entry of an item behind those of others breaks no rule
 pub breaks_none : (rule : Rule) (first last : List Item) (item : Item) (entry : Entry)
     (schema : Schema)
-    → Rise (first ++ item ∷ last) → AreApart (first ++ item ∷ last) → IsBehind first schema
+    → Rise (first ++ item ∷ last) → HaveApartAddresses (first ++ item ∷ last) → IsBehind first schema
     → IsEntryOf entry item → ¬ BreaksFirst rule schema entry
 breaks_none Name first last item entry schema rising apart behind here broken =
     broken (good_name entry item here)
@@ -297,7 +297,7 @@ no_first_fault entries schema number rule keys good h =
     (subst (λ (es : List Entry). AreEntriesOf es good.items) h.split good.each) in
     let before : h.good.items ≡ r.0 = entries_once h.before h.good.items r.0 h.good.each r.3 in
     breaks_none rule r.0 r.2 r.1 h.entry h.schema (subst Rise r.5 rising)
-    (subst AreApart r.5 good.apart)
+    (subst HaveApartAddresses r.5 good.apart)
     (h.good.settings_are ∙ ap numbers_in before, h.good.records_are ∙ ap records_in before) r.4
     h.bad
 

@@ -4,7 +4,7 @@ use Rattle.std.proofs.lemmas.Bool.{cases_eq, cases_lt, eq-eqb}
 use Rattle.std.proofs.lemmas.List.{append-nil}
 use Rattle.toml.specs.Data.{Data, Members, array, boolean, datetime, float, get_member, integer, string, table}
 use Rattle.ee_settings.specs.File.{Address, BreaksFirst, Entry, Field, GivesSchema, HasBadForm, HasFields, HasRecordFields, HaveBadRange, HaveRisingKeys, IsEntryOf, IsFirstFault, IsRecordTableOf, IsSchemaOf, IsTableOf, IsTaken, Name, Range, RecordFields, Rule, entries_of, fields_of_numbers, fields_of_record, key_of, kind_in}
-use Rattle.ee_settings.specs.Setting.{AreProper, HaveRisingNames, IsProperForm, Item, Kept, Number, RecordForm, Schema, is_default, is_name, is_named, last_of, with_item}
+use Rattle.ee_settings.specs.Setting.{AreProper, HaveRisingNames, IsProperForm, Item, Kept, Number, RecordForm, Schema, is_default, is_name, is_named, last_address_of, with_item}
 use Rattle.ee_settings.specs.declared.record_setting.RecordKind.{RecordKind}
 use Rattle.ee_settings.specs.declared.fault.SchemaFault.{SchemaFault}
 use Rattle.ee_settings.specs.declared.fault.SchemaFault.TheVariants as fault
@@ -233,7 +233,7 @@ told_taken schema (Number setting) =
           (ap (is_named schema) (at_address setting.numbers.address taken.0 taken.1) ∙ taken.2))
     ]
 told_taken schema (Kept one) =
-    let many = last_of one.form + 1 - one.form.base in
+    let many = last_address_of one.form + 1 - one.form.base in
     elim (told_span schema one.form.base many) [
       | inl taken ↦ inl (taken.0, in_span one.form taken.0 taken.1 taken.2, taken.3)
       | inr free ↦ inr (λ taken.

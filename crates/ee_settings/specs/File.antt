@@ -1,11 +1,10 @@
 -- What a table of settings says: the settings that it spells, or the first fault in it.
-use Rattle.std.specs.Prelude.{◌≡◌, ⊤, ◌≢◌, ◌⊎◌, ◌+◌, ℕ, ℤ, pos, Bool, true, false, is_some, if◌then◌else◌, List, [], ◌∷◌, ◌++◌, length, map, codes, Some, Result, Ok, Err}
+use Rattle.std.specs.Prelude.{◌≡◌, ⊤, ◌≢◌, ◌⊎◌, ◌+◌, ℕ, ℤ, pos, true, is_some, if◌then◌else◌, List, [], ◌∷◌, ◌++◌, length, map, codes, Some, Result, Ok, Err}
 use Rattle.std.specs.Cmp.Lexicographic.{slice_cmp}
-use Rattle.std.specs.List.{Contains}
 use Rattle.std.specs.List.Sorted.{IsStrictlySortedBy}
 use Rattle.std.specs.Ordering.{nat_cmp}
 use Rattle.toml.specs.Data.{Data, Members, get_member, integer, member, no_members, string, table}
-use Rattle.ee_settings.specs.Setting.{AreApart, AreProper, HaveRisingNames, IsName, IsProperForm, IsProperRecord, IsProperSetting, Item, Kept, Number, RecordForm, RecordSetting, Schema, Setting, is_named, item_has, with_item}
+use Rattle.ee_settings.specs.Setting.{HaveApartAddresses, AreProper, HaveRisingNames, IsName, IsProperForm, IsProperRecord, IsProperSetting, Item, Kept, Number, RecordForm, RecordSetting, Schema, Setting, is_named, item_has}
 use Rattle.ee_settings.specs.declared.numbers.Fields.{Fields}
 use Rattle.ee_settings.specs.declared.numbers.Numbers.{Numbers}
 use Rattle.ee_settings.specs.declared.record_setting.RecordKind.{RecordKind}
@@ -122,7 +121,7 @@ records_in (Kept one ∷ items) = one ∷ records_in items
 pub record IsSchemaOf (entries : List Entry) (schema : Schema) : Type 0 where
   pub items : List Item
   pub each : AreEntriesOf entries items
-  pub apart : AreApart items
+  pub apart : HaveApartAddresses items
   pub settings_are : schema.settings ≡ numbers_in items
   pub records_are : schema.records ≡ records_in items
 

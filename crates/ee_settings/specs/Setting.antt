@@ -109,12 +109,12 @@ abbrev pub room_of : RecordForm → ℕ
 room_of form = (form.size + 3) / 4
 
 -- its last address: behind its head it has two for its check, and two for each word
-abbrev pub last_of : RecordForm → ℕ
-last_of form = form.base + 2 * (room_of form + 1)
+abbrev pub last_address_of : RecordForm → ℕ
+last_address_of form = form.base + 2 * (room_of form + 1)
 
 -- the address is one of the record's
 abbrev pub is_of : RecordForm → ℕ → Bool
-is_of form address = nat_le form.base address && nat_le address (last_of form)
+is_of form address = nat_le form.base address && nat_le address (last_address_of form)
 
 -- `0` to `9` and `a` to `f`
 abbrev pub is_hex_byte : ℕ → Bool
@@ -136,7 +136,7 @@ pub record IsProperForm (form : RecordForm) : Type 0 where
   pub base : IsAddress form.base
   pub some : 0 < form.size
   pub few : room_of form < 16384
-  pub last : last_of form < 65535
+  pub last : last_address_of form < 65535
   pub default : is_default form.kind form.size form.default ≡ true
 
 pub record IsProperRecord (one : RecordSetting) : Type 0 where
@@ -160,8 +160,8 @@ item_has (Number setting) address = setting.numbers.address == address
 item_has (Kept one) address = is_of one.form address
 
 -- no two items have one address
-abbrev pub AreApart : List Item → Type 0
-AreApart items = (one other : Item) → Contains items one → Contains items other
+abbrev pub HaveApartAddresses : List Item → Type 0
+HaveApartAddresses items = (one other : Item) → Contains items one → Contains items other
     → (address : ℕ) → item_has one address ≡ true → item_has other address ≡ true → one ≡ other
 
 -- the settings and the records of a program

@@ -40,7 +40,7 @@ fn with_entry<A: Allocator + Copy>(
 ) -> Result<Settings<A>, SchemaFault>
     ensures ok { IfOk result (λ more. (item : Item) × (more ≡ with_item settings item)
         × GivesItem settings (length settings.settings + length settings.records + 1)
-            (name.now, view value.now) (Ok item)) }
+        (name.now, view value.now) (Ok item)) }
     ensures err { IfErr result (λ fault. GivesItem settings
         (length settings.settings + length settings.records + 1)
         (name.now, view value.now) (Err fault)) }

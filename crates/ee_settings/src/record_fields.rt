@@ -21,10 +21,10 @@ pub(crate) struct RecordFields<'a> {
 /// What stands in the entry of a record, if it is a table of these three and nothing else.
 pub(crate) fn read_record_fields(value: &Value) -> Option<RecordFields<'_>>
     ensures found { IfSome result (λ fields. IsRecordTableOf (view value.now) record {
-        address = fields.address;
-        kind = fields.kind;
-        size = fields.size;
-        default = fields.default.now
+      address = fields.address;
+      kind = fields.kind;
+      size = fields.size;
+      default = fields.default.now;
     }) }
     ensures none { IfNone result
         ((fields : AnyFields) → ¬ IsRecordTableOf (view value.now) fields) }
@@ -35,10 +35,10 @@ pub(crate) fn read_record_fields(value: &Value) -> Option<RecordFields<'_>>
 /// What stands in a table, if it is that of a record.
 fn record_fields_in(table: &Table) -> Option<RecordFields<'_>>
     ensures found { IfSome result (λ fields. HasRecordFields (table_view table.now) record {
-        address = fields.address;
-        kind = fields.kind;
-        size = fields.size;
-        default = fields.default.now
+      address = fields.address;
+      kind = fields.kind;
+      size = fields.size;
+      default = fields.default.now;
     }) }
     ensures none { IfNone result
         ((fields : AnyFields) → ¬ HasRecordFields (table_view table.now) fields) }
@@ -97,16 +97,16 @@ pub(crate) fn checked_room(
     ensures found { IfSome result (λ room. (address ≡ pos room.base) × (kind ≡ room.kind)
         × (size ≡ pos room.size)) }
     ensures proper { IfSome result (λ room. IsProperForm record {
-        base = room.base;
-        kind = room.kind;
-        size = room.size;
-        default = default.now
+      base = room.base;
+      kind = room.kind;
+      size = room.size;
+      default = default.now;
     }) }
     ensures none { IfNone result (HasBadForm record {
-        address = address;
-        kind = kind;
-        size = size;
-        default = default.now
+      address = address;
+      kind = kind;
+      size = size;
+      default = default.now;
     }) }
 {
     let base = address_of(address)?;

@@ -59,23 +59,23 @@ impl<A: Allocator> Model for RecordSetting<A> {
     ghost Value = { RecordSetting };
 
     ghost view = { λ s. record {
-        name = string_bytes s.name;
-        form = record {
-            base = s.room.base;
-            kind = s.room.kind;
-            size = s.room.size;
-            default = string_bytes s.default
-        }
+      name = string_bytes s.name;
+      form = record {
+        base = s.room.base;
+        kind = s.room.kind;
+        size = s.room.size;
+        default = string_bytes s.default;
+      };
     } };
 
     ghost invariant = { λ s. IsProperRecord record {
-        name = string_bytes s.name;
-        form = record {
-            base = s.room.base;
-            kind = s.room.kind;
-            size = s.room.size;
-            default = string_bytes s.default
-        }
+      name = string_bytes s.name;
+      form = record {
+        base = s.room.base;
+        kind = s.room.kind;
+        size = s.room.size;
+        default = string_bytes s.default;
+      };
     } };
 }
 
@@ -87,19 +87,19 @@ impl<A: Allocator> RecordSetting<A> {
     pub(crate) fn new(name: String<A>, room: RecordRoom, default: String<A>) -> RecordSetting<A>
         requires name { IsName (string_bytes name) }
         requires form { IsProperForm record {
+          base = room.base;
+          kind = room.kind;
+          size = room.size;
+          default = string_bytes default;
+        } }
+        ensures { result ≡ record {
+          name = string_bytes name;
+          form = record {
             base = room.base;
             kind = room.kind;
             size = room.size;
-            default = string_bytes default
-        } }
-        ensures { result ≡ record {
-            name = string_bytes name;
-            form = record {
-                base = room.base;
-                kind = room.kind;
-                size = room.size;
-                default = string_bytes default
-            }
+            default = string_bytes default;
+          };
         } }
     {
         RecordSetting {

@@ -1,5 +1,4 @@
-use Rattle.std.proofs.Common.{◌≡◌, ◌∙◌, refl, rules, sym, true, arith}
-use Rattle.std.proofs.lemmas.Grind.{common_steps}
+use Rattle.std.proofs.Common.{◌≡◌, ◌∙◌, refl, rules, sym, true}
 use Rattle.std.proofs.lemmas.Bool.{eq-eqb}
 use Rattle.toml.specs.View.{view}
 use Rattle.ee_settings.proofs.Entries.{entry_is}

@@ -1,4 +1,4 @@
-use Rattle.std.proofs.Common.{◌≡◌, ◌∙◌, refl, rules, sym, true}
+use Rattle.std.proofs.Common.{◌≡◌, ◌∙◌, refl, rules, true}
 use Rattle.toml.specs.View.{view}
 use Rattle.ee_settings.proofs.Addresses.{in_record}
 use Rattle.ee_settings.proofs.Entries.{record_is}

@@ -1,4 +1,4 @@
-use Rattle.std.proofs.Common.{arith, subst, Option, Some, Ok}
+use Rattle.std.proofs.Common.{arith, subst, Option, Ok}
 use Rattle.std.specs.Prelude.{IfSome}
 use Rattle.std.proofs.lemmas.Grind.{common_steps}
 use Rattle.toml.specs.View.{view}

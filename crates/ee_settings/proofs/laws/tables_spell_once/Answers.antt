@@ -1,4 +1,4 @@
-use Rattle.std.proofs.Common.{◌≡◌, List, Ok, rules}
+use Rattle.std.proofs.Common.{◌≡◌, Ok, rules}
 use Rattle.toml.specs.Data.{Members}
 use Rattle.ee_settings.specs.File.{GivesSchema, entries_of}
 use Rattle.ee_settings.specs.Setting.{Schema}

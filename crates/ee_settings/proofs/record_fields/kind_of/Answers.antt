@@ -1,7 +1,5 @@
-use Rattle.std.proofs.Common.{◌≡◌, ◌∙◌, true, false, ap, sym, is_some, Bool, Option, codes, cond, rules}
+use Rattle.std.proofs.Common.{codes, rules}
 use Rattle.toml.proofs.Views.{table_get}
-use Rattle.toml.specs.Data.{Data}
-use Rattle.ee_settings.specs.declared.record_setting.RecordKind.TheVariants.{Bytes, Text}
 use Rattle.ee_settings.proofs.record_fields.kind_of.Goals as goal
 
 pub returns-in-Some : goal.returns-in-Some

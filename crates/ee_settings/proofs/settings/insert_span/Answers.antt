@@ -1,4 +1,4 @@
-use Rattle.std.proofs.Common.{rules, arith}
+use Rattle.std.proofs.Common.{arith}
 use Rattle.ee_settings.proofs.Addresses.{all_put, none_put, put_more}
 use Rattle.ee_settings.proofs.settings.insert_span.Goals as goal
 
