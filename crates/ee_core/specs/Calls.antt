@@ -1,13 +1,13 @@
 -- What each call of a store answers, and what it leaves: one relation for each, by cases on the
 -- answer. Every store keeps them. That of a clear stands in Emptying.
-use Rattle.std.specs.Prelude.{◌≡◌, ◌≢◌, ◌<◌, ◌⊎◌, ℕ, ◌+◌, ◌-◌, Option, Some, None, Result, Ok, Err, Bool, true, false, List, [], ◌∷◌}
+use Rattle.std.specs.Prelude.{◌≡◌, ◌≢◌, ◌<◌, ◌⊎◌, ℕ, ◌-◌, Option, Some, None, Result, Ok, Err, Bool, true, false, List, [], ◌∷◌}
 use Rattle.ee_flash.specs.Device.{Device, IsOff, IsOn, page_at}
 use Rattle.ee_flash.specs.Power.{GoesOn, IsCut}
 use Rattle.ee_flash.specs.Step.{IsPartlyErased}
 use Rattle.ee_pages.specs.Laws.{IsPageOf}
 use Rattle.ee_pages.specs.Meaning.{Put, Forget}
 use Rattle.ee_pages.specs.Page.{is_blank}
-use Rattle.ee_pages.specs.Sets.{live_of, other, pending_of, set_of}
+use Rattle.ee_pages.specs.Sets.{live_of, other}
 use Rattle.ee_pages.specs.declared.side.Side.{Side}
 use Rattle.ee_core.specs.CallSteps.{IsSameBut}
 use Rattle.ee_core.specs.Changes.{Appends, HaveNoGeneration, HaveNoPlace, IsCutChange, IsCutMaking, IsFull, IsSpent, Moves, Proceeds}
@@ -111,28 +111,6 @@ pub record KeepsAllButLowest (old new : Device) : Type 0 where
   pub here : IsPartlyErased (page_at old page) (page_at new page)
   pub others : IsSameBut page old new
   pub wear : Wears (page ∷ []) old new
-
--- how many pages of the set beside this one wait to be erased
-abbrev pub waiting_beside : Side → Device → ℕ
-waiting_beside side device = pending_of (set_of (other side) device)
-
--- one page less waits beside the set: the lowest was erased
-pub record PageCleaned (old new : Device) (side : Side) : Type 0 where
-  pub one_less : waiting_beside side new + 1 ≡ waiting_beside side old
-  pub lowest : ErasesLowest old new
-
--- power was cut in erasing it: as many pages wait, or one less
-pub record PageCleanedPartly (old new : Device) (side : Side) : Type 0 where
-  pub some : 0 < waiting_beside side old
-  pub left : (waiting_beside side new ≡ waiting_beside side old)
-      ⊎ (waiting_beside side new + 1 ≡ waiting_beside side old)
-  pub lowest : IsOn old → KeepsAllButLowest old new
-
--- the lowest page that waits beside the live set is erased, if there is one
-abbrev pub CleansPage : {E : Type 0} → Result Bool E → Device → Device → Side → Type 0
-CleansPage (Ok true) old new side = PageCleaned old new side
-CleansPage (Ok false) old new side = (waiting_beside side old ≡ 0) × (new ≡ old)
-CleansPage (Err cut) old new side = PageCleanedPartly old new side
 
 -- the lowest page that waited was erased
 pub record ErasesOne (old new : Device) : Type 0 where

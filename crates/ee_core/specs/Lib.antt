@@ -6,6 +6,7 @@ pub mod Shown
 pub mod Changes
 pub mod Emptying
 pub mod Calls
+pub mod CleanedPage
 pub mod Openings
 pub mod Rescues
 pub mod Points

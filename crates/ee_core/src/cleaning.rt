@@ -7,7 +7,7 @@ ghost use Rattle.ee_pages.specs.Layout.{IsLayout};
 ghost use Rattle.ee_pages.specs.Page.{is_blank};
 ghost use Rattle.ee_pages.specs.Sets.{first_page as first_of, other as other_of, pending_of, set_of};
 ghost use Rattle.ee_core.specs.CallSteps.{ErasesPage};
-ghost use Rattle.ee_core.specs.Calls.{CleansPage};
+ghost use Rattle.ee_core.specs.CleanedPage.{CleansPage};
 ghost use Rattle.ee_core.specs.Finished.{IsMarked};
 ghost use Rattle.ee_core.specs.StepLists.{steps_of_clean};
 ghost use Rattle.ee_flash.specs.Taking.{Takes};
