@@ -1,11 +1,11 @@
 /* A first test with the flash in memory: power is cut in each step of a few writes, in each way, and the store opened again.
- * Each variable then has the value before the write that was cut, or the one behind it. So it is of words, of pairs, and of
- * pairs whose erase clears cells first. */
+ * Each variable then has the value before the write that was cut, or the one behind it. So it is of words, of coded words, of
+ * pairs, and of pairs whose erase clears cells first. */
 #include <stdlib.h>
 
 #include "sim.h"
 
-enum { WRITES = 5, KINDS = 3 };
+enum { WRITES = 5, KINDS = 4, CODED = 1 };
 
 static const struct {
     uint16_t address;
@@ -43,10 +43,11 @@ static int is_as_after(int count) { return value_of(1) == wanted(1, count) && va
 /* Makes the writes on a new part with room for two changes, and cuts power in one step. How many were made before that. */
 static int writes_made(int kind, uint32_t step, sim_tear leaves) {
     int made = 0;
-    static void (*const made_new[KINDS])(sim *, uint32_t, uint32_t) = {sim_new, sim_new_pairs, sim_new_clearing};
+    static void (*const made_new[KINDS])(sim *, uint32_t, uint32_t) = {sim_new, sim_new, sim_new_pairs, sim_new_clearing};
     made_new[kind](&part, 1, 6);
     part.seed = step;
     flash = sim_flash(&part);
+    if (kind == CODED) flash.kind = EE_CODED;
     check(ee_start(&store, &flash) == EE_OK, "a new part was not started");
     sim_cut(&part, step, leaves);
     while (made < WRITES && ee_write(&store, writes[made].address, writes[made].value) == EE_OK) made++;
@@ -69,7 +70,8 @@ int main(void) {
     unsigned cuts[KINDS] = {0};
     for (int kind = 0; kind < KINDS; kind++)
         for (int way = 0; way < 4; way++) cuts[kind] += cut_each_step(kind, ways[way]);
-    printf("%u cuts of words, %u of pairs and %u where erases clear first, and no value was lost\n", cuts[0], cuts[1], cuts[2]);
+    printf("%u cuts of words, %u of coded words, %u of pairs and %u where erases clear first, and no value was lost\n", cuts[0],
+           cuts[CODED], cuts[2], cuts[3]);
     writes_made(0, 9, SIM_TORN);
     printf("power cut in the ninth step of words, which left this:\n");
     sim_write(&part, stdout);
