@@ -1,5 +1,5 @@
 -- What the pages of a part of X-CUBE-EEPROM hold, in the order in which it counts.
-use Rattle.std.specs.Prelude.{◌≡◌, ◌<◌, ◌&&◌, ℕ, Bool, true, not, nat_lt, if◌then◌else◌, List, [], ◌∷◌, ◌++◌}
+use Rattle.std.specs.Prelude.{◌≡◌, ◌<◌, ◌+◌, ◌&&◌, ◌||◌, ℕ, Bool, true, false, not, nat_lt, if◌then◌else◌, List, [], ◌∷◌, ◌++◌, zero, suc}
 use Rattle.ee_flash.specs.Device.{Device, word_at}
 use Rattle.ee_flash.specs.Size.{page_count}
 use Rattle.ee_flash.specs.declared.word.Word.{Word}
@@ -14,19 +14,31 @@ use Rattle.ee_image_store.specs.Told.{each_below}
 abbrev pub is_state_word : Device → ℕ → ℕ → Bool
 is_state_word device page place = is_mark (mark_of (word_at device page place))
 
--- a page is in the state that the last of these words names
+-- one of so many pages from the first on has the word of ERASING
+unfoldable pub any_erasing : Device → ℕ → ℕ → Bool
+any_erasing device first zero = false
+any_erasing device first (suc count) =
+    any_erasing device first count || is_state_word device (first + count) 3
+
+-- a page of this one's set has it: the set was left, and all its values were copied
+abbrev pub was_left : Device → ℕ → Bool
+was_left device page =
+    any_erasing device (if nat_lt page device.size.pages then 0 else device.size.pages) device.size.pages
+
+-- each page of a set that was left is in ERASING, and any other in the state that the last of its
+-- words names
 abbrev pub is_in : State → Device → ℕ → Bool
-is_in Erasing device page = is_state_word device page 3
-is_in Valid device page = is_state_word device page 2 && not (is_state_word device page 3)
+is_in Erasing device page = was_left device page
+is_in Valid device page = is_state_word device page 2 && not (was_left device page)
 is_in Active device page =
     is_state_word device page 1 && not (is_state_word device page 2)
-    && not (is_state_word device page 3)
+    && not (was_left device page)
 is_in Receive device page =
     is_state_word device page 0 && not (is_state_word device page 1)
-    && not (is_state_word device page 2) && not (is_state_word device page 3)
+    && not (is_state_word device page 2) && not (was_left device page)
 is_in Erased device page =
     not (is_state_word device page 0) && not (is_state_word device page 1)
-    && not (is_state_word device page 2) && not (is_state_word device page 3)
+    && not (is_state_word device page 2) && not (was_left device page)
 
 -- each page is erased
 abbrev pub IsUnused : Device → Type 0

@@ -25,10 +25,11 @@ use std::alloc::Allocator;
 /// has, each written once, on pages that were never erased. The dump is that of the part's pages,
 /// of both of its sets, in the shape of the store, which `read_dump` reads as words.
 ///
-/// A page is in the state that the last of its four state words that is whole names. The elements
-/// count in this order: those of pages in ERASING, VALID, ACTIVE and RECEIVE, in one state by page.
-/// The last of an address has its value. What is no element whose CRC fits, as
-/// one that a cut left, counts for nothing, nor does one of the addresses 0 and 65535.
+/// A page is in the state that the last of its four state words that is whole names, but in ERASING
+/// if a page of its set is: all values of that set were copied. The elements count in this order:
+/// those of pages in ERASING, VALID, ACTIVE and RECEIVE, in one state by page. The last of an
+/// address has its value. What is no element whose CRC fits, as one that a cut left, counts for
+/// nothing, nor does one of the addresses 0 and 65535.
 ///
 /// Source: AN4894, and ours where it says nothing.
 ///

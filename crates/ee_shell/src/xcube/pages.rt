@@ -1,9 +1,9 @@
 //! The words of the pages of X-CUBE-EEPROM.
-ghost use Rattle.std.specs.Prelude.{◌≡◌, ◌<◌, ◌++◌, IfOk, OnOk};
+ghost use Rattle.std.specs.Prelude.{◌≡◌, ◌<◌, ◌≤◌, ◌+◌, ◌++◌, IfOk, OnOk};
 ghost use Rattle.std.specs.Bool.{OnFalse, OnTrue};
 ghost use Rattle.ee_flash.specs.Size.{page_count};
 ghost use Rattle.ee_image_store.specs.Told.{each_below};
-ghost use Rattle.ee_shell.specs.Xcube.Pages.{IsUnused, is_in, is_state_word, slot_number, held_number, numbers_in, numbers_of, page_numbers};
+ghost use Rattle.ee_shell.specs.Xcube.Pages.{IsUnused, any_erasing, was_left, is_in, is_state_word, slot_number, held_number, numbers_in, numbers_of, page_numbers};
 
 use ee_codec::{MarkRead, read_mark};
 use ee_flash::{Flash, HEADER_WORDS, Word};
@@ -115,7 +115,8 @@ fn push_number<A: Allocator>(word: Word, out: &mut Vec<u64, A>) -> Result<(), Al
     }
 }
 
-/// Whether a page is in the state that the last of its state words that holds the mark names.
+/// Whether a page is in this state: that of ERASING if its set was left, else that which the last of
+/// its state words that holds the mark names.
 fn is_in<F: Flash>(state: State, flash: &F, page: usize) -> bool
     requires { page < page_count (F.device flash.now).size }
     ensures { result ≡ is_in state (F.device flash.now) page }
@@ -123,7 +124,7 @@ fn is_in<F: Flash>(state: State, flash: &F, page: usize) -> bool
     let receive = is_state_word(flash, page, 0);
     let active = is_state_word(flash, page, 1);
     let valid = is_state_word(flash, page, 2);
-    let erasing = is_state_word(flash, page, 3);
+    let erasing = was_left(flash, page);
     match state {
         State::Erasing => erasing,
         State::Valid => valid && !erasing,
@@ -131,6 +132,27 @@ fn is_in<F: Flash>(state: State, flash: &F, page: usize) -> bool
         State::Receive => receive && !active && !valid && !erasing,
         State::Erased => !receive && !active && !valid && !erasing,
     }
+}
+
+/// Whether a page of this one's set has the word of ERASING.
+fn was_left<F: Flash>(flash: &F, page: usize) -> bool
+    requires { page < page_count (F.device flash.now).size }
+    ensures { result ≡ was_left (F.device flash.now) page }
+{
+    let pages = flash.shape().pages();
+    any_erasing(flash, if page < pages { 0 } else { pages })
+}
+
+/// Whether a page of the set with this first page has it.
+fn any_erasing<F: Flash>(flash: &F, first: usize) -> bool
+    requires { let size = (F.device flash.now).size in first + size.pages ≤ page_count size }
+    ensures { let device = F.device flash.now in result ≡ any_erasing device first device.size.pages }
+{
+    let mut found = false;
+    'pages: for index in 0..flash.shape().pages() {
+        found = found || is_state_word(flash, first + index, 3);
+    }
+    found
 }
 
 /// Whether a word of a page's header holds the mark.
