@@ -58,12 +58,12 @@ abbrev pub page_numbers : Device → State → ℕ → List ℕ
 page_numbers device state page =
     if is_in state device page then each_below device.size.words (slot_number device page) else []
 
-abbrev pub numbers_in : Device → State → List ℕ
-numbers_in device state = each_below (page_count device.size) (page_numbers device state)
+abbrev pub elements_in : Device → State → List ℕ
+elements_in device state = each_below (page_count device.size) (page_numbers device state)
 
 -- what the pages hold, the oldest first. Of a transfer that was cut the pages that receive come last,
 -- and those whose values were all copied come first.
 abbrev pub numbers_of : Device → List ℕ
 numbers_of device =
-    numbers_in device Erasing ++ (numbers_in device Valid
-    ++ (numbers_in device Active ++ numbers_in device Receive))
+    elements_in device Erasing ++ (elements_in device Valid
+    ++ (elements_in device Active ++ elements_in device Receive))

@@ -3,7 +3,7 @@ ghost use Rattle.std.specs.Prelude.{◌≡◌, ◌<◌, ◌≤◌, ◌+◌, ◌+
 ghost use Rattle.std.specs.Bool.{OnFalse, OnTrue};
 ghost use Rattle.ee_flash.specs.Size.{page_count};
 ghost use Rattle.ee_image_store.specs.Told.{each_below};
-ghost use Rattle.ee_shell.specs.Xcube.Pages.{IsUnused, any_erasing, was_left, is_in, is_state_word, slot_number, held_number, numbers_in, numbers_of, page_numbers};
+ghost use Rattle.ee_shell.specs.Xcube.Pages.{IsUnused, any_erasing, was_left, is_in, is_state_word, slot_number, held_number, elements_in, numbers_of, page_numbers};
 
 use ee_codec::{MarkRead, read_mark};
 use ee_flash::{Flash, HEADER_WORDS, Word};
@@ -45,7 +45,7 @@ fn push_pages<F: Flash, A: Allocator>(
     out: &mut Vec<u64, A>,
 ) -> Result<(), AllocError>
     ensures { OnOk result
-        (out.new.items ≡ out.old.items ++ numbers_in (F.device flash.now) state) }
+        (out.new.items ≡ out.old.items ++ elements_in (F.device flash.now) state) }
 {
     'pages: for page in 0..2 * flash.shape().pages() {
         push_page(state, flash, page, out)?;
