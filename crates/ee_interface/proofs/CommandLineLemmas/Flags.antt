@@ -1,5 +1,5 @@
 -- What words are no flag, and how many there are behind a command that has none.
-use Rattle.std.proofs.Common.{[], ◌∷◌, ◌≡◌, ◌≢◌, ◌≤◌, ◌∙◌, ℕ, Bool, true, false, List, length, get_or, ap, arith, inl, refl, rules, subst, sym, codes, decimal}
+use Rattle.std.proofs.Common.{[], ◌∷◌, ◌≡◌, ◌≢◌, ◌≤◌, ℕ, Bool, List, length, get_or, ap, arith, inl, refl, rules, subst, sym, codes, decimal}
 use Rattle.ee_flash.specs.Size.{IsWithinLimits, Size}
 use Rattle.ee_text.specs.Field.{Lacks}
 use Rattle.ee_text.proofs.Public.{Lacks-decimal, Lacks-parts}

@@ -1,5 +1,5 @@
 -- The commands of the program, and the words that spell them.
-use Rattle.std.specs.Prelude.{◌≡◌, ◌≢◌, ◌<◌, ◌≤◌, ◌+◌, ◌*◌, ◌%◌, ◌^◌, ◌⊎◌, ℕ, List, [], ◌∷◌, map, codes, decimal}
+use Rattle.std.specs.Prelude.{◌≡◌, ◌≢◌, ◌<◌, ◌≤◌, ◌+◌, ◌%◌, ◌^◌, ◌⊎◌, ℕ, List, [], ◌∷◌, map, codes, decimal}
 use Rattle.std.specs.Prelude.{Bool, true, false, Option, Some, None, IfSome, option_map, Ok}
 use Rattle.std.specs.Int.{to_be_bytes, w32}
 use Rattle.std.specs.Borrow.{Bor}

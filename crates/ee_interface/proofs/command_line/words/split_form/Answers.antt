@@ -1,5 +1,5 @@
 use Rattle.std.proofs.Common.{◌≡◌, ◌∷◌, ◌∙◌, sym, rules}
-use Rattle.ee_interface.specs.CommandLine.Job.{texts_of, with_form}
+use Rattle.ee_interface.specs.CommandLine.Job.{texts_of}
 use Rattle.ee_interface.proofs.CommandLineLemmas.Flags.{one_form}
 use Rattle.ee_interface.proofs.command_line.words.split_form.Goals as goal
 
