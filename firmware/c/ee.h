@@ -152,7 +152,7 @@ typedef struct ee_flash {
      * ECC error, and also all ones that needed a correction, since a part may not program such a word. Any other number where the
      * read itself failed, as on a bus that isn't up: nothing is known of the word, so the call makes no step after that and answers
      * EE_DRIVER, and the store is off. Such a number is EE_READ_FAILED, or a status of the driver's own. Never
-     * EE_TORN for a read that failed: ee_start would take each word for torn, and erase all values.
+     * EE_TORN for a read that failed: ee_start would take each word for torn and, of EE_WORDS, erase all values.
      *
      * A word reads the same until it is written. Before the first read the flash is ready and in its mode for reading; until then
      * the read fails. */

@@ -202,7 +202,7 @@ impl Unfit {
             Unfit::WriteSize => "the flash writes none of 1, 2, 4, 8, 16 and 32 bytes at a time",
             Unfit::ReadSize => "what the flash reads at a time doesn't divide a number or a unit",
             Unfit::EraseSize => "a sector of the flash is no multiple of what it writes and reads",
-            Unfit::Kind => "the flash holds pairs where it writes less than 8 bytes, else words",
+            Unfit::Kind => "pairs are for a flash that writes less than 8 bytes, words and coded words for the others",
             Unfit::Offset => "the store doesn't begin where a sector of the flash does",
             Unfit::Length => "the range is not 2 to 128 sectors, an even number of them",
             Unfit::Sector => "a sector of the flash has fewer than 5 words",
