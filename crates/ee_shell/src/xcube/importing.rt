@@ -88,7 +88,7 @@ fn has_element(numbers: &[u64]) -> bool
     numbers.iter().any(|number| is_xcube_element(*number))
 }
 
-/// TakesNumber the numbers, the last first, into a new store.
+/// Takes the numbers, the last first, into a new store.
 fn take_all<A: Allocator>(store: &mut Store<MemFlash<A>>, numbers: &[u64]) -> Result<(), Fault>
     requires { HoldsValues store.old.size (latest []) store.old }
     ensures taken { IfOk result
