@@ -66,7 +66,8 @@ fn remedy_of_work(fault: &Fault) -> &'static str {
         Fault::LowPair { .. } => "try it with no --pairs and twice the W, or another first byte",
         Fault::Misplaced { .. } => "give the P and W that the part's firmware has",
         Fault::DumpUnused => "give the P and W of the part, and the bytes of both its sets",
-        Fault::DumpNoCrc => "give the P and W of the part; else let the old firmware read its values",
+        Fault::DumpNoCrc =>
+            "give the P and W of the part; else let the old firmware read its values",
         Fault::DumpFull => "let the old firmware read its values, and write them to a larger store",
         Fault::TornWord { .. } => "take it away, where it waits: ee clean IMAGE",
         Fault::Uncoded { .. } => "no store wrote it: look at it, or export with no --coded",

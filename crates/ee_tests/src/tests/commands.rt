@@ -349,9 +349,7 @@ fn told_of_images(job: &Job<'_>, found: &ArgMatches<'_>) -> (&'static str, bool)
         Job::Inspect { image } => ("inspect", has(found, "IMAGE", Some(image))),
         Job::ImportXcube { shape, dump, image } => (
             "import-xcube",
-            fits(found, shape)
-                & has(found, "DUMP", Some(dump))
-                & has(found, "IMAGE", Some(image)),
+            fits(found, shape) & has(found, "DUMP", Some(dump)) & has(found, "IMAGE", Some(image)),
         ),
         _ => ("", false),
     }

@@ -7,9 +7,9 @@ use ee_pages::ScanFault;
 use ee_shell::{
     Fault, Form, ImageAndText, Language, ReplayFault, Replayed, apply_values, check_script,
     clean_image, export_hex, export_image, fault_line, forget_all, format_image, get_setting,
-    header_text, import_hex, import_image, import_xcube, inspect_text, list_text, plan_script, replay,
-    replay_indexed, replay_reader, rescue_image, set_setting, size_parts, stale_text, states_text,
-    tidy_image, try_script, unset_setting, verify_values, wear_text,
+    header_text, import_hex, import_image, import_xcube, inspect_text, list_text, plan_script,
+    replay, replay_indexed, replay_reader, rescue_image, set_setting, size_parts, stale_text,
+    states_text, tidy_image, try_script, unset_setting, verify_values, wear_text,
 };
 use std::alloc::{Allocator, Global};
 
