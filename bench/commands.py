@@ -15,7 +15,15 @@ BOUNDS |= dict.fromkeys(("CYCLES", "RUNS"), (1, GREATEST))
 BASES = ["0807f000", "0807F000", "0807f004", "807f000", "00807f000", "0x807f00", "0807g000", ""]
 # What stands for a word where another one is tried. A path is its own name, and there is no such
 # file.
-USUAL = {"P": "2", "W": "6", "BASE": "08000000", "VALUE": "7", "CYCLES": "100", "RUNS": "5"}
+USUAL = {
+    "LINE": "ee: spent",
+    "P": "2",
+    "W": "6",
+    "BASE": "08000000",
+    "VALUE": "7",
+    "CYCLES": "100",
+    "RUNS": "5",
+}
 
 # A command: its flags, and its other words by name, of which the last ones may be left out.
 Command = namedtuple("Command", "flags words least")
