@@ -1,7 +1,8 @@
 /* Tests the flash with error correction of sim/: what its code corrects, tells and miscorrects, and what a cut leaves. Then a store
  * over it, cut in random steps, of which it counts what a product would see. Over words a cut can make a number that nobody wrote: the
  * test fails where the flash doesn't show that, since then it would show nothing of coded words either, over which no opening may be
- * refused and no value wrong. `sim_ecc [CUTS]` */
+ * refused and no value wrong. With a file the image that each cut of coded words left is written there, as docs/FORMATS.md has
+ * images, and what the store says behind its opening, for a decoder that was written apart (`decode`). `sim_ecc [CUTS [FILE]]` */
 #include "../sim/sim_ecc.c"
 
 #define CHECK(holds)                                                                                                           \
@@ -18,6 +19,7 @@ static sim_ecc part;
 static ee_flash flash;
 static ee_store store;
 static uint64_t dice;
+static FILE *images; /* where images are written, or null */
 
 static uint32_t below(uint32_t limit) {
     dice = dice * UINT64_C(6364136223846793005) + 1442695040888963407u;
@@ -121,6 +123,29 @@ static int has(const values *wanted) {
     return count == 0;
 }
 
+/* Writes what the device reads as. */
+static void write_image(void) {
+    fprintf(images, "ee %" PRIu32 " %" PRIu32 "\n", part.pages, part.page_words);
+    for (uint32_t page = 0; page < 2 * part.pages; page++) {
+        fprintf(images, "0"); /* its wear, which nothing counts here */
+        for (uint32_t place = 0; place < part.page_words; place++) {
+            uint64_t value;
+            uint32_t status = flash.word(&part, page, place, &value);
+            if (status == 0 && value != UINT64_MAX) fprintf(images, " %016" PRIx64, value);
+            else fprintf(images, status == 0 ? " -" : " ?");
+        }
+        fprintf(images, "\n");
+    }
+}
+
+/* Writes each address that has a value with that, as the store says. */
+static void write_values(void) {
+    uint32_t value;
+    fprintf(images, "values");
+    for (uint16_t address = 0; ee_next(&store, &address, &value) == EE_OK;) fprintf(images, " %d %" PRIu32, address, value);
+    fprintf(images, "\n");
+}
+
 /* Calls of a kind, rescues too, a cut in each few steps: how many openings behind a cut answered EE_FOREIGN or refused otherwise,
  * and how many found a value that is neither the one before the call nor the one that it gives. Behind each a new part is taken. */
 static void check_store(uint32_t kind, sim_ecc_tear tear, unsigned long cuts, unsigned long counts[3]) {
@@ -141,7 +166,9 @@ static void check_store(uint32_t kind, sim_ecc_tear tear, unsigned long cuts, un
             if (status == EE_OK) before = made;
         CHECK(status == EE_DRIVER);
         part.is_on = 1;
+        if (images && kind == EE_CODED) write_image();
         status = next(&store, &flash);
+        if (images && kind == EE_CODED) write_values();
         int is_before = status == EE_OK && has(&before), is_made = status == EE_OK && has(&made);
         if (is_made && !is_before) before = made;
         counts[0] += status == EE_FOREIGN;
@@ -155,6 +182,7 @@ int main(int argc, char **argv) {
     static const char *const names[] = {"cells", "half words", "words"}, *const kinds[] = {"words", "coded words"};
     unsigned long cuts = argc > 1 ? strtoul(argv[1], NULL, 10) : FEW;
     unsigned passed = 0;
+    if (argc > 2) CHECK((images = fopen(argv[2], "w")) != NULL);
     for (uint64_t seed = 0; seed < MATRICES; seed++) passed += check_code(seed);
     CHECK(passed > MATRICES * 1000);
     check_erased();
@@ -169,5 +197,6 @@ int main(int argc, char **argv) {
             if (!is_coded && tear == SIM_ECC_CELLS) CHECK(counts[0] > cuts / 20 && counts[2] > 0);
         }
     }
+    if (images) CHECK(fclose(images) == 0);
     return 0;
 }
