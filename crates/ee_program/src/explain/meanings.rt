@@ -9,17 +9,17 @@ pub(crate) fn cause_of(fault: &Fault) -> &'static str {
         Fault::TooLong(_) => "the file has more than 16777216 bytes",
         Fault::CannotWriteImage => "opening or writing the image failed",
         Fault::ImageChanged => "the image is not the text that was read, or another run writes it",
-        Fault::CannotWriteDump => "opening or writing the dump failed",
+        Fault::CannotWriteDump => "opening or writing the dump failed, or another run has its lock",
         Fault::CannotWriteOutput => "standard output is closed, or its disk is full",
         Fault::OutputIsWritten => "standard output goes to the image or the dump",
-        Fault::BadLine { .. } => "that line, counted from 1, is the first bad one",
-        Fault::BadShape(_) => "the first line is no size of an image",
+        Fault::BadLine { .. } => "that line, counted from 1, is the first bad line of the file",
+        Fault::BadShape(_) => "in the first line P is not 1 to 64, or W is not 5 to 512",
         Fault::Unformatted => "every word is erased, as on a new part",
         Fault::NoLiveSet => "no set is live: it is no store's, or a word that commits one went bad",
         Fault::TwoLive => "both sets are live, with one generation",
         Fault::Foreign { .. } => "that word, by page and place, may not stand in the live set",
         Fault::HoldsValues => "an address has a value",
-        Fault::NothingToRescue => "no set was begun",
+        Fault::NothingToRescue => "in both sets the second word of the first page is erased",
         _ => cause_of_work(fault),
     }
 }
@@ -28,15 +28,16 @@ pub(crate) fn cause_of(fault: &Fault) -> &'static str {
 fn cause_of_work(fault: &Fault) -> &'static str {
     match fault {
         Fault::NotFitting(_) => "that change is the first with more live addresses than slots",
-        Fault::WrongStart => "the certificate is of another image or another script",
+        Fault::WrongStart =>
+            "the first line of the certificate is not that of the image and the script",
         Fault::NotRising(_) =>
             "that stretch ends no later than the one before, or behind the trace",
         Fault::WrongFrom(_) => "that stretch begins with another number of used slots",
         Fault::NotForced(_) => "that stretch has no more changes than slots are free",
-        Fault::OtherShape => "the images have not as many pages",
+        Fault::OtherShape => "the image before has another number of pages",
         Fault::Backwards(_) => "that page was erased less often than before",
-        Fault::NoSizeEnough => "no number of pages bears so many runs",
-        Fault::DumpLength => "the dump has not as many bytes as a part of these P and W",
+        Fault::NoSizeEnough => "no line says enough: no number of pages bears so many runs",
+        Fault::DumpLength => "the dump has not as many bytes as two sets of these P and W",
         Fault::DumpOfWords => "a mark says that the dump is one of words",
         Fault::DumpOfPairs => "a mark says that the dump is one of pairs",
         Fault::DumpOfCoded { .. } =>
@@ -46,11 +47,11 @@ fn cause_of_work(fault: &Fault) -> &'static str {
         Fault::Misplaced { .. } => "another shape wrote the word at that page and place",
         Fault::TornWord { .. } => "the word at that page and place is torn: no bytes say that",
         Fault::Uncoded { .. } => "no store writes the number at that page and place",
-        Fault::DumpUnused => "no page of the dump is one that X-CUBE-EEPROM uses",
+        Fault::DumpUnused => "no header of the dump has a whole state word",
         Fault::DumpNoCrc => "words are written, but none is an element with its CRC",
         Fault::DumpFull => "more addresses have a value than a store of these P and W has slots",
         Fault::Base => "the part would go past the address ffffffff",
-        Fault::Memory => "there was not enough memory",
+        Fault::Memory => "want of memory",
         _ => cause_of_settings(fault),
     }
 }
@@ -60,10 +61,11 @@ fn cause_of_settings(fault: &Fault) -> &'static str {
     match fault {
         Fault::SettingsText => "the settings are no TOML",
         Fault::ValuesText => "the values are no TOML",
-        Fault::BadName(_) => "that entry, counted from 1 by rising name, has a name none may have",
+        Fault::BadName(_) =>
+            "that entry, by rising name, has a name of other letters, over 32, or with a digit first",
         Fault::BadField(_) => "that entry is no table of just the fields of a setting",
         Fault::BadRange(_) =>
-            "the numbers of that entry are out of range, or default of min to max",
+            "numbers of that entry are out of range, min is above max, or default not between them",
         Fault::SameAddress(_) => "that entry has the address of an earlier one",
         Fault::UnknownName => "no setting has the name",
         Fault::UnknownValue(_) => "no setting has the name of that entry",
@@ -72,7 +74,7 @@ fn cause_of_settings(fault: &Fault) -> &'static str {
         Fault::ValueOutOfRange { .. } => "the value of that entry is not in the setting's range",
         Fault::Full | Fault::FullAt(_) => "as many addresses have a value as there are slots",
         Fault::Spent | Fault::SpentAt(_) => "no slot is free, and no generation is left for a move",
-        Fault::Absent => "the setting has no value to be forgotten",
+        Fault::Absent => "nothing is stored for the setting",
         Fault::ValuesDiffer => "a setting has not the value that the values file says",
         _ => "docs/FAULTS.md has it",
     }
