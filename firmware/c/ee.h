@@ -292,8 +292,9 @@ typedef struct ee_numbers {
 /* The call to make at each start, as others mount a file system. Opens the store that the flash holds, as ee_open, or makes the
  * first one: where no set is live and each word behind a page's header is erased or torn. On EE_CODED and EE_PAIRS that is where
  * every word is erased but the first two of page 0, and on EE_PAIRS_CLEARING where page 0 holds no value and all else is blank:
- * whatever else stands in that page is formatted over, a store of another kind too. A first start in which power was cut is made
- * again; no value of this kind is erased. EE_OK; EE_OTHER_SHAPE, EE_NO_LIVE_SET, EE_TWO_LIVE, EE_FOREIGN, EE_DRIVER. */
+ * whatever else stands in that page is formatted over. But where its second number is the mark of a store of words, or (not with
+ * EE_NO_CODED) of coded words, it is as on EE_PAIRS, so no value of such a store is erased. A first start in which power was cut is
+ * made again; no value of this kind is erased. EE_OK; EE_OTHER_SHAPE, EE_NO_LIVE_SET, EE_TWO_LIVE, EE_FOREIGN, EE_DRIVER. */
 ee_result ee_start(ee_store *store, const ee_flash *flash);
 
 /* Opens the store that the flash holds. Where power was cut it sets the marks that were left to set, else it writes nothing.

@@ -98,10 +98,17 @@ EE_APART ee_result known_in(ee_store *memory, const ee_flash *flash) {
 }
 #endif
 
+/* Where no words are coded no number is looked at for their mark. */
+#ifdef EE_NO_CODED
+#define value_named(number) 0u
+#endif
+
 /* Whether a word is written that a first start which was cut doesn't leave: any but the first two of
- * page 0, or but those of page 0 where an erase clears first. */
+ * page 0. Where an erase clears first a cut one leaves anything in that page, but by no likely chance
+ * the mark of a store of another kind as its second number: where that stands all is looked at. */
 EE_APART bool holds_more(const Device *device, bool clears_first) {
-    const uint32_t from = clears_first ? device->shape.words : 2u;
+    const uint64_t second = clears_first ? numbers_read(device, 0u, 1u) : MARK;
+    const uint32_t from = second == MARK || value_named(second) > 0u ? 2u : device->shape.words;
     bool found = blank_to(device, 0u, from) != device->shape.words;
     for (uint32_t page = 1u; !found && page < 2u * device->shape.pages; page++) {
         found = !state_is_blank(device, page);

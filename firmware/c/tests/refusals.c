@@ -284,6 +284,27 @@ static void low_numbers(void) {
     }
 }
 
+/* Values of a store of words or of coded words all of which stand in page 0 are no first start's, whatever shape the pairs have;
+ * nothing is written. With another word in the place of its mark it is what a cut erase may leave. */
+static void other_kinds(void) {
+    for (uint32_t round = 0; round < 400; round++) {
+        uint32_t calls = round / 6 % 13;
+        blank(&p, 1 + round % 3, 16);
+        p.coded = round % 2;
+        ee_flash flash = flash_of(&p);
+        CHECK(ee_start(&store, &flash) == EE_OK);
+        for (uint32_t call = 0; call < calls; call++) CHECK(ee_write(&store, 1 + call % 3, (uint32_t)any_bits()) == EE_OK);
+        p.pairs = 1, p.coded = 0, p.clears_first = 1, p.page_words = round % 5 < 3 ? 8 : 16;
+        flash = flash_of(&p);
+        part before = p;
+        CHECK(ee_open(&store, &flash) == EE_NO_LIVE_SET && ee_start(&store, &flash) == (calls == 0 ? EE_OK : EE_NO_LIVE_SET));
+        if (calls == 0) continue;
+        CHECK(ee_write(&store, 1, 1) == EE_NOT_OPEN && holds_same(&before, &p) && p.steps == before.steps);
+        p.words[0][1] ^= (uint64_t)1 << round % 64;
+        CHECK(ee_start(&store, &flash) == EE_OK && ee_write(&store, 1, 10) == EE_OK && ee_start(&store, &flash) == EE_OK);
+    }
+}
+
 /* What looks like no store at all is refused too, if a first start didn't leave it, and nothing is written: data all of whose
  * numbers have the top bit set, and a store of words with great values. */
 static void data(void) {
@@ -413,6 +434,7 @@ int main(int count, char **argument) {
     first_starts_on_pairs(count > 1 ? strtoul(argument[1], NULL, 10) : 20000, 0);
     first_starts_on_pairs(20000, 1);
     low_numbers();
+    other_kinds();
     blank(&p, 1, 6);
     failing();
     foreign_numbers();

@@ -1,8 +1,9 @@
 //! The device that the proved sources work on: a driver, and whether it failed.
 
 use crate::driver::{Driver, Kind};
+use crate::ee_codec::MARK;
 use crate::ee_flash::{Cut, Flash, Shape, Word};
-use crate::ee_nor::coded::{Coded, EccNor, OtherShape};
+use crate::ee_nor::coded::{shape_of_mark, Coded, EccNor, OtherShape};
 use crate::ee_nor::{LowPair, Nor, Pairs};
 use crate::ee_pages::{blank_to, is_blank};
 use crate::error::{DriverError, Step};
@@ -73,7 +74,8 @@ impl<D: Driver> Part<D> {
         match self.driver.kind() {
             Kind::Words => true,
             Kind::Coded => Coded::known(Codes(self)).may_be_new(),
-            kind => !holds_more(self, kind == Kind::PairsClearing),
+            Kind::Pairs => !holds_more(self, None),
+            Kind::PairsClearing => !holds_more(self, Some(Numbers::of(self, 1).read(0, 1))),
         }
     }
 
@@ -132,10 +134,14 @@ impl<D: Driver> Part<D> {
     }
 }
 
-/// Whether a word of pairs is written that a first start which was cut doesn't leave.
-pub fn holds_more<F: Flash>(flash: &F, clears_first: bool) -> bool {
+/// Whether a word of pairs is written that a first start which was cut doesn't leave. Where an erase clears first the second number
+/// of page 0 is given: a cut one leaves anything in that page, but by no likely chance the mark of a store of another kind there.
+pub fn holds_more<F: Flash>(flash: &F, cleared: Option<u64>) -> bool {
     let shape = flash.shape();
-    let from = if clears_first { shape.words() } else { 2 };
+    let from = match cleared {
+        Some(number) if number != MARK && shape_of_mark(number).is_none() => shape.words(),
+        _ => 2,
+    };
     let mut holds = blank_to(flash, 0, from) != shape.words();
     for page in 1..2 * shape.pages() {
         holds = holds || !is_blank(flash, page);

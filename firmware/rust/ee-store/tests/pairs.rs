@@ -282,6 +282,30 @@ fn a_first_start_that_clears_first_is_cut() {
 }
 
 #[test]
+fn a_store_of_another_kind_is_no_first_start() {
+    for (kind, writes) in [Kind::Words, Kind::Coded]
+        .map(|kind| [1, 2].map(|it| (kind, it)))
+        .concat()
+    {
+        let mut part = Part::new();
+        part.kind = kind;
+        let mut store = started(part);
+        for value in 0..writes {
+            assert_eq!(store.write(FIRST, value), Ok(Written::Appended));
+        }
+        let mut part = store.into_driver();
+        part.kind = Kind::PairsClearing;
+        let before = (part.numbers, part.steps);
+        let refused = Store::open_or_format(&mut part).err();
+        assert_eq!(refused, Some(OpenError::NoLiveSet));
+        assert_eq!((part.numbers, part.steps), before);
+        // With another word in the place of its mark it is what a cut erase may leave.
+        part.numbers[0][1] ^= 1;
+        assert!(Store::open_or_format(part).is_ok());
+    }
+}
+
+#[test]
 fn a_bit_that_fell_costs_its_own_value() {
     for at in 0..12 {
         let mut store = started(Part::new());

@@ -43,16 +43,18 @@ fn prepared(device: &Device, how: How) -> Result<How, u32> {
     if device.other_shape().is_some() {
         return Err(EE_OTHER_SHAPE);
     }
-    let mut clears_first = false;
+    let mut cleared = None;
     if let Some(numbers) = device.numbers() {
-        clears_first = numbers.clears_first();
+        if how == How::Start && numbers.clears_first() {
+            cleared = Some(numbers.read(0, 1));
+        }
         if Pairs::of(numbers).is_err() {
             return Err(EE_FOREIGN);
         }
     } else if device.codes().is_none() {
         return Ok(how);
     }
-    if how == How::Start && proved::holds_more(device, clears_first) {
+    if how == How::Start && proved::holds_more(device, cleared) {
         return Ok(How::Open);
     }
     Ok(how)
