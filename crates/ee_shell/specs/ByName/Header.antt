@@ -1,10 +1,10 @@
--- What `header` prints: the settings as constants of a program in C or in Rust, word for word; and
--- each fault under its cause.
+-- What `header` prints: the settings and the records as constants of a program in C or in Rust, word
+-- for word; and each fault under its cause.
 use Rattle.std.specs.Prelude.{◌≡◌, ◌++◌, ℕ, List, map, codes, decimal, length}
 use Rattle.std.specs.Char.{to_ascii_uppercase}
 use Rattle.std.specs.List.{flat_map}
-use Rattle.ee_shell.specs.ByName.Settings.{SpellsSettings}
-use Rattle.ee_settings.specs.Setting.{Setting}
+use Rattle.ee_shell.specs.ByName.Settings.{SpellsSchema}
+use Rattle.ee_settings.specs.Setting.{RecordSetting, Schema, Setting, room_of}
 use Rattle.ee_shell.specs.declared.by_name.language.Language.{Language}
 use Rattle.ee_shell.specs.declared.by_name.language.Language.TheVariants.{C, Rust}
 
@@ -28,6 +28,14 @@ c_constants setting =
     ++ c_constant (in_capitals setting.name) (codes "MAX") setting.numbers.max
     ++ c_constant (in_capitals setting.name) (codes "DEFAULT") setting.numbers.default
 
+-- the constants of a record, behind an empty line: its room is told in words and in bytes
+abbrev pub c_record_constants : RecordSetting → List ℕ
+c_record_constants one =
+    codes "\n"
+    ++ c_constant (in_capitals one.name) (codes "ADDRESS") one.form.base
+    ++ c_constant (in_capitals one.name) (codes "WORDS") (room_of one.form)
+    ++ c_constant (in_capitals one.name) (codes "BYTES") one.form.size
+
 -- a number of a row
 abbrev pub c_number : ℕ → List ℕ
 c_number number = codes ", " ++ decimal number ++ codes "u"
@@ -46,13 +54,13 @@ c_row setting =
     ++ c_number setting.numbers.default
     ++ codes ")"
 
--- the constants of each setting and the list of all of them, by rising name
-abbrev pub c_header : List Setting → List ℕ
-c_header settings =
+-- the constants of each setting and of each record, and the list of all settings, by rising name
+abbrev pub c_header : List Setting → List RecordSetting → List ℕ
+c_header settings records =
     codes "/* Made by `ee header` from a file of settings. */\n"
     ++ codes "#ifndef EE_SETTINGS_H\n"
     ++ codes "#define EE_SETTINGS_H\n"
-    ++ flat_map c_constants settings
+    ++ (flat_map c_constants settings ++ flat_map c_record_constants records)
     ++ codes "\n#define EE_SETTINGS(SETTING)"
     ++ flat_map c_row settings
     ++ codes "\n\n#endif\n"
@@ -76,6 +84,14 @@ rust_constants setting =
     ++ rust_constant (in_capitals setting.name) (codes "DEFAULT") (codes "u32")
     setting.numbers.default
 
+-- the constants of a record, behind an empty line
+abbrev pub rust_record_constants : RecordSetting → List ℕ
+rust_record_constants one =
+    codes "\n"
+    ++ rust_constant (in_capitals one.name) (codes "ADDRESS") (codes "u16") one.form.base
+    ++ rust_constant (in_capitals one.name) (codes "WORDS") (codes "u16") (room_of one.form)
+    ++ rust_constant (in_capitals one.name) (codes "BYTES") (codes "usize") one.form.size
+
 -- a number of a row
 abbrev pub rust_number : ℕ → List ℕ
 rust_number number = codes ", " ++ decimal number
@@ -96,26 +112,26 @@ rust_list count =
     codes "\n// Name, address, min, max, default.\n"
     ++ codes "pub const SETTINGS: [(&str, u16, u32, u32, u32); " ++ decimal count ++ codes "] = [\n"
 
--- the constants of each setting and the list of all of them, by rising name
-abbrev pub rust_header : List Setting → List ℕ
-rust_header settings =
+-- the constants of each setting and of each record, and the list of all settings, by rising name
+abbrev pub rust_header : List Setting → List RecordSetting → List ℕ
+rust_header settings records =
     codes "// Made by `ee header --rust` from a file of settings.\n"
-    ++ flat_map rust_constants settings
+    ++ (flat_map rust_constants settings ++ flat_map rust_record_constants records)
     ++ rust_list (length settings)
     ++ flat_map rust_row settings
     ++ codes "];\n"
 
 -- ---- in either
 
-abbrev pub header : Language → List Setting → List ℕ
-header C settings = c_header settings
-header Rust settings = rust_header settings
+abbrev pub header : Language → List Setting → List RecordSetting → List ℕ
+header C settings records = c_header settings records
+header Rust settings records = rust_header settings records
 
--- the header of the settings that the text spells
+-- the header of the settings and records that the text spells
 pub record IsHeader (settings_text : List ℕ) (language : Language) (text : List ℕ) : Type 0 where
-  pub settings : List Setting
-  pub spelled : SpellsSettings settings_text settings
-  pub text_is : text ≡ header language settings
+  pub schema : Schema
+  pub spelled : SpellsSchema settings_text schema
+  pub text_is : text ≡ header language schema.settings schema.records
 
 -- ---- for the functions within
 
@@ -129,6 +145,11 @@ constant_in Rust name kind type number = rust_constant name kind type number
 abbrev pub constants_in : Language → Setting → List ℕ
 constants_in C = c_constants
 constants_in Rust = rust_constants
+
+-- the constants of a record, behind an empty line
+abbrev pub record_constants_in : Language → RecordSetting → List ℕ
+record_constants_in C = c_record_constants
+record_constants_in Rust = rust_record_constants
 
 -- a setting's row of the list
 abbrev pub row_in : Language → Setting → List ℕ

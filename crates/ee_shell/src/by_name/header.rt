@@ -8,12 +8,13 @@ use crate::by_name::constants::{push_c_header, push_rust_header};
 use crate::by_name::language::Language;
 use crate::by_name::opening::read_schema;
 use ee_interface::Fault;
-use ee_settings::Setting;
+use ee_settings::{RecordSetting, Setting};
 use std::alloc::{AllocError, Allocator, Global};
 
-/// The settings that a text spells as constants of a program, as there is to print: for each its
-/// address, its least and its greatest value and its default, by rising name, and then a list of
-/// all of them. `heap` is for the tree of that text alone: `toml` takes no other allocator.
+/// The settings and records that a text spells as constants of a program, as there is to print: for
+/// each setting its address, its least and its greatest value and its default, by rising name, then
+/// for each record its address and its room in words and in bytes, and then a list of all settings.
+/// `heap` is for the tree of that text alone: `toml` takes no other allocator.
 ///
 /// Source: ours.
 ///
@@ -32,22 +33,23 @@ pub fn header_text<A: Allocator + Copy>(
     ensures names { NamesEach Fault.Memory (IsSettingsFault settings.now) result }
 {
     let schema = read_schema(alloc, heap, settings)?;
-    let text = header_of(alloc, schema.as_slice(), language)?;
+    let text = header_of(alloc, schema.as_slice(), schema.records(), language)?;
     Ok(text.into_bytes())
 }
 
-/// The header of these settings.
+/// The header of these settings and records.
 fn header_of<A: Allocator + Copy>(
     alloc: A,
     settings: &[Setting<A>],
+    records: &[RecordSetting<A>],
     language: Language,
 ) -> Result<String<A>, AllocError>
-    ensures { IfOk result (λ text. string_bytes text ≡ header language settings.now) }
+    ensures { IfOk result (λ text. string_bytes text ≡ header language settings.now records.now) }
 {
     let mut out = String::new(alloc);
     match language {
-        Language::C => push_c_header(alloc, &mut out, settings)?,
-        Language::Rust => push_rust_header(alloc, &mut out, settings)?,
+        Language::C => push_c_header(alloc, &mut out, settings, records)?,
+        Language::Rust => push_rust_header(alloc, &mut out, settings, records)?,
     }
     Ok(out)
 }

@@ -13,8 +13,8 @@ returns-in_err-text-clause-fault g c =
 
 pub returns-clause-header : goal.returns-clause-header
 returns-clause-header g c = record {
-  settings = c.in_ok-schema.schema.settings;
-  spelled = c.in_ok-schema.ensures.spelled;
+  schema = c.in_ok-schema.schema;
+  spelled = c.in_ok-schema.ensures.whole;
   text_is = search rules;
 }
 
