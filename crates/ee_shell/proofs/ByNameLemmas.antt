@@ -9,3 +9,4 @@ pub mod Causes
 pub mod Writing
 pub mod Unset
 pub mod Compared
+pub mod Recorded

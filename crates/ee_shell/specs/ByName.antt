@@ -1,3 +1,4 @@
+pub mod Records
 pub mod Settings
 pub mod SecondSchema
 pub mod Listing

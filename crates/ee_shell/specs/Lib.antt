@@ -20,6 +20,7 @@ pub use Rattle.ee_replay.specs.Outcomes
 pub use Rattle.ee_commands.specs.Images
 pub use Rattle.ee_commands.specs.Wear
 pub use Rattle.ee_commands.specs.Planning
+pub use Rattle.ee_shell.specs.ByName.Records
 pub use Rattle.ee_shell.specs.ByName.Settings
 pub use Rattle.ee_shell.specs.ByName.SecondSchema
 pub use Rattle.ee_shell.specs.ByName.Listing

@@ -14,12 +14,11 @@ use Rattle.ee_settings.specs.File.{GivesSchema, HaveRisingKeys, entries_of}
 use Rattle.ee_settings.specs.Setting.{HaveRisingNames, IsInRange, Schema, Setting}
 use Rattle.ee_settings.specs.declared.fault.SchemaFault.{SchemaFault}
 use Rattle.ee_settings.specs.declared.fault.SchemaFault.TheVariants as schema
-use Rattle.ee_settings.specs.declared.reading.Reading.{Reading}
 use Rattle.ee_interface.specs.declared.script.answer.Answer.{Answer}
 use Rattle.ee_interface.specs.declared.script.answer.Answer.TheVariants.{Appended, Moved}
 use Rattle.ee_interface.specs.declared.script.command.Command.{Command}
 use Rattle.ee_interface.specs.declared.script.command.Command.TheVariants.{Write}
-use Rattle.ee_shell.specs.ByName.Settings.{fault_of_schema, HasTree, IsGetFault, IsGot, IsReadingLine, IsUnknownIn, IsSettingRead, IsSettingRefused, IsRefusedIn, IsSet, IsSettingsFault, IsValueRefusal, IsWriteRefusal, IsCommandServed, IsWriteServed, IsWritten, LeavesSet, SpellsSchema, SpellsSettings}
+use Rattle.ee_shell.specs.ByName.Settings.{fault_of_schema, HasTree, IsGetFault, IsGot, IsReadingLine, IsUnknownIn, IsUnknownTo, IsSettingRefused, IsRefusedIn, IsSet, IsSettingsFault, IsValueRefusal, IsWriteRefusal, IsCommandServed, IsWriteServed, IsWritten, LeavesSet, SpellsSchema, SpellsSettings}
 use Rattle.ee_interface.specs.declared.fault.Fault.{Fault}
 use Rattle.ee_interface.specs.declared.fault.Fault.TheVariants.{Memory, UnknownName}
 use Rattle.ee_image_store.proofs.Public.{both, by_append, by_move, no_memory_to_open, pages_since, same_at_rest, same_state}
@@ -132,33 +131,44 @@ schema_only text tree why fault others has gives told spelled =
 -- ---- reading
 
 -- a name that is read is no unknown one
-pub never_unknown : (text name : List ℕ) (settings : List Setting) (state : State)
-    (reading : Reading)
-    → SpellsSettings text settings → IsSettingRead settings state name reading
-    → IsUnknownIn text name → ⊥
-never_unknown text name settings state reading spelled read h =
-    subst (λ (ss : List Setting). IsUnknown ss name)
-    (spelled_once text h.settings settings h.spelled spelled) h.unknown read.0 read.1
+pub never_unknown : (text name line : List ℕ) (whole : Schema) (state : State)
+    → SpellsSchema text whole → IsReadingLine whole state name line → IsUnknownIn text name → ⊥
+never_unknown text name line whole state spelled (inl read) h =
+    let unknown : IsUnknownTo whole name =
+    subst (λ (w : Schema). IsUnknownTo w name) (whole_once text h.whole whole h.spelled spelled)
+    h.unknown in
+    unknown.0 read.1.0 read.1.1
+never_unknown text name line whole state spelled (inr read) h =
+    let unknown : IsUnknownTo whole name =
+    subst (λ (w : Schema). IsUnknownTo w name) (whole_once text h.whole whole h.spelled spelled)
+    h.unknown in
+    unknown.1 read.0 read.1
 
-pub is_got : (image text name line : List ℕ) (store : Device) (settings : List Setting)
-    → IsOpened image store → SpellsSettings text settings
-    → IsReadingLine settings (state_of store) name line → IsGot image text name line
-is_got image text name line store settings opened spelled read = search rules
+-- an opened store has the map that its image says
+pub is_got : (image text name line : List ℕ) (store : Device) (whole : Schema)
+    → IsOpened image store → SpellsSchema text whole
+    → IsReadingLine whole (state_of store) name line → IsGot image text name line
+is_got image text name line store whole opened spelled read = record {
+  device = opened.device;
+  old = opened.old;
+  whole = whole;
+  spelled = spelled;
+  read = subst (λ (state : State). IsReadingLine whole state name line) opened.state_is read;
+}
 
 -- why nothing is read: the name is unknown, or memory ran out
-pub is_get_fault : (image text name : List ℕ) (store : Device) (settings : List Setting)
-    (fault : Fault)
-    → IsOpened image store → SpellsSettings text settings
-    → (IsUnknown settings name × (fault ≡ UnknownName)) ⊎ (fault ≡ Memory)
+pub is_get_fault : (image text name : List ℕ) (store : Device) (whole : Schema) (fault : Fault)
+    → IsOpened image store → SpellsSchema text whole
+    → (IsUnknownTo whole name × (fault ≡ UnknownName)) ⊎ (fault ≡ Memory)
     → IsGetFault image text name fault
-is_get_fault image text name store settings fault opened spelled (inl h) =
+is_get_fault image text name store whole fault opened spelled (inl h) =
     inr
     (inr (
       (opened.device, opened.old),
-      record { settings = settings; spelled = spelled; unknown = h.0 },
+      record { whole = whole; spelled = spelled; unknown = h.0 },
       h.1,
     ))
-is_get_fault image text name store settings fault opened spelled (inr none) =
+is_get_fault image text name store whole fault opened spelled (inr none) =
     rw none (inl (no_memory_to_open image))
 
 -- ---- setting

@@ -27,6 +27,7 @@ use Rattle.ee_interface.specs.declared.fault.Fault.TheVariants.{SettingsText, Ba
 use Rattle.ee_image_store.specs.FileFaults.{IsOpeningFault}
 use Rattle.ee_image_store.specs.Opening.{HasStore, IsStoreLeft, IsStoreText, StaysOn}
 use Rattle.ee_image_store.specs.Steps.{Steps}
+use Rattle.ee_shell.specs.ByName.Records.{IsNoRecord, IsRecordLine}
 
 -- ---- the text of the settings
 
@@ -84,15 +85,25 @@ abbrev pub IsSettingRead : List Setting → State → List ℕ → Reading → T
 IsSettingRead settings state name reading =
     (setting : Setting) × IsNamed settings name setting × (reading ≡ reading_in state.map setting)
 
--- The line is the reading of the name's setting in the image.
+-- the line is the reading of the name's setting in a state's map
+abbrev pub IsSettingLine : List Setting → State → List ℕ → List ℕ → Type 0
+IsSettingLine settings state name line =
+    (reading : Reading) × IsSettingRead settings state name reading
+    × (line ≡ line_of (reading_text reading))
+
+-- it is that, or what the name's record reads as
+abbrev pub IsReadingLine : Schema → State → List ℕ → List ℕ → Type 0
+IsReadingLine whole state name line =
+    IsSettingLine whole.settings state name line
+    ⊎ IsRecordLine whole.records state.map name line
+
+-- The line is what the name's setting or record reads as in the image.
 pub record IsGot (image settings_text name line : List ℕ) : Type 0 where
   pub device : Device
   pub old : IsStoreText image device
-  pub settings : List Setting
-  pub spelled : SpellsSettings settings_text settings
-  pub reading : Reading
-  pub read : IsSettingRead settings (state_of device) name reading
-  pub line_is : line ≡ line_of (reading_text reading)
+  pub whole : Schema
+  pub spelled : SpellsSchema settings_text whole
+  pub read : IsReadingLine whole (state_of device) name line
 
 -- ---- what is set
 
@@ -158,11 +169,15 @@ IsSettingRefused settings size state name value fault =
     × IsValueRefusal setting size state value fault)
     ⊎ (fault ≡ Memory)
 
--- the name of no setting that the text spells
+-- no setting and no record has the name
+abbrev pub IsUnknownTo : Schema → List ℕ → Type 0
+IsUnknownTo whole name = IsUnknown whole.settings name × IsNoRecord whole.records name
+
+-- the name of no setting and no record that the text spells
 pub record IsUnknownIn (settings_text name : List ℕ) : Type 0 where
-  pub settings : List Setting
-  pub spelled : SpellsSettings settings_text settings
-  pub unknown : IsUnknown settings name
+  pub whole : Schema
+  pub spelled : SpellsSchema settings_text whole
+  pub unknown : IsUnknownTo whole name
 
 -- why an image isn't opened with a text of settings, the first cause that applies: no store is
 -- opened; or the text spells no settings
@@ -171,7 +186,7 @@ IsOpenWithSettingsFault image settings_text fault =
     IsOpeningFault image fault ⊎ (HasStore image × IsSettingsFault settings_text fault)
 
 -- why nothing is read, the first cause that applies: no store is opened; or the text spells no
--- settings; or no setting has the name
+-- settings; or no setting and no record has the name
 abbrev pub IsGetFault : List ℕ → List ℕ → List ℕ → Fault → Type 0
 IsGetFault image settings_text name fault =
     IsOpeningFault image fault
@@ -196,12 +211,6 @@ IsSetFault image settings_text name value fault =
     ⊎ IsRefusedIn image settings_text name value fault
 
 -- ---- for the functions within
-
--- the line is the reading of the name's setting in a state's map
-abbrev pub IsReadingLine : List Setting → State → List ℕ → List ℕ → Type 0
-IsReadingLine settings state name line =
-    (reading : Reading) × IsSettingRead settings state name reading
-    × (line ≡ line_of (reading_text reading))
 
 -- the value was written for the name's setting, and the store left the image, with
 -- the line that says so

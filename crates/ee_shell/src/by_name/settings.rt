@@ -3,22 +3,25 @@ ghost use Rattle.std.specs.Prelude.{◌≡◌, ◌⊎◌, ◌++◌, IfOk, IfErr,
 ghost use Rattle.ee_text.specs.Line.{line_of};
 ghost use Rattle.ee_core.specs.State.{state_of};
 ghost use Rattle.ee_settings.specs.Calls.{IsUnknown};
-ghost use Rattle.ee_shell.specs.ByName.Settings.{IsGetFault, IsGot, IsReadingLine, IsSettingRefused, IsSet, IsSetFault, IsWritten, LeavesSet, reading_text};
+ghost use Rattle.ee_shell.specs.ByName.Records.{IsRecordReading};
+ghost use Rattle.ee_shell.specs.ByName.Settings.{IsGetFault, IsGot, IsReadingLine, IsSettingLine, IsSettingRefused, IsSet, IsSetFault, IsUnknownTo, IsWritten, LeavesSet, reading_text};
 ghost use Rattle.ee_image_store.specs.Opening.{StaysOn};
 ghost use Rattle.ee_interface.specs.Causes.{NamesEach};
 
 use super::opening::open_with_settings;
+use super::recorded::{Origin, Recorded, find_record, read_recorded};
 use ee_core::{Store, WriteFault};
 use ee_flash::MemFlash;
 use ee_image_store::{ImageAndText, text_left};
 use ee_interface::Fault;
-use ee_settings::{GetFault, Reading, Schema, SetFault};
+use ee_settings::{GetFault, Reading, RecordSetting, Schema, SetFault};
 use ee_text::push_number;
 use std::alloc::{AllocError, Allocator, Global};
 
-/// What the setting of a name reads as in the image that a text spells, as there is to print:
-/// `V stored`, where its address has the value V and V is in its range, or `V default`.
-/// `settings` is the text of the settings. `heap` is for the tree of that text alone: `toml`
+/// What the setting or the record of a name reads as in the image that a text spells, as there is to
+/// print: `V stored`, where the setting's address has the value V and V is in its range, or
+/// `V default`; `B stored`, where the record has the bytes B, `B default` with its default where
+/// there is none, or `B hurt` where what there is doesn't fit its check. `settings` is the text of the settings. `heap` is for the tree of that text alone: `toml`
 /// takes no other allocator.
 ///
 /// Source: ours.
@@ -26,7 +29,8 @@ use std::alloc::{AllocError, Allocator, Global};
 /// # Errors
 ///
 /// The first that applies: the image is no device's, or not legal; the text of the settings is no
-/// TOML, or no schema; no setting has the name. `Memory` can come in place of any answer.
+/// TOML, or no schema; no setting and no record has the name. `Memory` can come in place of any
+/// answer.
 pub fn get_setting<A: Allocator + Copy>(
     alloc: A,
     heap: Global,
@@ -72,7 +76,7 @@ pub fn set_setting<A: Allocator + Copy>(
     set_left(alloc, opened.store, &opened.schema, name, value)
 }
 
-/// The line of what the setting of a name reads as in a store whose power stays on.
+/// The line of what the setting or the record of a name reads as in a store whose power stays on.
 fn reading_on<A: Allocator + Copy>(
     alloc: A,
     store: &Store<MemFlash<A>>,
@@ -81,7 +85,50 @@ fn reading_on<A: Allocator + Copy>(
 ) -> Result<Vec<u8, A>, Fault>
     requires { StaysOn store.now }
     ensures got { IfOk result (λ text.
-        IsReadingLine schema.now.settings (state_of store.now) name.now text.items) }
+        IsReadingLine schema.now (state_of store.now) name.now text.items) }
+    ensures fault { IfErr result (λ fault.
+        (IsUnknownTo schema.now name.now × (fault ≡ Fault.UnknownName)) ⊎ (fault ≡ Fault.Memory)) }
+{
+    match find_record(schema.records(), name) {
+        Some(one) => record_line_on(alloc, store, one),
+        None => setting_line_on(alloc, store, schema, name),
+    }
+}
+
+/// The line of what a record reads as in a store whose power stays on.
+fn record_line_on<A: Allocator + Copy>(
+    alloc: A,
+    store: &Store<MemFlash<A>>,
+    one: &RecordSetting<A>,
+) -> Result<Vec<u8, A>, Fault>
+    requires { StaysOn store.now }
+    ensures got { IfOk result (λ text.
+        IsRecordReading one.now (state_of store.now).map text.items) }
+    ensures fault { IfErr result (λ fault. fault ≡ Fault.Memory) }
+{
+    let Recorded {
+        spelled: mut text,
+        origin,
+    } = read_recorded(alloc, store, one)?;
+    let word = match origin {
+        Origin::Stored => b" stored\n".as_slice(),
+        Origin::Default => b" default\n".as_slice(),
+        Origin::Hurt => b" hurt\n".as_slice(),
+    };
+    text.extend_from_slice(word)?;
+    Ok(text)
+}
+
+/// The line of what the setting of a name reads as in a store whose power stays on.
+fn setting_line_on<A: Allocator + Copy>(
+    alloc: A,
+    store: &Store<MemFlash<A>>,
+    schema: &Schema<A>,
+    name: &str,
+) -> Result<Vec<u8, A>, Fault>
+    requires { StaysOn store.now }
+    ensures got { IfOk result (λ text.
+        IsSettingLine schema.now.settings (state_of store.now) name.now text.items) }
     ensures fault { IfErr result (λ fault.
         (IsUnknown schema.now.settings name.now × (fault ≡ Fault.UnknownName)) ⊎ (fault ≡ Fault.Memory)) }
 {
