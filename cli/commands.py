@@ -63,6 +63,7 @@ states image
 --json size W script CYCLES RUNS
 --json wear image other
 --json states image
+--json inspect image
 --json clean image
 clean image
 rescue image

@@ -32,7 +32,7 @@ to do: ask which word is wrong: ee --explain COMMAND ..
 ";
 
 /// What is said of a command that has no document.
-const NO_DOCUMENT: &[u8] = b"  only states, wear, size and plan have --json\n";
+const NO_DOCUMENT: &[u8] = b"  only states, inspect, wear, size and plan have --json\n";
 
 /// Which standard streams are a terminal.
 #[derive(Clone, Copy, Debug)]

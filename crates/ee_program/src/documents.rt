@@ -3,6 +3,7 @@ use crate::running::{print, print_text, read_file};
 use ee_commands::{plan_json, sizes_json, states_json, wear_json};
 use ee_interface::command_line::Job;
 use ee_interface::{Fault, File};
+use ee_shell::part::inspect_json;
 use std::rt::Files;
 
 /// Prints the document of a job. None where the job has no document.
@@ -12,6 +13,7 @@ pub(crate) fn work_document<R: Files + Print + AllocGlobal>(
 ) -> Option<Result<(), Fault>> {
     let told = match *job {
         Job::States { image } => tell_states(rt, image),
+        Job::Inspect { image } => tell_findings(rt, image),
         Job::Wear { image, before } => tell_wear(rt, image, before),
         Job::Plan { image, script } => tell_plan(rt, image, script),
         Job::Size {
@@ -29,6 +31,12 @@ pub(crate) fn work_document<R: Files + Print + AllocGlobal>(
 fn tell_states<R: Files + Print + AllocGlobal>(rt: &R, image: &str) -> Result<(), Fault> {
     let image = read_file(rt, File::Image, image)?;
     print_text(rt, states_json(rt.alloc(), &image))
+}
+
+/// Prints what a store finds in an image.
+fn tell_findings<R: Files + Print + AllocGlobal>(rt: &R, image: &str) -> Result<(), Fault> {
+    let image = read_file(rt, File::Image, image)?;
+    print_text(rt, inspect_json(rt.alloc(), &image))
 }
 
 /// Prints how often the pages of an image were erased, since an image before it where one is named.

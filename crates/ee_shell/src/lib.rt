@@ -53,5 +53,7 @@ pub use ee_interface::command_line::{
 };
 pub use ee_interface::{Fault, File, ReplayFault, fault_line, status_of};
 pub use ee_replay::{Replayed, replay, replay_indexed, replay_reader, try_script};
-pub use part::{Form, export_hex, export_image, import_hex, import_image, inspect_text};
+pub use part::{
+    Form, export_hex, export_image, import_hex, import_image, inspect_json, inspect_text,
+};
 pub use xcube::import_xcube;

@@ -6,6 +6,7 @@
 //! stay what they are. `specs/Part/Faults.antt` has why each gives nothing, and
 //! `specs/Part/Inspecting.antt` what is told of an image that came back from the field.
 
+mod document;
 mod dump;
 mod hex_files;
 mod image;
@@ -13,6 +14,7 @@ mod inspecting;
 pub mod laws;
 
 pub use crate::dumps::Form;
+pub use document::inspect_json;
 pub use dump::{export_image, import_image};
 pub use hex_files::{export_hex, import_hex};
 pub use inspecting::inspect_text;

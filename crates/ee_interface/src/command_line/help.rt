@@ -53,7 +53,7 @@ CYCLES: erases that a page bears, RUNS: how often the script is made; 1 to 42949
 BASE: where the part's first byte is, eight hexadecimal digits, a multiple of 8.
 A script has a command a line: w A V, r A, f A, c, x N T, p.
 In front of a command --dry-run writes no file, and --explain says more of a refusal;
-in front of states, wear, size and plan --json tells a document in JSON.
+in front of states, inspect, wear, size and plan --json tells a document in JSON.
 ee help COMMAND, or ee COMMAND --help, tells its rows here, with an example.
 
 Status: 0 done, 2 bad command line, 3 bad file, 4 refused, 5 out of memory.

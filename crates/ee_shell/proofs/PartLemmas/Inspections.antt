@@ -18,7 +18,8 @@ use Rattle.ee_pages.specs.Sets.{fill_of, front, torn_of}
 use Rattle.ee_pages.specs.declared.find.Layout.{Layout}
 use Rattle.ee_pages.proofs.Public.{fill-front, later-none, length-slots, live_to-suc, live_to-zero, live_within_fill, slots_behind}
 use Rattle.ee_image_store.specs.Told.{each_below}
-use Rattle.ee_shell.specs.Part.Inspecting.{AreSpoken, doubt_line, doubt_lines, is_before, live_slots, speaks_of, up_to_last}
+use Rattle.ee_shell.specs.declared.part.inspecting.Telling.{Telling}
+use Rattle.ee_shell.specs.Part.Inspecting.{AreSpoken, all_doubts, doubt_told, is_before, live_slots, speaks_of, up_to_last}
 
 -- four parts of a text, one behind another
 pub four_parts : (old a b given c d first second third fourth : List ℕ) → first ≡ old ++ a
@@ -42,8 +43,9 @@ unfolding each_below
 nothing_told zero text none = refl
 nothing_told (suc n) text none = rw (nothing_told n text none) (none n)
 
-not_doubted : (spoken address : ℕ) → doubt_line (is_before spoken 0) address ≡ []
-not_doubted spoken address =
+not_doubted : (telling : Telling) (spoken address : ℕ)
+    → doubt_told telling (is_before spoken 0) address ≡ []
+not_doubted telling spoken address =
     let none : nat_lt spoken 0 ≡ false = le-ltb spoken 0 (omega arith) in
     elim (cases_Bool (nat_lt 0 spoken)) [
       | inl some ↦ rw (some, none) refl
@@ -51,16 +53,16 @@ not_doubted spoken address =
     ]
 
 -- no address is in doubt where no slot is torn
-pub none_doubted : (spoken : List ℕ) (torn : ℕ) (old : List ℕ) → torn ≡ 0
+pub none_doubted : (telling : Telling) (spoken : List ℕ) (torn : ℕ) (old : List ℕ) → torn ≡ 0
     → old
     ≡ old
     ++ each_below (length spoken)
-    (λ address. doubt_line (is_before (get_or spoken address 0) torn) address)
-none_doubted spoken torn old is =
+    (λ address. doubt_told telling (is_before (get_or spoken address 0) torn) address)
+none_doubted telling spoken torn old is =
     rw is
     (rw (nothing_told (length spoken)
-    (λ address. doubt_line (is_before (get_or spoken address 0) 0) address)
-    (λ address. not_doubted (get_or spoken address 0) address)) (sym (append-nil old)))
+    (λ address. doubt_told telling (is_before (get_or spoken address 0) 0) address)
+    (λ address. not_doubted telling (get_or spoken address 0) address)) (sym (append-nil old)))
 
 -- ---- the last slot of a kind
 
@@ -176,13 +178,13 @@ spoken_more slots n slot old new within here long noted so_far = record {
       (so_far.each address below);
 }
 
--- the lines of the addresses in doubt, by the table
-pub told_doubts : (slots : List Word) (spoken : List ℕ) (torn : ℕ) → torn ≡ up_to_last is_torn slots
-    → AreSpoken slots spoken
+-- the addresses in doubt are told by the table
+pub told_doubts : (telling : Telling) (slots : List Word) (spoken : List ℕ) (torn : ℕ)
+    → torn ≡ up_to_last is_torn slots → AreSpoken slots spoken
     → each_below (length spoken)
-    (λ address. doubt_line (is_before (get_or spoken address 0) torn) address)
-    ≡ doubt_lines slots
-told_doubts slots spoken torn last table = search (rules, told_alike)
+    (λ address. doubt_told telling (is_before (get_or spoken address 0) torn) address)
+    ≡ all_doubts telling slots
+told_doubts telling slots spoken torn last table = search (rules, told_alike)
 
 -- ---- the used slots are those that give an address its value, those that are torn, and others
 

@@ -19,7 +19,10 @@ use Rattle.ee_pages.specs.declared.side.Side.TheVariants.{First, Second}
 use Rattle.ee_core.specs.State.{capacity, state_with}
 use Rattle.ee_image_store.specs.Opening.{SpellsDevice}
 use Rattle.ee_image_store.specs.Told.{each_below}
+use Rattle.ee_commands.specs.Json.{item, member, object, quoted}
 use Rattle.ee_shell.specs.declared.part.inspecting.Usage.{Usage}
+use Rattle.ee_shell.specs.declared.part.inspecting.Telling.{Telling}
+use Rattle.ee_shell.specs.declared.part.inspecting.Telling.TheVariants.{Lines, Items}
 
 -- ---- the scan
 
@@ -89,20 +92,33 @@ place_name size (Some side) page at =
     if is_page_of size side page then (if nat_lt at 4 then codes "header" else codes "slot") else
     codes "other"
 
--- the line of a word that is torn, and none for another
-abbrev pub torn_line : Device → Option Side → ℕ → ℕ → List ℕ
-torn_line device live page at =
+abbrev pub place_line : ℕ → ℕ → List ℕ → List ℕ
+place_line page at name =
+    line_of (joined_fields (codes "torn" ∷ decimal page ∷ decimal at ∷ name ∷ []))
+
+abbrev pub place_object : ℕ → ℕ → List ℕ → List ℕ
+place_object page at name =
+    object
+    (member (codes "page") (decimal page) ∷ member (codes "at") (decimal at)
+    ∷ member (codes "place") (quoted name) ∷ [])
+
+-- what is told of a torn word: a line, or an item of an array
+abbrev pub place_told : Telling → ℕ → ℕ → List ℕ → List ℕ
+place_told Lines page at name = place_line page at name
+place_told Items page at name = item (place_object page at name)
+
+-- of a word that is torn, and nothing of another
+abbrev pub torn_told : Telling → Device → Option Side → ℕ → ℕ → List ℕ
+torn_told telling device live page at =
     if is_torn (word_at device page at)
-    then line_of
-    (joined_fields
-    (codes "torn" ∷ decimal page ∷ decimal at ∷ place_name device.size live page at ∷ []))
+    then place_told telling page at (place_name device.size live page at)
     else []
 
 -- by page, and then place
-abbrev pub torn_lines : Device → Option Side → List ℕ
-torn_lines device live =
+abbrev pub all_torn : Telling → Device → Option Side → List ℕ
+all_torn telling device live =
     each_below (page_count device.size)
-    (λ page. each_below device.size.words (torn_line device live page))
+    (λ page. each_below device.size.words (torn_told telling device live page))
 
 -- ---- the addresses in doubt
 
@@ -136,14 +152,19 @@ abbrev pub is_in_doubt : List Word → ℕ → Bool
 is_in_doubt slots address =
     is_before (up_to_last (speaks_of address) slots) (up_to_last is_torn slots)
 
--- the line of an address that is in doubt, and none for another
-abbrev pub doubt_line : Bool → ℕ → List ℕ
-doubt_line doubted address =
-    if doubted then line_of (joined_fields (codes "doubt" ∷ decimal address ∷ [])) else []
+-- what is told of an address in doubt: a line, or an item of an array
+abbrev pub address_told : Telling → ℕ → List ℕ
+address_told Lines address = line_of (joined_fields (codes "doubt" ∷ decimal address ∷ []))
+address_told Items address = item (decimal address)
+
+-- of an address that is in doubt, and nothing of another
+abbrev pub doubt_told : Telling → Bool → ℕ → List ℕ
+doubt_told telling doubted address = if doubted then address_told telling address else []
 
 -- by rising address
-abbrev pub doubt_lines : List Word → List ℕ
-doubt_lines slots = each_below 65535 (λ address. doubt_line (is_in_doubt slots address) address)
+abbrev pub all_doubts : Telling → List Word → List ℕ
+all_doubts telling slots =
+    each_below 65535 (λ address. doubt_told telling (is_in_doubt slots address) address)
 
 -- ---- all of it
 
@@ -151,10 +172,10 @@ doubt_lines slots = each_below 65535 (λ address. doubt_line (is_in_doubt slots 
 abbrev pub found_lines : Device → Result Layout ScanFault → List ℕ
 found_lines device (Ok layout) =
     line_of (codes "scan ok") ++ line_of (set_text (usage_in device layout))
-    ++ torn_lines device (Some layout.side)
-    ++ doubt_lines (live_slots device layout)
+    ++ all_torn Lines device (Some layout.side)
+    ++ all_doubts Lines (live_slots device layout)
 found_lines device (Err fault) =
-    line_of (codes "scan " ++ scan_words fault) ++ torn_lines device None
+    line_of (codes "scan " ++ scan_words fault) ++ all_torn Lines device None
 
 -- the lines of a device: a scan finds a live set or a fault, one of them
 pub record AreFindings (device : Device) (lines : List ℕ) : Type 0 where

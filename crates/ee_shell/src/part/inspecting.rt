@@ -8,7 +8,8 @@ ghost use Rattle.ee_pages.specs.Meaning.{live_in, meaning};
 ghost use Rattle.ee_pages.specs.Page.{is_torn as torn};
 ghost use Rattle.ee_image_store.specs.FileFaults.{IsReadingFault};
 ghost use Rattle.ee_image_store.specs.Told.{each_below};
-ghost use Rattle.ee_shell.specs.Part.Inspecting.{AreFindings, AreSpoken, IsInspected, doubt_line, doubt_lines, found_lines, gives_to, is_before, live_slots, parts_text, place_name, scan_words, set_number, set_text, slots_text, speaks_of, torn_line, torn_lines, up_to_last, usage_in};
+ghost use Rattle.ee_commands.specs.Json.{item};
+ghost use Rattle.ee_shell.specs.Part.Inspecting.{AreFindings, AreSpoken, IsInspected, all_doubts, all_torn, doubt_told, found_lines, gives_to, is_before, live_slots, parts_text, place_line, place_name, place_object, scan_words, set_number, set_text, slots_text, speaks_of, torn_told, up_to_last, usage_in};
 ghost use Rattle.ee_interface.specs.Causes.{NamesEach};
 
 use crate::part::image::read_part;
@@ -71,8 +72,8 @@ fn push_live<A: Allocator + Copy, F: Flash>(
     let spoken = last_spoken(alloc, flash, layout)?;
     out.extend_from_slice(b"scan ok\n")?;
     push_set(usage_of(flash, layout, spoken.as_slice()), out)?;
-    push_torn(flash, Some(layout.side), out)?;
-    push_doubts(flash, layout, spoken.as_slice(), out)
+    push_torn(flash, Some(layout.side), Telling::Lines, out)?;
+    push_doubts(flash, layout, spoken.as_slice(), Telling::Lines, out)
 }
 
 /// Writes what there is to say of a device without one. After an error there may be a part of it.
@@ -85,7 +86,7 @@ fn push_fault<A: Allocator, F: Flash>(
         (out.new.items ≡ out.old.items ++ found_lines (F.device flash.now) (Err fault)) }
 {
     push_scan_fault(fault, out)?;
-    push_torn(flash, None, out)
+    push_torn(flash, None, Telling::Lines, out)
 }
 
 /// Writes the line of a scan that finds no live set. After an error there may be a part of it.
@@ -93,41 +94,61 @@ fn push_scan_fault<A: Allocator>(fault: ScanFault, out: &mut Vec<u8, A>) -> Resu
     ensures { OnOk result
         (out.new.items ≡ out.old.items ++ line_of (codes "scan " ++ scan_words fault)) }
 {
+    out.extend_from_slice(b"scan ")?;
+    push_scan_words(fault, out)?;
+    out.extend_from_slice(b"\n")
+}
+
+/// Writes why there is no live set. After an error there may be a part of it.
+pub(crate) fn push_scan_words<A: Allocator>(
+    fault: ScanFault,
+    out: &mut Vec<u8, A>,
+) -> Result<(), AllocError>
+    ensures { OnOk result (out.new.items ≡ out.old.items ++ scan_words fault) }
+{
     match fault {
-        ScanFault::Unformatted => out.extend_from_slice(b"scan unformatted\n"),
-        ScanFault::NoLiveSet => out.extend_from_slice(b"scan no live set\n"),
-        ScanFault::TwoLive => out.extend_from_slice(b"scan two live sets\n"),
+        ScanFault::Unformatted => out.extend_from_slice(b"unformatted"),
+        ScanFault::NoLiveSet => out.extend_from_slice(b"no live set"),
+        ScanFault::TwoLive => out.extend_from_slice(b"two live sets"),
         ScanFault::Foreign { page, at } => {
-            push_number_behind(out, b"scan foreign word ", page as u64)?;
-            push_number_behind(out, b" ", at as u64)?;
-            out.extend_from_slice(b"\n")
+            push_number_behind(out, b"foreign word ", page as u64)?;
+            push_number_behind(out, b" ", at as u64)
         }
     }
 }
 
 /// How the live set is used.
 #[derive(Clone, Copy)]
-struct Usage {
+pub(crate) struct Usage {
     /// Which of the two sets it is, 0 or 1.
-    set: u64,
+    pub(crate) set: u64,
     /// Its generation.
-    generation: u32,
+    pub(crate) generation: u32,
     /// How many of its slots are used.
-    fill: usize,
+    pub(crate) fill: usize,
     /// How many are free.
-    room: usize,
+    pub(crate) room: usize,
     /// How many addresses have a value.
-    live: usize,
+    pub(crate) live: usize,
     /// How many pages of the other set wait to be erased.
-    pending: usize,
+    pub(crate) pending: usize,
     /// How many used slots neither give an address its value nor are torn.
-    superseded: usize,
+    pub(crate) superseded: usize,
     /// How many slots are torn.
-    torn: usize,
+    pub(crate) torn: usize,
+}
+
+/// How torn words and addresses in doubt are told.
+#[derive(Clone, Copy)]
+pub(crate) enum Telling {
+    /// Each in a line of a text.
+    Lines,
+    /// Each as an item of a document's array.
+    Items,
 }
 
 /// How the live set is used, by the last slot that speaks of each address.
-fn usage_of<F: Flash>(flash: &F, layout: &Layout, spoken: &[usize]) -> Usage
+pub(crate) fn usage_of<F: Flash>(flash: &F, layout: &Layout, spoken: &[usize]) -> Usage
     requires layout { IsLayout (F.device flash.now) layout.now }
     requires spoken { AreSpoken (live_slots (F.device flash.now) layout.now) spoken.now }
     ensures { result ≡ usage_in (F.device flash.now) layout.now }
@@ -232,59 +253,94 @@ fn push_parts<A: Allocator>(usage: Usage, out: &mut Vec<u8, A>) -> Result<(), Al
     push_number_behind(out, b" torn ", usage.torn as u64)
 }
 
-/// Writes the lines of the torn words. After an error there may be a part of them.
-fn push_torn<A: Allocator, F: Flash>(
+/// Tells the torn words. After an error there may be a part of that.
+pub(crate) fn push_torn<A: Allocator, F: Flash>(
     flash: &F,
     live: Option<Side>,
+    telling: Telling,
     out: &mut Vec<u8, A>,
 ) -> Result<(), AllocError>
     ensures { OnOk result
-        (out.new.items ≡ out.old.items ++ torn_lines (F.device flash.now) live) }
+        (out.new.items ≡ out.old.items ++ all_torn telling (F.device flash.now) live) }
 {
     'pages: for page in 0..2 * flash.shape().pages() {
-        push_torn_in(flash, live, page, out)?;
+        push_torn_in(flash, live, page, telling, out)?;
     }
     Ok(())
 }
 
-/// Writes the lines of the torn words of a page. After an error there may be a part of them.
+/// Tells the torn words of a page. After an error there may be a part of that.
 fn push_torn_in<A: Allocator, F: Flash>(
     flash: &F,
     live: Option<Side>,
     page: usize,
+    telling: Telling,
     out: &mut Vec<u8, A>,
 ) -> Result<(), AllocError>
     requires { page < page_count (F.device flash.now).size }
     ensures { let device = F.device flash.now in OnOk result (out.new.items
-        ≡ out.old.items ++ each_below device.size.words (torn_line device live page)) }
+        ≡ out.old.items ++ each_below device.size.words (torn_told telling device live page)) }
 {
     'places: for at in 0..flash.shape().words() {
-        push_if_torn(flash, live, page, at, out)?;
+        push_if_torn(flash, live, page, at, telling, out)?;
     }
     Ok(())
 }
 
-/// Writes the line of a word, if it is torn. After an error there may be a part of it.
+/// Tells a word, if it is torn. After an error there may be a part of that.
 fn push_if_torn<A: Allocator, F: Flash>(
     flash: &F,
     live: Option<Side>,
     page: usize,
     at: usize,
+    telling: Telling,
     out: &mut Vec<u8, A>,
 ) -> Result<(), AllocError>
     requires page_in_range { page < page_count (F.device flash.now).size }
     requires place_in_range { at < (F.device flash.now).size.words }
     ensures { OnOk result
-        (out.new.items ≡ out.old.items ++ torn_line (F.device flash.now) live page at) }
+        (out.new.items ≡ out.old.items ++ torn_told telling (F.device flash.now) live page at) }
 {
     if !matches!(flash.word(page, at), Word::Torn) {
         return Ok(());
     }
+    let name = name_of(flash, live, page, at);
+    match telling {
+        Telling::Lines => push_place_line(page, at, name, out),
+        Telling::Items => push_place_item(page, at, name, out),
+    }
+}
+
+/// Writes the line of a torn word. After an error there may be a part of it.
+fn push_place_line<A: Allocator>(
+    page: usize,
+    at: usize,
+    name: &[u8],
+    out: &mut Vec<u8, A>,
+) -> Result<(), AllocError>
+    ensures { OnOk result (out.new.items ≡ out.old.items ++ place_line page at name.now) }
+{
     push_number_behind(out, b"torn ", page as u64)?;
     push_number_behind(out, b" ", at as u64)?;
     out.extend_from_slice(b" ")?;
-    out.extend_from_slice(name_of(flash, live, page, at))?;
+    out.extend_from_slice(name)?;
     out.extend_from_slice(b"\n")
+}
+
+/// Writes the object of a torn word behind a comma. After an error there may be a part of it.
+fn push_place_item<A: Allocator>(
+    page: usize,
+    at: usize,
+    name: &[u8],
+    out: &mut Vec<u8, A>,
+) -> Result<(), AllocError>
+    ensures { OnOk result (out.new.items ≡ out.old.items ++ item (place_object page at name.now)) }
+{
+    push_number_behind(out, b",{\"page\":", page as u64)?;
+    push_number_behind(out, b",\"at\":", at as u64)?;
+    out.extend_from_slice(b",\"place\":\"")?;
+    out.extend_from_slice(name)?;
+    out.extend_from_slice(b"\"}")
 }
 
 /// What a word is to the live set, if there is one.
@@ -306,20 +362,21 @@ fn name_of<F: Flash>(flash: &F, live: Option<Side>, page: usize, at: usize) -> &
     }
 }
 
-/// Writes the lines of the addresses that are in doubt, by the last slot that speaks of each. After
-/// an error there may be a part of them.
-fn push_doubts<A: Allocator, F: Flash>(
+/// Tells the addresses that are in doubt, by the last slot that speaks of each. After an error there
+/// may be a part of that.
+pub(crate) fn push_doubts<A: Allocator, F: Flash>(
     flash: &F,
     layout: &Layout,
     spoken: &[usize],
+    telling: Telling,
     out: &mut Vec<u8, A>,
 ) -> Result<(), AllocError>
     requires layout { IsLayout (F.device flash.now) layout.now }
     requires spoken { AreSpoken (live_slots (F.device flash.now) layout.now) spoken.now }
     ensures { OnOk result (out.new.items
-        ≡ out.old.items ++ doubt_lines (live_slots (F.device flash.now) layout.now)) }
+        ≡ out.old.items ++ all_doubts telling (live_slots (F.device flash.now) layout.now)) }
 {
-    push_doubted(spoken, last_torn(flash, layout), out)
+    push_doubted(spoken, last_torn(flash, layout), telling, out)
 }
 
 /// How many slots there are up to the last torn one, and with it.
@@ -339,7 +396,7 @@ fn last_torn<F: Flash>(flash: &F, layout: &Layout) -> usize
 
 /// For each number below 65535, how many slots there are up to the last one that speaks of it as an
 /// address, and with that one.
-fn last_spoken<A: Allocator, F: Flash>(
+pub(crate) fn last_spoken<A: Allocator, F: Flash>(
     alloc: A,
     flash: &F,
     layout: &Layout,
@@ -393,39 +450,47 @@ fn address_of(word: Word) -> Option<usize>
     }
 }
 
-/// Writes the lines of the addresses that are in doubt, by the last slot that speaks of each, and
-/// the last torn one. After an error there may be a part of them.
+/// Tells the addresses that are in doubt, by the last slot that speaks of each, and the last torn
+/// one. After an error there may be a part of that.
 fn push_doubted<A: Allocator>(
     spoken: &[usize],
     torn: usize,
+    telling: Telling,
     out: &mut Vec<u8, A>,
 ) -> Result<(), AllocError>
     ensures { OnOk result (out.new.items ≡ out.old.items ++ each_below (length spoken.now)
-        (λ address. doubt_line (is_before (slice_index_or spoken.now address 0) torn) address)) }
+        (λ address. doubt_told telling (is_before (slice_index_or spoken.now address 0) torn)
+        address)) }
 {
     // Nothing stands before a torn slot that is not there.
     if torn == 0 {
         return Ok(());
     }
     'addresses: for address in 0..spoken.len() {
-        push_if_doubted(address, spoken[address], torn, out)?;
+        push_if_doubted(address, spoken[address], torn, telling, out)?;
     }
     Ok(())
 }
 
-/// Writes the line of an address, if it is in doubt. After an error there may be a part of it.
+/// Tells an address, if it is in doubt. After an error there may be a part of that.
 fn push_if_doubted<A: Allocator>(
     address: usize,
     spoken: usize,
     torn: usize,
+    telling: Telling,
     out: &mut Vec<u8, A>,
 ) -> Result<(), AllocError>
     ensures { OnOk result (out.new.items
-        ≡ out.old.items ++ doubt_line (is_before spoken torn) address) }
+        ≡ out.old.items ++ doubt_told telling (is_before spoken torn) address) }
 {
     if spoken == 0 || spoken >= torn {
         return Ok(());
     }
-    push_number_behind(out, b"doubt ", address as u64)?;
-    out.extend_from_slice(b"\n")
+    match telling {
+        Telling::Lines => {
+            push_number_behind(out, b"doubt ", address as u64)?;
+            out.extend_from_slice(b"\n")
+        }
+        Telling::Items => push_number_behind(out, b",", address as u64),
+    }
 }

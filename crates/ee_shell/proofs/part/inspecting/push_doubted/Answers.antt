@@ -13,4 +13,4 @@ addresses-preserved g c =
 
 pub returns-then-torn-eq0 : goal.returns-then-torn-eq0
 returns-then-torn-eq0 g c =
-    none_doubted c.args.spoken.now c.args.torn c.args.out.now.items c.if-torn-eq0.true
+    none_doubted c.args.telling c.args.spoken.now c.args.torn c.args.out.now.items c.if-torn-eq0.true

@@ -9,6 +9,6 @@ returns g c =
     let slots = live_slots (g.F.Flash.device c.args.flash.now) c.args.layout.now in
     let told =
     ap (λ l. c.args.out.now.items ++ l)
-    (told_doubts slots c.args.spoken.now c.last_torn.result c.last_torn.ensures
+    (told_doubts c.args.telling slots c.args.spoken.now c.last_torn.result c.last_torn.ensures
     c.requires.spoken) in
     on_ok_weaker c.push_doubted.result (λ here. here ∙ told) c.push_doubted.ensures
