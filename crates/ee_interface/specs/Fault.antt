@@ -4,7 +4,7 @@ use Rattle.ee_text.specs.Line.{line_of}
 use Rattle.ee_interface.specs.declared.fault.File.{File}
 use Rattle.ee_interface.specs.declared.fault.File.TheVariants.{Image, Before, Script, Certificate, Settings, Dump, Values}
 use Rattle.ee_interface.specs.declared.fault.Fault.{Fault}
-use Rattle.ee_interface.specs.declared.fault.Fault.TheVariants.{CannotRead, TooLong, CannotWriteImage, ImageChanged, CannotWriteDump, CannotWriteOutput, OutputIsWritten, BadLine, BadShape, Unformatted, NoLiveSet, TwoLive, Foreign, SettingsText, BadName, BadField, BadRange, SameAddress, UnknownName, OutOfRange, Full, Spent, Absent, HoldsValues, NothingToRescue, NotFitting, WrongStart, NotRising, WrongFrom, NotForced, OtherShape, Backwards, NoSizeEnough, DumpLength, DumpOfWords, DumpOfPairs, DumpOfCoded, LowPair, Misplaced, DumpUnused, DumpNoCrc, DumpFull, TornWord, Uncoded, Base, ValuesText, BadValue, UnknownValue, ValueOutOfRange, FullAt, SpentAt, ValuesDiffer, Memory}
+use Rattle.ee_interface.specs.declared.fault.Fault.TheVariants.{CannotRead, TooLong, CannotWriteImage, ImageChanged, CannotWriteDump, CannotWriteOutput, OutputIsWritten, BadLine, BadShape, Unformatted, NoLiveSet, TwoLive, Foreign, SettingsText, BadName, BadField, BadRange, SameAddress, UnknownName, RecordName, OutOfRange, Full, Spent, Absent, HoldsValues, NothingToRescue, NotFitting, WrongStart, NotRising, WrongFrom, NotForced, OtherShape, Backwards, NoSizeEnough, DumpLength, DumpOfWords, DumpOfPairs, DumpOfCoded, LowPair, Misplaced, DumpUnused, DumpNoCrc, DumpFull, TornWord, Uncoded, Base, ValuesText, BadValue, UnknownValue, ValueOutOfRange, FullAt, SpentAt, ValuesDiffer, Memory}
 use Rattle.ee_image.specs.declared.fault.ImageFault.{ImageFault}
 use Rattle.ee_image.specs.declared.fault.ImageFault.TheVariants as image
 use Rattle.ee_pages.specs.declared.find.ScanFault.{ScanFault}
@@ -52,6 +52,7 @@ cause (BadField entry) = codes "settings entry " ++ decimal entry ++ codes " bad
 cause (BadRange entry) = codes "settings entry " ++ decimal entry ++ codes " bad range"
 cause (SameAddress entry) = codes "settings entry " ++ decimal entry ++ codes " same address"
 cause UnknownName = codes "unknown name"
+cause RecordName = codes "name of a record"
 cause (OutOfRange min max) = codes "out of range " ++ decimal min ++ codes " " ++ decimal max
 cause Full = codes "full"
 cause Spent = codes "spent"
@@ -97,6 +98,7 @@ fault_text fault = line_of (codes "ee: " ++ cause fault)
 abbrev pub status : Fault → ℕ
 status OutputIsWritten = 4
 status UnknownName = 4
+status RecordName = 4
 status (OutOfRange min max) = 4
 status Full = 4
 status Spent = 4

@@ -88,6 +88,8 @@ pub enum Fault {
     SameAddress(u64),
     /// No setting has the name.
     UnknownName,
+    /// A record has the name, and a setting is wanted.
+    RecordName,
     /// The value is not in the range of the setting.
     OutOfRange { min: u32, max: u32 },
     /// The address has no value, and as many addresses have one as there are slots.
@@ -208,6 +210,7 @@ impl Fault {
             Fault::BadRange(_) => " bad range",
             Fault::SameAddress(_) => " same address",
             Fault::UnknownName => "unknown name",
+            Fault::RecordName => "name of a record",
             Fault::OutOfRange { .. } => "out of range ",
             Fault::Full => "full",
             Fault::Spent => "spent",
@@ -447,6 +450,7 @@ pub fn status_of(fault: &Fault) -> u8
         | Fault::BadValue(_) => 3,
         Fault::OutputIsWritten
         | Fault::UnknownName
+        | Fault::RecordName
         | Fault::OutOfRange { .. }
         | Fault::Full
         | Fault::Spent

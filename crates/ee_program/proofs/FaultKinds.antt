@@ -10,7 +10,7 @@ use Rattle.std.proofs.lemmas.Nat.{mod_below}
 use Rattle.ee_text.specs.Line.{line_of}
 use Rattle.ee_interface.specs.declared.fault.File.TheVariants.{Image, Before, Script, Certificate, Settings, Dump, Values}
 use Rattle.ee_interface.specs.declared.fault.Fault.{Fault}
-use Rattle.ee_interface.specs.declared.fault.Fault.TheVariants.{CannotRead, TooLong, CannotWriteImage, ImageChanged, CannotWriteDump, CannotWriteOutput, OutputIsWritten, BadLine, BadShape, Unformatted, NoLiveSet, TwoLive, Foreign, SettingsText, BadName, BadField, BadRange, SameAddress, UnknownName, OutOfRange, Full, Spent, Absent, HoldsValues, NothingToRescue, NotFitting, WrongStart, NotRising, WrongFrom, NotForced, OtherShape, Backwards, NoSizeEnough, DumpLength, DumpOfWords, DumpOfPairs, DumpOfCoded, LowPair, Misplaced, TornWord, Uncoded, Base, ValuesText, BadValue, UnknownValue, ValueOutOfRange, FullAt, SpentAt, ValuesDiffer, Memory, DumpUnused, DumpNoCrc, DumpFull}
+use Rattle.ee_interface.specs.declared.fault.Fault.TheVariants.{CannotRead, TooLong, CannotWriteImage, ImageChanged, CannotWriteDump, CannotWriteOutput, OutputIsWritten, BadLine, BadShape, Unformatted, NoLiveSet, TwoLive, Foreign, SettingsText, BadName, BadField, BadRange, SameAddress, UnknownName, OutOfRange, Full, Spent, Absent, HoldsValues, NothingToRescue, NotFitting, WrongStart, NotRising, WrongFrom, NotForced, OtherShape, Backwards, NoSizeEnough, DumpLength, DumpOfWords, DumpOfPairs, DumpOfCoded, LowPair, Misplaced, TornWord, Uncoded, Base, ValuesText, BadValue, UnknownValue, ValueOutOfRange, FullAt, SpentAt, ValuesDiffer, Memory, DumpUnused, DumpNoCrc, DumpFull, RecordName}
 use Rattle.ee_interface.specs.CommandLine.Operands.{is_decimal_digit}
 use Rattle.ee_program.specs.Explain.Telling.{IsToldBy, line_words, without_digits}
 use Rattle.ee_program.specs.declared.explain.telling.TheConstants.{KINDS}
@@ -276,6 +276,8 @@ each_kind words none DumpNoCrc told =
     none 75 Memory (omega arith) told
 each_kind words none DumpFull told =
     none 76 Memory (omega arith) told
+each_kind words none RecordName told =
+    none 77 Memory (omega arith) told
 
 -- where no kind has the words of a line, no fault has
 pub none_told : (told : Option Fault) (words line : List ℕ) → words ≡ without_digits (line_of line)

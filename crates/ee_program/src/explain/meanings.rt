@@ -68,6 +68,7 @@ fn cause_of_settings(fault: &Fault) -> &'static str {
             "numbers of that entry are out of range, min is above max, or default not between them",
         Fault::SameAddress(_) => "that entry has the address of an earlier one",
         Fault::UnknownName => "no setting has the name",
+        Fault::RecordName => "a record has the name, whose bytes the firmware writes",
         Fault::UnknownValue(_) => "no setting has the name of that entry",
         Fault::BadValue(_) => "what that entry has is no whole number",
         Fault::OutOfRange { .. } => "the value is not in the setting's range",

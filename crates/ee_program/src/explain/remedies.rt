@@ -50,6 +50,7 @@ fn remedy_of_work(fault: &Fault) -> &'static str {
         Fault::BadRange(_) => "address is 1 to 65534, and default between min and max",
         Fault::SameAddress(_) => "each setting has an address of its own",
         Fault::UnknownName | Fault::UnknownValue(_) => "see the names: ee header SETTINGS",
+        Fault::RecordName => "name a setting; the firmware writes its records",
         Fault::OutOfRange { .. } | Fault::ValueOutOfRange { .. } | Fault::BadValue(_) => {
             "give a whole number in the setting's range: ee header SETTINGS"
         }

@@ -114,6 +114,7 @@ const KINDS: &[Fault] = &[
     Fault::DumpUnused,
     Fault::DumpNoCrc,
     Fault::DumpFull,
+    Fault::RecordName,
 ];
 
 /// The words of the line that is to be explained: those behind `explain`, one at least.

@@ -11,20 +11,22 @@ use Rattle.ee_core.specs.declared.variables.Written.TheVariants as written
 use Rattle.ee_settings.proofs.Public.{one_fault, names_apart, never_refused, schema_once}
 use Rattle.ee_settings.specs.Calls.{IsNamed, IsUnknown, Sets}
 use Rattle.ee_settings.specs.File.{GivesSchema, HaveRisingKeys, entries_of}
-use Rattle.ee_settings.specs.Setting.{HaveRisingNames, IsInRange, Schema, Setting}
+use Rattle.ee_settings.specs.Setting.{HaveRisingNames, IsInRange, RecordSetting, Schema, Setting}
 use Rattle.ee_settings.specs.declared.fault.SchemaFault.{SchemaFault}
 use Rattle.ee_settings.specs.declared.fault.SchemaFault.TheVariants as schema
 use Rattle.ee_interface.specs.declared.script.answer.Answer.{Answer}
 use Rattle.ee_interface.specs.declared.script.answer.Answer.TheVariants.{Appended, Moved}
 use Rattle.ee_interface.specs.declared.script.command.Command.{Command}
 use Rattle.ee_interface.specs.declared.script.command.Command.TheVariants.{Write}
-use Rattle.ee_shell.specs.ByName.Settings.{fault_of_schema, HasTree, IsGetFault, IsGot, IsReadingLine, IsUnknownIn, IsUnknownTo, IsSettingRefused, IsRefusedIn, IsSet, IsSettingsFault, IsValueRefusal, IsWriteRefusal, IsCommandServed, IsWriteServed, IsWritten, LeavesSet, SpellsSchema, SpellsSettings}
+use Rattle.ee_shell.specs.ByName.Applying.{HasSettings}
+use Rattle.ee_shell.specs.ByName.Records.{IsNoRecord, IsRecordNamed}
+use Rattle.ee_shell.specs.ByName.Settings.{fault_of_schema, HasTree, IsGetFault, IsGot, IsReadingLine, IsUnknownIn, IsUnknownTo, IsSettingRefused, IsRecordIn, IsRefusedIn, IsSet, IsSettingsFault, IsValueRefusal, IsWriteRefusal, IsCommandServed, IsWriteServed, IsWritten, LeavesSet, SpellsSchema, SpellsSettings}
 use Rattle.ee_interface.specs.declared.fault.Fault.{Fault}
-use Rattle.ee_interface.specs.declared.fault.Fault.TheVariants.{Memory, UnknownName}
+use Rattle.ee_interface.specs.declared.fault.Fault.TheVariants.{Memory, RecordName, UnknownName}
 use Rattle.ee_image_store.proofs.Public.{both, by_append, by_move, no_memory_to_open, pages_since, same_at_rest, same_state}
 use Rattle.ee_image_store.specs.Erases.{ErasesRise, erases_left_by}
 use Rattle.ee_image_store.specs.Machine.{MachineStep}
-use Rattle.ee_image_store.specs.Opening.{IsOpened, IsStoreLeft, IsStoreText, StaysOn}
+use Rattle.ee_image_store.specs.Opening.{HasStore, IsOpened, IsStoreLeft, IsStoreText, StaysOn}
 use Rattle.ee_image_store.specs.Steps.{Steps}
 
 -- ---- the text of the settings
@@ -430,3 +432,50 @@ pub set_good : (image text name : List ℕ) (value : ℕ) (store new : Device) (
 set_good image text name value store new settings cause opened spelled done some h =
     written_good settings store new name value cause spelled.schema.1 some done
     (refused_there image text name value store settings cause opened spelled h)
+
+-- ---- a record's name
+
+pub no_record_in : (text name : List ℕ) (whole : Schema) (records : List RecordSetting)
+    → SpellsSchema text whole → records ≡ whole.records → IsNoRecord records name
+    → IsRecordIn text name → ⊥
+no_record_in text name whole records spelled are none h =
+    none h.one
+    (subst (λ (rs : List RecordSetting). IsRecordNamed rs name h.one)
+    (ap (λ (w : Schema). w.records) (whole_once text h.whole whole h.spelled spelled) ∙ sym are)
+    h.named)
+
+-- where a record has the name, that is the cause
+pub record_first : {Other : Type 0} (image text name : List ℕ) (cause : Fault)
+    → IsRecordIn text name
+    → (HasStore image × IsRecordIn text name × (cause ≡ RecordName))
+    ⊎ (¬ IsRecordIn text name × Other) → (RecordName ≡ cause) ⊎ (RecordName ≡ Memory)
+record_first image text name cause here (inl h) = inl (sym h.2)
+record_first image text name cause here (inr h) = absurd (h.0 here)
+
+-- where none has, the others are left
+pub others_left : {Other Answer : Type 0} (image text name : List ℕ) (cause : Fault)
+    → (IsRecordIn text name → ⊥)
+    → (HasStore image × IsRecordIn text name × (cause ≡ RecordName))
+    ⊎ (¬ IsRecordIn text name × Other) → (Other → Answer) → Answer
+others_left image text name cause none (inl h) other = absurd (none h.1)
+others_left image text name cause none (inr h) other = other h.1
+
+pub record_in : (text name : List ℕ) (whole : Schema) (records : List RecordSetting)
+    (one : RecordSetting)
+    → SpellsSchema text whole → records ≡ whole.records → IsRecordNamed records name one
+    → IsRecordIn text name
+record_in text name whole records one spelled are named = record {
+  whole = whole;
+  spelled = spelled;
+  one = one;
+  named = subst (λ (rs : List RecordSetting). IsRecordNamed rs name one) are named;
+}
+
+-- either takes a store and settings
+pub takes_both : {Other : Type 0} (image text name : List ℕ) (cause : Fault)
+    → (Other → HasStore image × HasSettings text)
+    → (HasStore image × IsRecordIn text name × (cause ≡ RecordName))
+    ⊎ (¬ IsRecordIn text name × Other) → HasStore image × HasSettings text
+takes_both image text name cause other (inl h) =
+    (h.0, (h.1.whole.settings, spells_settings text h.1.whole h.1.spelled))
+takes_both image text name cause other (inr h) = other h.1

@@ -23,11 +23,11 @@ use Rattle.ee_interface.specs.declared.script.answer.Answer.TheVariants.{Appende
 use Rattle.ee_interface.specs.declared.script.command.Command.{Command}
 use Rattle.ee_interface.specs.declared.script.command.Command.TheVariants.{Write}
 use Rattle.ee_interface.specs.declared.fault.Fault.{Fault}
-use Rattle.ee_interface.specs.declared.fault.Fault.TheVariants.{SettingsText, BadName, BadField, BadRange, SameAddress, UnknownName, OutOfRange, Full, Spent, Memory}
+use Rattle.ee_interface.specs.declared.fault.Fault.TheVariants.{SettingsText, BadName, BadField, BadRange, SameAddress, UnknownName, RecordName, OutOfRange, Full, Spent, Memory}
 use Rattle.ee_image_store.specs.FileFaults.{IsOpeningFault}
 use Rattle.ee_image_store.specs.Opening.{HasStore, IsStoreLeft, IsStoreText, StaysOn}
 use Rattle.ee_image_store.specs.Steps.{Steps}
-use Rattle.ee_shell.specs.ByName.Records.{IsNoRecord, IsRecordLine}
+use Rattle.ee_shell.specs.ByName.Records.{IsNoRecord, IsRecordLine, IsRecordNamed}
 
 -- ---- the text of the settings
 
@@ -179,6 +179,13 @@ pub record IsUnknownIn (settings_text name : List ℕ) : Type 0 where
   pub spelled : SpellsSchema settings_text whole
   pub unknown : IsUnknownTo whole name
 
+-- the name of a record that the text spells
+pub record IsRecordIn (settings_text name : List ℕ) : Type 0 where
+  pub whole : Schema
+  pub spelled : SpellsSchema settings_text whole
+  pub one : RecordSetting
+  pub named : IsRecordNamed whole.records name one
+
 -- why an image isn't opened with a text of settings, the first cause that applies: no store is
 -- opened; or the text spells no settings
 abbrev pub IsOpenWithSettingsFault : List ℕ → List ℕ → Fault → Type 0
@@ -203,12 +210,13 @@ pub record IsRefusedIn (image settings_text name : List ℕ) (value : ℕ) (faul
   pub refused : IsSettingRefused settings device.size (state_of device) name value fault
 
 -- why nothing is set, the first cause that applies: no store is opened; or the text spells no
--- settings; or the value is refused
+-- settings; or a record has the name; or the value is refused
 abbrev pub IsSetFault : List ℕ → List ℕ → List ℕ → ℕ → Fault → Type 0
 IsSetFault image settings_text name value fault =
     IsOpeningFault image fault
     ⊎ (HasStore image × IsSettingsFault settings_text fault)
-    ⊎ IsRefusedIn image settings_text name value fault
+    ⊎ (HasStore image × IsRecordIn settings_text name × (fault ≡ RecordName))
+    ⊎ (¬ IsRecordIn settings_text name × IsRefusedIn image settings_text name value fault)
 
 -- ---- for the functions within
 

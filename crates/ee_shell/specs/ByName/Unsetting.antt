@@ -12,10 +12,10 @@ use Rattle.ee_settings.specs.Calls.{IsNamed, IsUnknown}
 use Rattle.ee_settings.specs.Setting.{Setting}
 use Rattle.ee_interface.specs.declared.script.command.Command.TheVariants.{Forget}
 use Rattle.ee_interface.specs.declared.fault.Fault.{Fault}
-use Rattle.ee_interface.specs.declared.fault.Fault.TheVariants.{Absent, Memory, Spent, UnknownName}
+use Rattle.ee_interface.specs.declared.fault.Fault.TheVariants.{Absent, Memory, RecordName, Spent, UnknownName}
 use Rattle.ee_image_store.specs.FileFaults.{IsOpeningFault}
 use Rattle.ee_image_store.specs.Opening.{HasStore, IsStoreLeft, IsStoreText, StaysOn}
-use Rattle.ee_shell.specs.ByName.Settings.{IsCommandServed, IsSettingsFault, SpellsSettings}
+use Rattle.ee_shell.specs.ByName.Settings.{IsCommandServed, IsRecordIn, IsSettingsFault, SpellsSettings}
 
 -- ---- what is left
 
@@ -73,12 +73,13 @@ pub record IsUnsettingRefusedIn (image settings_text name : List ℕ) (fault : F
   pub refused : IsUnsettingRefused settings device.size (state_of device) name fault
 
 -- why nothing is forgotten, the first cause that applies: no store is opened; or the text spells no
--- settings; or the forgetting is refused
+-- settings; or a record has the name; or the forgetting is refused
 abbrev pub IsUnsetFault : List ℕ → List ℕ → List ℕ → Fault → Type 0
 IsUnsetFault image settings_text name fault =
     IsOpeningFault image fault
     ⊎ (HasStore image × IsSettingsFault settings_text fault)
-    ⊎ IsUnsettingRefusedIn image settings_text name fault
+    ⊎ (HasStore image × IsRecordIn settings_text name × (fault ≡ RecordName))
+    ⊎ (¬ IsRecordIn settings_text name × IsUnsettingRefusedIn image settings_text name fault)
 
 -- ---- for the functions within
 

@@ -56,8 +56,8 @@ pub fn get_setting<A: Allocator + Copy>(
 /// # Errors
 ///
 /// The first that applies: the image is no device's, or not legal; the text of the settings is no
-/// TOML, or no schema; no setting has the name; the value is not in its range; the store is full,
-/// or spent. `Memory` can come in place of any answer.
+/// TOML, or no schema; a record has the name; no setting has it; the value is not in its range; the
+/// store is full, or spent. `Memory` can come in place of any answer.
 pub fn set_setting<A: Allocator + Copy>(
     alloc: A,
     heap: Global,
@@ -73,7 +73,10 @@ pub fn set_setting<A: Allocator + Copy>(
     ensures names { NamesEach Fault.Memory (IsSetFault image.now settings.now name.now value) result }
 {
     let opened = open_with_settings(alloc, heap, image, settings)?;
-    set_left(alloc, opened.store, &opened.schema, name, value)
+    match find_record(opened.schema.records(), name) {
+        Some(_) => Err(Fault::RecordName),
+        None => set_left(alloc, opened.store, &opened.schema, name, value),
+    }
 }
 
 /// The line of what the setting or the record of a name reads as in a store whose power stays on.

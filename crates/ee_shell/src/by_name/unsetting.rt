@@ -6,6 +6,7 @@ ghost use Rattle.ee_shell.specs.ByName.Unsetting.{IsForgotten, IsUnset, IsUnsetF
 ghost use Rattle.ee_interface.specs.Causes.{NamesEach};
 
 use super::opening::open_with_settings;
+use super::recorded::find_record;
 use ee_core::{ForgetFault, Store, Variables};
 use ee_flash::MemFlash;
 use ee_image_store::{ImageAndText, text_left};
@@ -23,8 +24,8 @@ use std::alloc::{Allocator, Global};
 /// # Errors
 ///
 /// The first that applies: the image is no device's, or not legal; the text of the settings is no
-/// TOML, or no schema; no setting has the name; its address has no value; the store is spent.
-/// `Memory` can come in place of any answer.
+/// TOML, or no schema; a record has the name; no setting has it; its address has no value; the
+/// store is spent. `Memory` can come in place of any answer.
 pub fn unset_setting<A: Allocator + Copy>(
     alloc: A,
     heap: Global,
@@ -39,7 +40,10 @@ pub fn unset_setting<A: Allocator + Copy>(
     ensures names { NamesEach Fault.Memory (IsUnsetFault image.now settings.now name.now) result }
 {
     let opened = open_with_settings(alloc, heap, image, settings)?;
-    unset_left(alloc, opened.store, &opened.schema, name)
+    match find_record(opened.schema.records(), name) {
+        Some(_) => Err(Fault::RecordName),
+        None => unset_left(alloc, opened.store, &opened.schema, name),
+    }
 }
 
 /// Forgets the value of the setting of a name in a store whose power stays on, and gives what this
