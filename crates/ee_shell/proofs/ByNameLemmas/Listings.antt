@@ -1,16 +1,18 @@
 -- The lines of what an image holds.
-use Rattle.std.proofs.Common.{◌≡◌, ℕ, Option, List, [], ◌∷◌, ◌++◌, sym, ap, append-nil, codes, decimal, rules, arith}
+use Rattle.std.proofs.Common.{◌≡◌, ◌∙◌, ℕ, Option, List, [], ◌∷◌, ◌++◌, refl, sym, ap, subst, append-nil, append_assoc, codes, decimal, arith}
 use Rattle.std.proofs.lemmas.Grind.{common_steps, flat_map-append}
 use Rattle.ee_text.specs.Field.{joined_fields, space}
 use Rattle.ee_text.specs.Line.{line_feed}
-use Rattle.ee_core.specs.State.{state_of}
+use Rattle.ee_core.specs.State.{State, state_of}
 use Rattle.ee_flash.specs.Device.{Device}
-use Rattle.ee_settings.specs.Listing.{listed_in}
-use Rattle.ee_settings.specs.Setting.{Setting}
+use Rattle.ee_pages.specs.Meaning.{Map}
+use Rattle.ee_settings.specs.Setting.{RecordSetting, Schema, Setting}
 use Rattle.ee_settings.specs.declared.listing.Held.{Held}
 use Rattle.ee_settings.specs.declared.listing.Listed.{Listed}
-use Rattle.ee_shell.specs.ByName.Listing.{AreNamed, IsList, held_words, listed_line, listed_lines, name_words, words_behind}
+use Rattle.ee_shell.specs.ByName.Listing.{AreLines, AreNamed, AreRecordLines, IsList, held_words, listed_line, name_words, told_record, recorded_words, words_behind}
+use Rattle.ee_shell.specs.ByName.Records.{IsRecordRead}
 use Rattle.ee_shell.specs.ByName.Verifying.{difference_line}
+use Rattle.ee_shell.specs.declared.by_name.recorded.Origin.{Origin}
 use Rattle.ee_interface.specs.declared.fault.Fault.{Fault}
 use Rattle.ee_interface.specs.declared.fault.Fault.TheVariants.{Memory}
 use Rattle.ee_image_store.proofs.Public.{no_memory_to_open}
@@ -44,10 +46,41 @@ difference_made out name named held wanted done what value first second third fo
 pub no_memory : (image : List ℕ) (fault : Fault) → fault ≡ Memory → IsOpeningFault image fault
 no_memory image fault none = rw none (no_memory_to_open image)
 
+-- the line of a record, part by part
+pub record_made : (one : RecordSetting) (origin : Origin)
+    (spelled out numbered told named done : List ℕ)
+    → numbered ≡ out ++ decimal one.form.base
+    → told ≡ numbered ++ words_behind (recorded_words origin spelled)
+    → named ≡ told ++ space ∷ one.name
+    → done ≡ named ++ line_feed ∷ [] → done ≡ out ++ told_record one origin spelled
+record_made one origin spelled out numbered told named done first second third fourth =
+    grind (arith, common_steps, flat_map-append, joined_behind)
+
+-- one record more
+pub records_more : (map : Map) (records : List RecordSetting) (one : RecordSetting)
+    (lines spelled : List ℕ) (origin : Origin)
+    → AreRecordLines map records lines → IsRecordRead map one.form origin spelled
+    → AreRecordLines map (records ++ one ∷ []) (lines ++ told_record one origin spelled)
+records_more map [] one lines spelled origin none here =
+    (origin, spelled, here, [], refl, rw none (sym (append-nil (told_record one origin spelled))))
+records_more map (first ∷ records) one lines spelled origin h here = (
+  h.0,
+  h.1,
+  h.2,
+  h.3 ++ told_record one origin spelled,
+  records_more map records one h.3 spelled origin h.4 here,
+  ap (λ (l : List ℕ). l ++ told_record one origin spelled) h.5
+      ∙ append_assoc {a = told_record first h.0 h.1} {b = h.3} {c = told_record one origin spelled},
+)
+
 -- the lines of what the opened store holds are those of the image
-pub is_list : (image lines : List ℕ) (store : Device) (settings : List Setting)
-    (named : Option (List ℕ))
-    → IsOpened image store → AreNamed named settings
-    → lines ≡ listed_lines settings (listed_in settings (state_of store).map)
+pub is_list : (image lines : List ℕ) (store : Device) (whole : Schema) (named : Option (List ℕ))
+    → IsOpened image store → AreNamed named whole → AreLines whole (state_of store).map lines
     → IsList image named lines
-is_list image lines store settings named opened spelled says = search rules
+is_list image lines store whole named opened spelled says = record {
+  device = opened.device;
+  old = opened.old;
+  whole = whole;
+  named = spelled;
+  lines_are = subst (λ (state : State). AreLines whole state.map lines) opened.state_is says;
+}

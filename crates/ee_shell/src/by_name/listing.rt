@@ -1,26 +1,31 @@
 //! The command that tells what an image holds.
-ghost use Rattle.std.specs.Prelude.{◌≡◌, ◌++◌, Some, None, IfOk, IfErr, OnOk};
+ghost use Rattle.std.specs.Prelude.{◌≡◌, ◌++◌, ◌<◌, ◌≤◌, ℕ, List, Some, None, IfOk, IfErr, OnOk};
 ghost use Rattle.std.specs.Option.{option_map};
+ghost use Rattle.ee_flash.specs.Device.{IsOn};
 ghost use Rattle.ee_core.specs.State.{state_of};
-ghost use Rattle.ee_settings.specs.Listing.{listed_in};
-ghost use Rattle.ee_shell.specs.ByName.Listing.{IsList, IsListTextFault, held_words, listed_line, listed_lines, name_words, words_behind};
+ghost use Rattle.ee_settings.specs.Setting.{has_record_at, is_of};
+ghost use Rattle.ee_shell.specs.ByName.Listing.{AreLines, AreRecordLines, IsList, IsListTextFault, held_words, listed_line, listed_lines, name_words, told_record, setting_line, words_behind};
 ghost use Rattle.ee_image_store.specs.Opening.{StaysOn};
 ghost use Rattle.ee_interface.specs.Causes.{NamesEach};
 
 use super::opening::open_with_settings;
+use super::recorded::{Origin, Recorded, read_recorded};
+use ee_codec::Address;
 use ee_core::Store;
 use ee_flash::MemFlash;
 use ee_image_store::open_image;
 use ee_interface::Fault;
-use ee_settings::{Held, ListFault, Listed, Schema};
+use ee_settings::{Held, ListFault, Listed, RecordSetting, Schema};
 use ee_text::{push_number, push_number_behind};
 use std::alloc::{AllocError, Allocator, Global};
 
 /// What the image that a text spells holds, as there is to print: a line for each address that has
 /// a value, `A V`, by rising address. Where there is a text of settings, the line of an address
 /// that a setting has ends with the setting's name: `A V NAME`, or `A V stale NAME` where the value
-/// isn't in its range; and a setting without a value has a line `A default D NAME`. `heap` is for
-/// the tree of that text alone: `toml` takes no other allocator.
+/// isn't in its range; and a setting without a value has a line `A default D NAME`. The addresses
+/// of records have none of these: behind them stands a line for each record, by rising name, with
+/// its first address, `A B NAME`, `A default B NAME` or `A hurt NAME`. `heap` is for the tree of that
+/// text alone: `toml` takes no other allocator.
 ///
 /// Source: ours.
 ///
@@ -81,8 +86,8 @@ fn lines_on<A: Allocator + Copy>(
     schema: &Schema<A>,
 ) -> Result<Vec<u8, A>, Fault>
     requires { StaysOn store.now }
-    ensures lines { IfOk result (λ text. text.items
-        ≡ listed_lines schema.now.settings (listed_in schema.now.settings (state_of store.now).map)) }
+    ensures lines { IfOk result (λ text.
+        AreLines schema.now (state_of store.now).map text.items) }
     ensures fault { IfErr result (λ fault. fault ≡ Fault.Memory) }
 {
     let listed = match schema.list(alloc, store) {
@@ -92,21 +97,102 @@ fn lines_on<A: Allocator + Copy>(
     };
     let mut text = Vec::new(alloc);
     push_lines(&mut text, schema, listed.as_slice())?;
+    push_records(alloc, &mut text, store, schema.records())?;
     Ok(text)
 }
 
-/// Writes the lines of listed addresses. After an error there may be a part of them.
+/// Writes the lines of listed addresses that no record has. After an error there may be a part of
+/// them.
 fn push_lines<A: Allocator>(
     out: &mut Vec<u8, A>,
     schema: &Schema<A>,
     listed: &[Listed],
 ) -> Result<(), AllocError>
-    ensures { OnOk result (out.new.items ≡ out.old.items ++ listed_lines schema.now.settings listed.now) }
+    ensures { OnOk result (out.new.items ≡ out.old.items ++ listed_lines schema.now listed.now) }
 {
     for one in listed {
-        push_listed(out, schema, *one)?;
+        push_unrecorded(out, schema, *one)?;
     }
     Ok(())
+}
+
+/// Writes the line of a listed address, if no record has it. After an error there may be a part of
+/// it.
+fn push_unrecorded<A: Allocator>(
+    out: &mut Vec<u8, A>,
+    schema: &Schema<A>,
+    listed: Listed,
+) -> Result<(), AllocError>
+    ensures { OnOk result (out.new.items ≡ out.old.items ++ setting_line schema.now listed) }
+{
+    if has_record_at(schema.records(), listed.address) {
+        return Ok(());
+    }
+    push_listed(out, schema, listed)
+}
+
+/// Whether a record has the address.
+fn has_record_at<A: Allocator>(records: &[RecordSetting<A>], address: Address) -> bool
+    ensures { result ≡ has_record_at records.now address }
+{
+    for one in records {
+        if is_of(one, address) {
+            return true;
+        }
+    }
+    false
+}
+
+/// Whether the record has the address.
+fn is_of<A: Allocator>(one: &RecordSetting<A>, address: Address) -> bool
+    ensures { result ≡ is_of one.now.form address }
+{
+    let room = one.room();
+    let first = u32::from(room.base.get());
+    let number = u32::from(address.get());
+    first <= number && number <= first + 2 * ((room.size + 3) / 4 + 1)
+}
+
+/// Writes the lines of records, as they read in a store that is on. After an error there may be a
+/// part of them.
+fn push_records<A: Allocator + Copy>(
+    alloc: A,
+    out: &mut Vec<u8, A>,
+    store: &Store<MemFlash<A>>,
+    records: &[RecordSetting<A>],
+) -> Result<(), AllocError>
+    requires { IsOn store.now }
+    ensures { OnOk result ((lines : List ℕ)
+        × AreRecordLines (state_of store.now).map records.now lines
+        × (out.new.items ≡ out.old.items ++ lines)) }
+{
+    for one in records {
+        let recorded = read_recorded(alloc, store, one)?;
+        push_recorded(out, one, &recorded)?;
+    }
+    Ok(())
+}
+
+/// Writes the line of a record. After an error there may be a part of it.
+fn push_recorded<A: Allocator>(
+    out: &mut Vec<u8, A>,
+    one: &RecordSetting<A>,
+    recorded: &Recorded<A>,
+) -> Result<(), AllocError>
+    ensures { OnOk result (out.new.items
+        ≡ out.old.items ++ told_record one.now recorded.now.origin recorded.now.spelled.items) }
+{
+    push_number(out, u64::from(one.room().base.get()))?;
+    let (before, spelled) = match recorded.origin {
+        Origin::Stored => (b" ".as_slice(), recorded.spelled.as_slice()),
+        Origin::Default => (b" default ".as_slice(), recorded.spelled.as_slice()),
+        Origin::Hurt => (b" hurt".as_slice(), b"".as_slice()),
+    };
+    out.extend_from_slice(before)?;
+    out.extend_from_slice(spelled)?;
+    out.extend_from_slice(b" ")?;
+    out.extend_from_slice(one.name().as_bytes())?;
+    out.extend_from_slice(b"\n")
 }
 
 /// Writes the line of a listed address. After an error there may be a part of it.

@@ -12,8 +12,8 @@ returns-in_err-opened-clause-names g c =
 pub returns-clause-list : goal.returns-clause-list
 returns-clause-list g c = IfOk-weaker c.lines_on.result _ _
     (λ text. is_list c.args.image.now text.items c.in_ok-opened.opened.store
-    c.in_ok-opened.opened.schema.settings _ c.in_ok-opened.ensures.opened
-    c.in_ok-opened.ensures.spelled)
+    c.in_ok-opened.opened.schema _ c.in_ok-opened.ensures.opened
+    c.in_ok-opened.ensures.whole)
     c.lines_on.ensures.lines
 
 pub returns-clause-fault : goal.returns-clause-fault

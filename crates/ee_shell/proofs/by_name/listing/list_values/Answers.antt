@@ -1,8 +1,6 @@
 use Rattle.std.proofs.lemmas.Result.{IfErr-weaker, IfOk-weaker, err_from_is_err_and}
 use Rattle.ee_shell.proofs.ByNameLemmas.Listings.{is_list, no_memory}
 use Rattle.ee_image_store.proofs.Public.{opening_good, opening_named}
-use Rattle.std.proofs.Common.{ap}
-use Rattle.ee_settings.specs.Setting.{Schema}
 use Rattle.ee_shell.proofs.by_name.listing.list_values.Goals as goal
 
 pub returns-in_err-store-clause-names : goal.returns-in_err-store-clause-names
@@ -24,6 +22,6 @@ returns-clause-names g c = λ cause some applies.
 
 pub returns-clause-list : goal.returns-clause-list
 returns-clause-list g c = IfOk-weaker c.lines_on.result _ _
-    (λ text. is_list c.args.image.now text.items c.in_ok-store.store c.empty-schema.result.settings _
-    c.in_ok-store.ensures.opened (ap (λ (s : Schema). s.settings) c.empty-schema.ensures))
+    (λ text. is_list c.args.image.now text.items c.in_ok-store.store c.empty-schema.result _
+    c.in_ok-store.ensures.opened c.empty-schema.ensures)
     c.lines_on.ensures.lines

@@ -5,4 +5,4 @@ use Rattle.ee_shell.proofs.by_name.listing.push_lines.Given as goal
 -- the lines so far are written
 abbrev pub invariant-loop-one : goal.invariant-loop-one
 invariant-loop-one g l =
-    l.out.items ≡ l.fn.out.items ++ listed_lines l.schema.settings (take l.one-index l.listed)
+    l.out.items ≡ l.fn.out.items ++ listed_lines l.schema (take l.one-index l.listed)
