@@ -6,3 +6,4 @@ pub mod Inspections
 pub mod Doubts
 pub mod Counting
 pub mod ScanWords
+pub mod Documents

@@ -1,6 +1,7 @@
 -- The lines of what an image holds.
-use Rattle.std.proofs.Common.{◌≡◌, ◌∙◌, ℕ, Option, List, [], ◌∷◌, ◌++◌, refl, sym, ap, subst, append-nil, append_assoc, codes, decimal, arith}
+use Rattle.std.proofs.Common.{◌≡◌, ◌∙◌, ◌+◌, ◌<◌, ℕ, Option, List, [], ◌∷◌, ◌++◌, length, get_or, take, refl, sym, ap, subst, append-nil, append_assoc, codes, decimal, arith}
 use Rattle.std.proofs.lemmas.Grind.{common_steps, flat_map-append}
+use Rattle.std.proofs.lemmas.List.{take_more}
 use Rattle.ee_text.specs.Field.{joined_fields, space}
 use Rattle.ee_text.specs.Line.{line_feed}
 use Rattle.ee_core.specs.State.{State, state_of}
@@ -70,8 +71,27 @@ records_more map (first ∷ records) one lines spelled origin h here = (
   h.3 ++ told_record one origin spelled,
   records_more map records one h.3 spelled origin h.4 here,
   ap (λ (l : List ℕ). l ++ told_record one origin spelled) h.5
-      ∙ append_assoc {a = told_record first h.0 h.1} {b = h.3} {c = told_record one origin spelled},
+      ∙ append_assoc (told_record first h.0 h.1) h.3 (told_record one origin spelled),
 )
+
+-- the lines of some records, and of one more
+pub lines_grow : (map : Map) (records : List RecordSetting) (n : ℕ) (one : RecordSetting)
+    (spelled : List ℕ) (origin : Origin) (old so_far new : List ℕ)
+    → one ≡ get_or records n one → n < length records
+    → ((lines : List ℕ) × AreRecordLines map (take n records) lines × (so_far ≡ old ++ lines))
+    → IsRecordRead map one.form origin spelled
+    → new ≡ so_far ++ told_record one origin spelled
+    → (lines : List ℕ) × AreRecordLines map (take (n + 1) records) lines × (new ≡ old ++ lines)
+lines_grow map records n one spelled origin old so_far new here within before read written =
+    let line : List ℕ = told_record one origin spelled in
+    let grown : take (n + 1) records ≡ take n records ++ one ∷ [] =
+    take_more records n one within ∙ ap (λ (r : RecordSetting). take n records ++ r ∷ []) (sym here)
+    in (
+      before.0 ++ line,
+      subst (λ (rs : List RecordSetting). AreRecordLines map rs (before.0 ++ line)) (sym grown)
+          (records_more map (take n records) one before.0 spelled origin before.1 read),
+      written ∙ ap (λ (l : List ℕ). l ++ line) before.2 ∙ append_assoc old before.0 line,
+    )
 
 -- the lines of what the opened store holds are those of the image
 pub is_list : (image lines : List ℕ) (store : Device) (whole : Schema) (named : Option (List ℕ))
