@@ -40,25 +40,47 @@ sixteen_parts x1 x2 x3 x4 x5 x6 x7 x8 y1 y2 y3 y4 y5 y6 y7 y8 more =
     ∙ ap (λ t. x1 ++ (x2 ++ (x3 ++ (x4 ++ (x5 ++ (x6 ++ (x7 ++ (x8 ++ t))))))))
     (eight_parts y1 y2 y3 y4 y5 y6 y7 y8 more)
 
-pub live_made : (usage : Usage) (torn doubts none slots parts words first behind second done : List ℕ)
-    → none ≡ [] → slots ≡ none ++ slots_members usage → parts ≡ slots ++ parts_members usage
-    → words ≡ parts ++ codes ",\"torn_words\":" → first ≡ words ++ array torn
-    → behind ≡ first ++ codes ",\"in_doubt\":" → second ≡ behind ++ array doubts
-    → done ≡ second ++ codes "}\n" → done ≡ live_document usage torn doubts
-live_made usage torn doubts none slots parts words first behind second done e0 e1 e2 e3 e4 e5 e6 e7 =
+-- four numbers, each behind its words
+pub four_numbers : (old a b c d x y z w one two three four : List ℕ) → one ≡ old ++ (a ++ x)
+    → two ≡ one ++ (b ++ y) → three ≡ two ++ (c ++ z) → four ≡ three ++ (d ++ w)
+    → four ≡ old ++ (a ++ (x ++ (b ++ (y ++ (c ++ (z ++ (d ++ w)))))))
+four_numbers old a b c d x y z w one two three four e1 e2 e3 e4 =
+    let last : List ℕ = d ++ w in
+    e4 ∙ ap (λ t. t ++ last) (e3 ∙ ap (λ t. t ++ (c ++ z)) (e2 ∙ ap (λ t. t ++ (b ++ y)) e1))
+    ∙ append_assoc ((old ++ (a ++ x)) ++ (b ++ y)) (c ++ z) last
+    ∙ append_assoc (old ++ (a ++ x)) (b ++ y) ((c ++ z) ++ last)
+    ∙ append_assoc old (a ++ x) ((b ++ y) ++ ((c ++ z) ++ last))
+    ∙ ap (λ t. old ++ t)
+    (append_assoc a x ((b ++ y) ++ ((c ++ z) ++ last))
+    ∙ ap (λ t. a ++ (x ++ t))
+    (append_assoc b y ((c ++ z) ++ last) ∙ ap (λ t. b ++ (y ++ t)) (append_assoc c z last)))
+
+pub live_made : (usage : Usage)
+    (torn doubts none opened slots parts words first behind second done : List ℕ)
+    → none ≡ [] → opened ≡ none ++ codes "{\"scan\":\"ok\"" → slots ≡ opened ++ slots_members usage
+    → parts ≡ slots ++ parts_members usage → words ≡ parts ++ codes ",\"torn_words\":"
+    → first ≡ words ++ array torn → behind ≡ first ++ codes ",\"in_doubt\":"
+    → second ≡ behind ++ array doubts → done ≡ second ++ codes "}\n"
+    → done ≡ live_document usage torn doubts
+live_made usage torn doubts none opened slots parts words first behind second done e0 e e1 e2 e3 e4 e5
+    e6 e7 =
+    let begun : List ℕ = codes "{\"scan\":\"ok\"" in
     let named : List ℕ = codes ",\"torn_words\":" in
     let doubted : List ℕ = codes ",\"in_doubt\":" in
+    let rest : List ℕ = named ++ (array torn ++ (doubted ++ (array doubts ++ codes "}\n"))) in
     e7 ∙ ap (λ t. t ++ codes "}\n") (e6 ∙ ap (λ t. t ++ array doubts) (e5
     ∙ ap (λ t. t ++ doubted) (e4 ∙ ap (λ t. t ++ array torn) (e3 ∙ ap (λ t. t ++ named) (e2
-    ∙ ap (λ t. t ++ parts_members usage) (e1 ∙ ap (λ t. t ++ slots_members usage) e0))))))
-    ∙ seven_pieces (slots_members usage) (parts_members usage) named (array torn) doubted
+    ∙ ap (λ t. t ++ parts_members usage) (e1 ∙ ap (λ t. t ++ slots_members usage) (e
+    ∙ ap (λ t. t ++ begun) e0)))))))
+    ∙ seven_pieces (begun ++ slots_members usage) (parts_members usage) named (array torn) doubted
     (array doubts) (codes "}\n")
-    ∙ sixteen_parts (codes "{\"scan\":\"ok\",\"set\":") (decimal usage.set)
+    ∙ append_assoc begun (slots_members usage) (parts_members usage ++ rest)
+    ∙ ap (λ t. begun ++ t)
+    (sixteen_parts (codes ",\"set\":") (decimal usage.set)
     (codes ",\"generation\":") (decimal usage.generation) (codes ",\"fill\":") (decimal usage.fill)
     (codes ",\"room\":") (decimal usage.room) (codes ",\"live\":") (decimal usage.live)
     (codes ",\"pending\":") (decimal usage.pending) (codes ",\"superseded\":")
-    (decimal usage.superseded) (codes ",\"torn\":") (decimal usage.torn)
-    (named ++ (array torn ++ (doubted ++ (array doubts ++ codes "}\n"))))
+    (decimal usage.superseded) (codes ",\"torn\":") (decimal usage.torn) rest)
 
 pub fault_made : (fault : ScanFault) (torn none front told words items done : List ℕ)
     → none ≡ [] → front ≡ none ++ codes "{\"scan\":\"" → told ≡ front ++ scan_words fault

@@ -56,7 +56,7 @@ pub record IsInspectedDocument (text document : List ℕ) : Type 0 where
 -- what stands before the torn words of a live set's document: its slots, and what they are used for
 abbrev pub slots_members : Usage → List ℕ
 slots_members usage =
-    codes "{\"scan\":\"ok\",\"set\":" ++ (decimal usage.set
+    codes ",\"set\":" ++ (decimal usage.set
     ++ (codes ",\"generation\":" ++ (decimal usage.generation
     ++ (codes ",\"fill\":" ++ (decimal usage.fill
     ++ (codes ",\"room\":" ++ decimal usage.room))))))

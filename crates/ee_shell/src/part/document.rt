@@ -79,6 +79,7 @@ fn document_by<A: Allocator + Copy>(
     ensures { IfOk result (λ text. text.items ≡ live_document usage torn.now doubts.now) }
 {
     let mut text = Vec::new(alloc);
+    text.extend_from_slice(b"{\"scan\":\"ok\"")?;
     push_slots(usage, &mut text)?;
     push_parts(usage, &mut text)?;
     text.extend_from_slice(b",\"torn_words\":")?;
@@ -93,7 +94,7 @@ fn document_by<A: Allocator + Copy>(
 fn push_slots<A: Allocator>(usage: Usage, out: &mut Vec<u8, A>) -> Result<(), AllocError>
     ensures { OnOk result (out.new.items ≡ out.old.items ++ slots_members usage) }
 {
-    push_number_behind(out, b"{\"scan\":\"ok\",\"set\":", usage.set)?;
+    push_number_behind(out, b",\"set\":", usage.set)?;
     push_number_behind(out, b",\"generation\":", usage.generation as u64)?;
     push_number_behind(out, b",\"fill\":", usage.fill as u64)?;
     push_number_behind(out, b",\"room\":", usage.room as u64)
