@@ -1,5 +1,5 @@
 -- What `--json inspect` tells: the findings of `inspect`, as a document.
-use Rattle.std.specs.Prelude.{◌≡◌, ℕ, List, [], ◌∷◌, ◌++◌, Option, Some, None, Result, Ok, Err, MatchResult, codes, decimal}
+use Rattle.std.specs.Prelude.{◌≡◌, ℕ, List, [], ◌∷◌, ◌++◌, Some, None, Result, Ok, Err, MatchResult, codes, decimal}
 use Rattle.ee_flash.specs.Device.{Device}
 use Rattle.ee_pages.specs.Layout.{IsLayout, IsScanFault}
 use Rattle.ee_pages.specs.declared.find.Layout.{Layout}

@@ -1,9 +1,8 @@
 //! The document of `--json inspect`.
-ghost use Rattle.std.specs.Prelude.{◌≡◌, ◌++◌, codes, Ok, Err, IfOk, IfErr, OnOk};
-ghost use Rattle.ee_pages.specs.Layout.{IsLayout, IsScanFault};
+ghost use Rattle.std.specs.Prelude.{◌≡◌, ◌++◌, Ok, Err, IfOk, IfErr, OnOk};
+ghost use Rattle.ee_pages.specs.Layout.{IsLayout};
 ghost use Rattle.ee_image_store.specs.FileFaults.{IsReadingFault};
 ghost use Rattle.ee_shell.specs.Part.Document.{AreFindingsIn, IsInspectedDocument, found_document, live_document, parts_members, slots_members};
-ghost use Rattle.ee_shell.specs.Part.Inspecting.{scan_words};
 ghost use Rattle.ee_interface.specs.Causes.{NamesEach};
 
 use super::inspecting::{
