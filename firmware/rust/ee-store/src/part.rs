@@ -142,11 +142,8 @@ pub fn holds_more<F: Flash>(flash: &F, cleared: Option<u64>) -> bool {
         Some(number) if number != MARK && shape_of_mark(number).is_none() => shape.words(),
         _ => 2,
     };
-    let mut holds = blank_to(flash, 0, from) != shape.words();
-    for page in 1..2 * shape.pages() {
-        holds = holds || !is_blank(flash, page);
-    }
-    holds
+    blank_to(flash, 0, from) != shape.words()
+        || (1..2 * shape.pages()).any(|page| !is_blank(flash, page))
 }
 
 impl<D: Driver> Flash for Part<D> {
