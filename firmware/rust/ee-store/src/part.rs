@@ -1,7 +1,6 @@
 //! The device that the proved sources work on: a driver, and whether it failed.
 
 use crate::driver::{Driver, Kind};
-use crate::ee_codec::MARK;
 use crate::ee_flash::{Cut, Flash, Shape, Word};
 use crate::ee_nor::coded::{shape_of_mark, Coded, EccNor, OtherShape};
 use crate::ee_nor::{LowPair, Nor, Pairs};
@@ -138,12 +137,13 @@ impl<D: Driver> Part<D> {
 /// of page 0 is given: a cut one leaves anything in that page, but by no likely chance the mark of a store of another kind there.
 pub fn holds_more<F: Flash>(flash: &F, cleared: Option<u64>) -> bool {
     let shape = flash.shape();
-    let from = match cleared {
-        Some(number) if number != MARK && shape_of_mark(number).is_none() => shape.words(),
-        _ => 2,
-    };
-    blank_to(flash, 0, from) != shape.words()
-        || (1..2 * shape.pages()).any(|page| !is_blank(flash, page))
+    let is_no_mark = |it: &u64| *it != crate::ee_codec::MARK && shape_of_mark(*it).is_none();
+    let from = cleared.filter(is_no_mark).map_or(2, |_| shape.words());
+    let mut holds = blank_to(flash, 0, from) != shape.words();
+    for page in 1..2 * shape.pages() {
+        holds = holds || !is_blank(flash, page);
+    }
+    holds
 }
 
 impl<D: Driver> Flash for Part<D> {
